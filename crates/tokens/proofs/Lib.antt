@@ -1,0 +1,19 @@
+-- Laws of the definitions, for the layers above and for the proofs of this one.
+pub mod Joins
+pub mod Cuts
+pub mod Shapes
+pub mod Closers
+pub mod Leading
+pub mod KeyLaws
+pub mod NumberLaws
+pub mod TableLaws
+pub mod FloatLaws
+pub mod NumberExamples
+pub mod TextLaws
+pub mod PlaceLaws
+pub mod NameLaws
+pub mod SlotLaws
+pub mod LexLaws
+pub mod MarkLaws
+pub mod ScanLaws
+pub mod CursorLaws

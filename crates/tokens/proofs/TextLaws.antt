@@ -1,0 +1,62 @@
+-- Equal bytes, one byte at a time, and where a script ends.
+use mathlib.Core.Path.{_≡_, refl, sym, ap}
+use mathlib.Core.Bool.{Bool, true, false}
+use mathlib.Core.List.{List, [], _∷_}
+use Prim.Native.Nat.{ℕ, suc, _+_, _≤_, _<_}
+use native.Mathlib.Numerals.{add-one}
+use lib.Dec.{eqb}
+use lib.ListN.{length, getD, drop, drop-of-length-le}
+use lib.Seq.{drop-cons, length-take-le}
+use borrow.Author.Tests.{eq-eqb, ne-eqb, lt-ltb, le-ltb}
+use Rattle.tokens.specs.Limits.{mostBytes}
+use Rattle.tokens.specs.Text.{leading, other, same, script}
+use Rattle.tokens.specs.Lexing.{scriptEnd}
+use Rattle.tokens.specs.declared.text.ScriptEnd.the-variants.{At, TooLong}
+use Rattle.tokens.proofs.Shapes.{leading-le}
+
+-- ---- equal bytes
+
+pub same-unlike : (a b : List ℕ) → (length a ≡ length b → ⊥) → false ≡ same a b
+unfolding same
+same-unlike [] [] h = absurd (h refl)
+same-unlike [] (y ∷ b) h = refl
+same-unlike (x ∷ a) [] h = refl
+same-unlike (x ∷ a) (y ∷ b) h = go (eqb x y) refl (same-unlike a b (λ e. h (ap suc e)))
+  where
+    go : (t : Bool) → eqb x y ≡ t → false ≡ same a b → false ≡ same (x ∷ a) (y ∷ b)
+    go true e k = rw (same, e) k
+    go false e k = rw (same, e)
+
+same-cons : (x y : ℕ) (a b : List ℕ) → x ≡ y → same (x ∷ a) (y ∷ b) ≡ same a b
+unfolding same
+same-cons x y a b e = rw (same, eq-eqb x y e)
+
+same-other : (x y : ℕ) (a b : List ℕ) → (x ≡ y → ⊥) → same (x ∷ a) (y ∷ b) ≡ false
+unfolding same
+same-other x y a b e = rw (same, ne-eqb x y e)
+
+module _ (a b : List ℕ) (i : ℕ) where
+  pub same-on : i < length a → i < length b → getD a i 0 ≡ getD b i 0 → same (drop (i + 1) a) (drop (i + 1) b) ≡ same (drop i a) (drop i b)
+  same-on h k e = rw (add-one, drop-cons a i 0 h, drop-cons b i 0 k) (sym (same-cons _ _ _ _ e))
+
+  pub same-stop : i < length a → i < length b → (getD a i 0 ≡ getD b i 0 → ⊥) → false ≡ same (drop i a) (drop i b)
+  same-stop h k e = rw (drop-cons a i 0 h, drop-cons b i 0 k) (sym (same-other _ _ _ _ e))
+
+  pub same-over : length a ≤ i → length b ≤ i → true ≡ same (drop i a) (drop i b)
+  unfolding same
+  same-over h k = rw (drop-of-length-le a h, drop-of-length-le b k)
+
+-- ---- where a script ends
+
+module _ (s : List ℕ) where
+  script-length : length (script s) ≡ leading (other 0) s
+  unfolding script
+  script-length = length-take-le _ s (leading-le (other 0) s)
+
+  pub script-at : (n : ℕ) → n ≡ leading (other 0) s → n ≤ mostBytes → At n ≡ scriptEnd s
+  unfolding scriptEnd
+  script-at n e h = rw (script-length, ← e, le-ltb mostBytes n h)
+
+  pub script-long : mostBytes < leading (other 0) s → TooLong ≡ scriptEnd s
+  unfolding scriptEnd
+  script-long h = rw (script-length, lt-ltb mostBytes _ h)

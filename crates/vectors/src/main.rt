@@ -1,0 +1,53 @@
+// Replays stored cases: reads the files that its arguments name, runs what each line of them asks, and compares.
+// So far a `read` is judged by the token layer alone: a case whose answer is 1 to 7 must get that answer and its place, and
+// any other must not be refused there. The other calls, `amend` and `part`, are counted and not run.
+mod fields;
+mod judging;
+mod kinds;
+mod memory;
+mod replay;
+mod report;
+mod tally;
+
+use crate::replay::replay;
+use crate::report::say;
+use crate::report::say_tally;
+use crate::tally::Tallies;
+
+// More than the longest file has, so that a file that fills it was cut.
+const TEXT: usize = 524288;
+
+fn replay_file(path: &[u8], tally: &mut Tallies) {
+    let fd = os::open_read(path);
+    if fd < 0 {
+        say(path);
+        say(b": cannot be opened\n");
+        return;
+    }
+    let mut text = [0u8; TEXT];
+    let n = io::read_full(fd, &mut text);
+    libc::close(fd);
+    if n == TEXT {
+        say(path);
+        say(b": no room\n");
+        return;
+    }
+    replay(path, &text[..n], tally);
+}
+
+fn replay_argument(i: usize, tally: &mut Tallies) {
+    let mut path = io::buffer();
+    let n = os::arg(i, &mut path);
+    replay_file(&path[..n], tally);
+}
+
+fn main() {
+    let mut tally = [0usize; 64];
+    let count = os::arg_count();
+    let mut i: usize = 1;
+    while i < count {
+        replay_argument(i, &mut tally);
+        i += 1;
+    }
+    say_tally(&tally);
+}

@@ -1,0 +1,109 @@
+// What the program writes.
+use crate::fields::seek;
+use crate::judging::DIFFERS;
+use crate::judging::Verdict;
+use crate::kinds::AMEND;
+use crate::kinds::CASE;
+use crate::kinds::PART;
+use crate::kinds::READ;
+use crate::memory::NO_ROOM;
+use crate::tally::DIFFERENCES;
+use crate::tally::GROUNDS;
+use crate::tally::LINES;
+use crate::tally::REFUSED;
+use crate::tally::Tallies;
+use libc::STDOUT_FILENO;
+
+pub fn say(text: &[u8]) {
+    io::write_all(STDOUT_FILENO, text);
+}
+
+fn say_number(n: usize) {
+    io::print_decimal(STDOUT_FILENO, n as u64);
+}
+
+// The line of a text that a place is in, from that place on.
+fn say_line(s: &[u8], at: usize) {
+    if at <= s.len() {
+        let end = seek(s, at, s.len(), b'\n');
+        say(&s[at..end]);
+    }
+}
+
+// What a read gave that differs. `say_outcome` goes on with the file, the case and the line, which has the stored answer.
+pub fn say_verdict(v: Verdict) {
+    say(b"given ");
+    say_number(v.number);
+    say(b" ");
+    say_number(v.byte);
+    say(b" ");
+    say_number(v.line);
+    say(b" ");
+    say_number(v.column);
+    say(b" bytes ");
+    say_number(v.bytes);
+    say(b" tokens ");
+    say_number(v.tokens);
+    say(b" for ");
+}
+
+fn say_reason(outcome: usize) {
+    if outcome == DIFFERS {
+        say(b": expected: ");
+        return;
+    }
+    if outcome == NO_ROOM {
+        say(b": no room: ");
+        return;
+    }
+    say(b": not in the format: ");
+}
+
+// Tells of a line that differs or was not taken, so that nothing is passed over: the file, the case's text and the line.
+pub fn say_outcome(path: &[u8], s: &[u8], case: usize, at: usize, outcome: usize) {
+    say(path);
+    say(b": ");
+    say_line(s, case);
+    say_reason(outcome);
+    say_line(s, at);
+    say(b"\n");
+}
+
+fn say_ground(g: usize, ran: usize, differ: usize) {
+    if ran == 0 {
+        return;
+    }
+    say(b"ground ");
+    say_number(g);
+    say(b": ");
+    say_number(ran);
+    say(b" cases, ");
+    say_number(differ);
+    say(b" differ\n");
+}
+
+fn say_count(what: &[u8], n: usize) {
+    say(what);
+    say(b": ");
+    say_number(n);
+    say(b"\n");
+}
+
+fn say_grounds(tally: &Tallies) {
+    let mut g: usize = 0;
+    while g < GROUNDS {
+        say_ground(g, tally[g], tally[GROUNDS + g]);
+        g += 1;
+    }
+}
+
+// The counts of a whole run.
+pub fn say_tally(tally: &Tallies) {
+    say_grounds(tally);
+    say_count(b"cases", tally[LINES + CASE]);
+    say_count(b"reads", tally[LINES + READ]);
+    say_count(b"differences", tally[DIFFERENCES]);
+    say_count(b"amends, not run", tally[LINES + AMEND]);
+    say_count(b"parts, not run", tally[LINES + PART]);
+    say_count(b"lines not taken", tally[REFUSED]);
+}
