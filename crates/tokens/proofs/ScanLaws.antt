@@ -16,12 +16,12 @@ use Rattle.tokens.specs.Tokens.{Token, Lexeme, gap, piece, fault, word, 
 use Rattle.tokens.specs.Lexing.{byteAt, lexemeAt, gapWidth, final, markOf, markFrom, markAt, tokenOf, judgedBy, summary, stepAt}
 use Rattle.tokens.specs.Kinds.{kindBy}
 use Rattle.tokens.specs.declared.lexing.Mark.{Mark}
-use Rattle.tokens.specs.declared.lexing.Kind.{Kind}
-use Rattle.tokens.specs.declared.lexing.Kind.the-variants.{Value}
-use Rattle.tokens.specs.declared.lexing.Literal.the-variants.{Number}
-use Rattle.tokens.specs.declared.lexing.Found.the-variants as found
-use Rattle.tokens.specs.declared.lexing.Scanned.{Scanned}
-use Rattle.tokens.specs.declared.lexing.Scanned.the-variants as scanned
+use Rattle.tokens.specs.declared.kinds.Kind.{Kind}
+use Rattle.tokens.specs.declared.kinds.Kind.the-variants.{Value}
+use Rattle.tokens.specs.declared.kinds.Literal.the-variants.{Number}
+use Rattle.tokens.specs.declared.scanning.Found.the-variants as found
+use Rattle.tokens.specs.declared.scanning.Scanned.{Scanned}
+use Rattle.tokens.specs.declared.scanning.Scanned.the-variants as scanned
 use Rattle.tokens.proofs.Joins.{width, body}
 use Rattle.tokens.proofs.Cuts.{Wide, lexeme-wide}
 use Rattle.tokens.proofs.Shapes.{Sound, sound, lexeme-fits, scan-drop, entry-every}

@@ -6,10 +6,10 @@ use lib.Dec.{eqb}
 use Rattle.tokens.specs.Text.{if_then_else_}
 use Rattle.tokens.specs.Numbers.{valueOf}
 use Rattle.tokens.specs.Keys.{lookup}
-use Rattle.tokens.specs.declared.lexing.Literal.{Literal}
-use Rattle.tokens.specs.declared.lexing.Literal.the-variants.{Number, Truth}
-use Rattle.tokens.specs.declared.lexing.Kind.{Kind}
-use Rattle.tokens.specs.declared.lexing.Kind.the-variants.{Value, Identifier, String, Plus, PlusAssign, Minus, MinusAssign, Multiply, MultiplyAssign, Divide, DivideAssign, Power, Assign, Equal, NotEqual, Superior, Inferior, SuperiorOrEqual, InferiorOrEqual, OpenParen, CloseParen, OpenCurlyParen, CloseCurlyParen, OpenBracket, CloseBracket, Comma, Dot, Semicolon, And, Or, Not, If, Then, Else, End, For, Pays, On, In, Newline, Eof}
+use Rattle.tokens.specs.declared.kinds.Literal.{Literal}
+use Rattle.tokens.specs.declared.kinds.Literal.the-variants.{Number, Truth}
+use Rattle.tokens.specs.declared.kinds.Kind.{Kind}
+use Rattle.tokens.specs.declared.kinds.Kind.the-variants.{Value, Identifier, String, Plus, PlusAssign, Minus, MinusAssign, Multiply, MultiplyAssign, Divide, DivideAssign, Power, Assign, Equal, NotEqual, Superior, Inferior, SuperiorOrEqual, InferiorOrEqual, OpenParen, CloseParen, OpenCurlyParen, CloseCurlyParen, OpenBracket, CloseBracket, Comma, Dot, Semicolon, And, Or, Not, If, Then, Else, End, For, Pays, On, In, Newline, Eof}
 
 -- the number of a literal's kind
 abbrev pub literalCode : Literal → ℕ

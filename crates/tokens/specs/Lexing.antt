@@ -11,10 +11,10 @@ use Rattle.tokens.specs.Kinds.{kindOf}
 use Rattle.tokens.specs.declared.text.ScriptEnd.{ScriptEnd}
 use Rattle.tokens.specs.declared.text.ScriptEnd.the-variants.{At, TooLong}
 use Rattle.tokens.specs.declared.lexing.Mark.{Mark}
-use Rattle.tokens.specs.declared.lexing.Found.{Found}
-use Rattle.tokens.specs.declared.lexing.Found.the-variants as found
-use Rattle.tokens.specs.declared.lexing.Scanned.{Scanned}
-use Rattle.tokens.specs.declared.lexing.Scanned.the-variants as scanned
+use Rattle.tokens.specs.declared.scanning.Found.{Found}
+use Rattle.tokens.specs.declared.scanning.Found.the-variants as found
+use Rattle.tokens.specs.declared.scanning.Scanned.{Scanned}
+use Rattle.tokens.specs.declared.scanning.Scanned.the-variants as scanned
 use Rattle.tokens.specs.declared.cursor.Cursor.{Cursor}
 
 -- ---- the script's end

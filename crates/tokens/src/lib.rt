@@ -3,8 +3,11 @@
 pub mod codes;
 pub mod cursor;
 pub mod dates;
+pub mod kinds;
 pub mod lexing;
 pub mod names;
 pub mod numbers;
 pub mod places;
+pub mod scanning;
 pub mod text;
+pub mod words;

@@ -3,8 +3,8 @@ use Rattle.tokens.proofs.KeyLaws.{lookup-rest}
 use Rattle.tokens.specs.Text.{bytes}
 use Rattle.tokens.specs.Tokens.{pairs}
 use Rattle.tokens.specs.Keys.{pack, lookup, keyed, pairBy}
-use Rattle.tokens.proofs.lexing.pair_sign.Statement.{statement}
-use Rattle.tokens.proofs.lexing.pair_sign.Tie as tie
+use Rattle.tokens.proofs.words.pair_sign.Statement.{statement}
+use Rattle.tokens.proofs.words.pair_sign.Tie as tie
 
 returns : tie.Need-returns
 unfolding pairBy lookup keyed pack bytes

@@ -2,8 +2,8 @@
 use Rattle.tokens.proofs.KeyLaws.{lookup-rest}
 use Rattle.tokens.specs.Keys.{lookup}
 use Rattle.tokens.specs.Kinds.{kinds, kindBy}
-use Rattle.tokens.proofs.lexing.kind_of.Statement.{statement}
-use Rattle.tokens.proofs.lexing.kind_of.Tie as tie
+use Rattle.tokens.proofs.kinds.kind_of.Statement.{statement}
+use Rattle.tokens.proofs.kinds.kind_of.Tie as tie
 
 returns : tie.Need-returns
 unfolding kindBy lookup

@@ -1,7 +1,7 @@
 -- The test of the code is that of the definition.
 use borrow.Author.Tests.{lt-ltb, le-ltb}
-use Rattle.tokens.proofs.lexing.judged.Statement.{statement}
-use Rattle.tokens.proofs.lexing.judged.Tie as tie
+use Rattle.tokens.proofs.scanning.judged.Statement.{statement}
+use Rattle.tokens.proofs.scanning.judged.Tie as tie
 
 returns : tie.Need-returns
 returns c = simp (lt-ltb _ _ (c .if1 .taken))

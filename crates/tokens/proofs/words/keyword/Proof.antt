@@ -2,8 +2,8 @@
 use Rattle.tokens.proofs.KeyLaws.{keyword-rest}
 use Rattle.tokens.specs.Text.{bytes}
 use Rattle.tokens.specs.Keys.{pack, lookup, keyed, keywordBy}
-use Rattle.tokens.proofs.lexing.keyword.Statement.{statement}
-use Rattle.tokens.proofs.lexing.keyword.Tie as tie
+use Rattle.tokens.proofs.words.keyword.Statement.{statement}
+use Rattle.tokens.proofs.words.keyword.Tie as tie
 
 returns : tie.Need-returns
 unfolding keywordBy lookup keyed pack bytes

@@ -7,8 +7,8 @@ use lib.ListN.{length, getD, drop}
 use Rattle.tokens.specs.Keys.{pack, keyOf}
 use Rattle.tokens.proofs.KeyLaws.{key-room, key-turn, key-none}
 use borrow.Author.Needs.{needs}
-use Rattle.tokens.proofs.lexing.key_of.Statement.{statement}
-use Rattle.tokens.proofs.lexing.key_of.Tie as tie
+use Rattle.tokens.proofs.words.key_of.Statement.{statement}
+use Rattle.tokens.proofs.words.key_of.Tie as tie
 
 abbrev Inv-loop : tie.InvT-loop
 Inv-loop w k₀ i₀ k i = (i ≤ length w) × (k ≡ pack (drop i w)) × (k < 2 ^ 50)

@@ -3,8 +3,8 @@ use mathlib.Core.Path.{sym, _∙_}
 use native.Mathlib.Omega.{arith}
 use Rattle.tokens.proofs.ScanLaws.{step-fault, step-number, step-other, number-within}
 use borrow.Author.Needs.{needs}
-use Rattle.tokens.proofs.lexing.step.Statement.{statement}
-use Rattle.tokens.proofs.lexing.step.Tie as tie
+use Rattle.tokens.proofs.scanning.step.Statement.{statement}
+use Rattle.tokens.proofs.scanning.step.Tie as tie
 
 lex-requires : tie.Need-lex-requires
 lex-requires c κs = search needs

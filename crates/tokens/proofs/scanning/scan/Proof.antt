@@ -7,8 +7,8 @@ use Rattle.tokens.specs.Tokens.{scan}
 use Rattle.tokens.specs.Lexing.{summary, scanOf}
 use Rattle.tokens.proofs.ScanLaws.{summary-end, summary-fault, summary-token, summary-line, mark-progress}
 use borrow.Author.Needs.{needs}
-use Rattle.tokens.proofs.lexing.scan.Statement.{statement}
-use Rattle.tokens.proofs.lexing.scan.Tie as tie
+use Rattle.tokens.proofs.scanning.scan.Statement.{statement}
+use Rattle.tokens.proofs.scanning.scan.Tie as tie
 
 abbrev Inv-loop : tie.InvT-loop
 Inv-loop s at₀ count₀ last₀ at count last = (at ≤ length s) × (count ≤ at) × (summary count last (length s) (scan 0 at (drop at s)) ≡ scanOf s)

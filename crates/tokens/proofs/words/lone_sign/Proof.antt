@@ -3,8 +3,8 @@ use Rattle.tokens.proofs.KeyLaws.{lookup-rest}
 use Rattle.tokens.specs.Text.{bytes}
 use Rattle.tokens.specs.Tokens.{lones}
 use Rattle.tokens.specs.Keys.{pack, lookup, keyed, firstByte, loneBy}
-use Rattle.tokens.proofs.lexing.lone_sign.Statement.{statement}
-use Rattle.tokens.proofs.lexing.lone_sign.Tie as tie
+use Rattle.tokens.proofs.words.lone_sign.Statement.{statement}
+use Rattle.tokens.proofs.words.lone_sign.Tie as tie
 
 returns : tie.Need-returns
 unfolding loneBy lookup keyed pack bytes
