@@ -1,9 +1,9 @@
 // The judgement of the token layer on a script and its lists, and whether an answer is as it says.
 use crate::memory::front;
-use tokens::scanning::Scanned;
-use tokens::scanning::scan;
 use tokens::names::is_well_formed;
 use tokens::places::place_of;
+use tokens::scanning::Scanned;
+use tokens::scanning::scan;
 use tokens::text::ScriptEnd;
 use tokens::text::script_end;
 

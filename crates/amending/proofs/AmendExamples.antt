@@ -1,0 +1,133 @@
+-- Amending, computed: a run of calls, the grounds, what 18 is for, and an instance of the law.
+use mathlib.Core.Path.{_≡_, refl}
+use mathlib.Core.List.{List, [], _∷_, _++_}
+use Prim.Native.Nat.{ℕ, zero, suc}
+use Prim.Native.String.{String}
+use lib.ListN.{length, take, drop}
+use lib.Dec.{T}
+use Rattle.tokens.specs.Text.{bytes}
+use Rattle.tokens.specs.Names.{Lists}
+use Rattle.reading.specs.Trees.{node, fields, nil}
+use Rattle.reading.specs.Script.{Entry, Outcome, accepted, refused, readScript}
+use Rattle.reading.specs.Words.{Row}
+use Rattle.reading.specs.Computing.{computing}
+use Rattle.amending.specs.Amend.{endsWell, replaced, amendedList}
+use Rattle.amending.specs.Amending.{State, Rooms, Answer, done, refusal, pick, over, fitting, put, amendAt, amend, after}
+use Rattle.amending.specs.Lent.{Lent, overRows, ascending, inOrder, swapped, Handed, handed, unchanged, fittingLent, putLent, lentAt, amendLent}
+
+usd : Lists
+usd = record { reserved = []; currencies = bytes "USD\nEUR\n"; counters = [] }
+
+rooms : Rooms
+rooms = record { bytes = 40; tokens = 20; records = 30; statements = 4 }
+
+list : Outcome → List Entry
+list (accepted es) = es
+list (refused n p) = []
+
+state : String → State
+state s = record { script = bytes s; entries = list (readScript usd (bytes s)) }
+
+number : Answer → ℕ
+number (done st) = 0
+number (refusal f p) = f
+
+-- the state after some calls is that of the script that they leave, read anew
+calls : after usd rooms (state "a = 1;\nb = 2; pays 3;") (
+    (1, bytes "x = 4;\ny = 5;\n")
+    ∷ (4, bytes "a;")
+    ∷ (0, bytes "pays 1")
+    ∷ (2, [])
+    ∷ (0, bytes "if a { } # ")
+    ∷ (0, bytes "a = 1; a = 1; a = 1;")
+    ∷ (2, bytes "pays 4 in \"EUR\";")
+    ∷ []
+    ) ≡ state "a = 1;\nx = 4;\n\n pays 4 in \"EUR\";"
+unfolding computing usd rooms list state amend amendAt put fitting over pick endsWell
+calls = refl
+
+-- the numbers that calls can return
+grounds : (number (amend usd rooms (state "a = 1;") 1 (bytes "a;")) ≡ 17) × (number (amend usd rooms (state "a = 1;") 0 (0 ∷ [])) ≡ 19) × (number (amend usd rooms (state "a = 1;") 0 (bytes "a")) ≡ 8)
+    × (number (amend usd rooms (state "a = 1;") 0 (bytes "pays 1")) ≡ 18) × (number (amend usd rooms (state "a = 1;") 0 (bytes "a; ")) ≡ 18)
+    × (number (amend usd rooms (state "a = 1;") 0 (bytes "a;a;a;a;a;")) ≡ 16) × (number (amend usd rooms (state "a = 1;") 0 (bytes "")) ≡ 0)
+unfolding computing usd rooms list state number amend amendAt put fitting over pick endsWell
+grounds = (refl, refl, refl, refl, refl, refl, refl)
+
+-- without 18 a comment would swallow what stands behind, and pays would read on
+first-of : String → Entry
+first-of s = go (list (readScript usd (bytes s)))
+  where
+    go : List Entry → Entry
+    go [] = record { start = 0; end = 0; tree = node 0 [] (fields 0 0 0 0) nil; tokens = 0 }
+    go (e ∷ es) = e
+
+needed : (length (list (readScript usd (bytes "x = 1; # c"))) ≡ 1) × (length (list (readScript usd (bytes "a = 1; b = 2;"))) ≡ 2)
+    × (length (list (readScript usd (replaced (bytes "a = 1; b = 2;") (first-of "a = 1; b = 2;") (bytes "x = 1; # c")))) ≡ 1)
+    × (length (list (readScript usd (bytes "pays 1"))) ≡ 1) × (readScript usd (replaced (bytes "a = 1; b = 2;") (first-of "a = 1; b = 2;") (bytes "pays 1")) ≡ refused 8 9)
+unfolding computing usd list first-of
+needed = (refl, refl, refl, refl, refl)
+
+-- ---- how the halves of 18 join, and that it comes before 16
+
+-- the number that a call on the first statement of `a = 1;` returns
+answer : String → ℕ
+answer n = number (amend usd rooms (state "a = 1;") 0 (bytes n))
+
+halves : (answer " " ≡ 18) × (answer "\n" ≡ 0) × (answer "# c\n" ≡ 0) × (answer "# c" ≡ 18) × (answer "x=1; " ≡ 18) × (answer "x=1;\n " ≡ 18) × (answer "x=1;\n" ≡ 0)
+    × (answer "pays 1\n" ≡ 18) × (answer "pays 1 on \"2020-01-01\"" ≡ 18) × (answer "a;a;a;a;a; " ≡ 18)
+unfolding computing usd rooms list state number answer amend amendAt put fitting over pick endsWell
+halves = (refl, refl, refl, refl, refl, refl, refl, refl, refl, refl)
+
+-- ---- lent words: 20 is weaker than to be left by a reading
+
+row : ℕ → ℕ → ℕ → ℕ → Row
+row s e r t = record { start = s; end = e; records = r; tokens = t }
+
+-- the script `x;` and the words of a record, with any directory and count of tokens
+lent : List Row → List ℕ → ℕ → Lent
+lent rs ws t = record { script = bytes "x;"; rows = rs; words = ws; tokens = t }
+
+one : List ℕ
+one = 1 ∷ 1 ∷ 0 ∷ 0 ∷ 1 ∷ 0 ∷ 0 ∷ []
+
+-- the number of a call on the first statement, and the bytes that it leaves
+handedOf : Lent → Handed → ℕ × List ℕ
+handedOf L (handed L′) = (0, L′ .script)
+handedOf L (unchanged f p) = (f, L .script)
+
+call : Lent → ℕ × List ℕ
+call L = handedOf L (amendLent usd rooms L 0 (bytes "y;"))
+
+-- an entry that is too short is in order, and what stands behind it stays; an empty one, one over another, one past the script, one without
+-- a token or a record, and sums that are not the counts are not; to have no entries is in order, and any number is then 17
+orders : (call (lent (row 0 2 1 2 ∷ []) one 2) ≡ (0, bytes "y;")) × (call (lent (row 0 1 1 2 ∷ []) one 2) ≡ (0, bytes "y;;"))
+    × (call (lent (row 0 1 1 1 ∷ row 1 2 1 1 ∷ []) (one ++ one) 2) ≡ (0, bytes "y;;"))
+    × (call (lent (row 1 1 1 2 ∷ []) one 2) ≡ (20, bytes "x;")) × (call (lent (row 0 2 1 1 ∷ row 1 2 1 1 ∷ []) (one ++ one) 2) ≡ (20, bytes "x;"))
+    × (call (lent (row 0 3 1 2 ∷ []) one 2) ≡ (20, bytes "x;")) × (call (lent (row 0 1 1 2 ∷ row 1 2 1 0 ∷ []) (one ++ one) 2) ≡ (20, bytes "x;"))
+    × (call (lent (row 0 1 2 1 ∷ row 1 2 0 1 ∷ []) (one ++ one) 2) ≡ (20, bytes "x;")) × (call (lent (row 0 2 1 2 ∷ []) one 3) ≡ (20, bytes "x;"))
+    × (call (lent (row 0 2 1 2 ∷ []) [] 2) ≡ (20, bytes "x;")) × (call (lent [] one 0) ≡ (20, bytes "x;")) × (call (lent [] [] 0) ≡ (17, bytes "x;"))
+unfolding computing usd rooms row lent one handedOf call amendLent lentAt putLent fittingLent swapped inOrder ascending overRows pick endsWell
+orders = (refl, refl, refl, refl, refl, refl, refl, refl, refl, refl, refl, refl)
+
+-- ---- an instance of the law
+
+script : List ℕ
+script = bytes "x = 1; pays 2 on \"2024-02-29\"\n y = 2; # c\nif a { z = 3; }"
+
+new : List ℕ
+new = bytes "# n\na = 4;\nif b { } \n"
+
+at : List Entry → ℕ → Entry
+at [] n = record { start = 0; end = 0; tree = node 0 [] (fields 0 0 0 0) nil; tokens = 0 }
+at (e ∷ es) zero = e
+at (e ∷ es) (suc n) = at es n
+
+-- the third statement, y = 2;, is replaced
+instance : readScript usd (replaced script (at (list (readScript usd script)) 2) new)
+    ≡ accepted (amendedList (take 2 (list (readScript usd script))) (at (list (readScript usd script)) 2) (drop 3 (list (readScript usd script))) (length new) (list (readScript usd new)))
+unfolding computing usd script new at list
+instance = refl
+
+well : T (endsWell new)
+unfolding computing endsWell new
+well = tt

@@ -1,0 +1,4 @@
+-- What the paper's section "Amending" means. Laws of these definitions stand in proofs/.
+pub mod Amend
+pub mod Amending
+pub mod Lent

@@ -1,0 +1,258 @@
+-- A statement with another behind it ends in `;`, in `}` or in a string.
+use mathlib.Core.Path.{_≡_, refl, sym, ap, _∙_}
+use mathlib.Core.Bool.{Bool, true, false, _||_, not, true≢false}
+use mathlib.Core.List.{List, [], _++_, append-assoc, append-nil}
+use mathlib.Core.Option.{Option, none, some}
+use Prim.Native.Nat.{ℕ, zero, suc}
+use Prim.Native.String.{String}
+use native.Mathlib.Omega.{arith}
+use lib.Dec.{eqb}
+use Rattle.tokens.specs.Text.{if_then_else_}
+use Rattle.tokens.specs.Tokens.{Token, code}
+use Rattle.reading.specs.Trees.{Tree}
+use Rattle.reading.specs.Readers.{Out, ok, refused, Reader, bind, _>>=_, _>>_, first, is, give, failAt, peek, the, lastOf, closes}
+use Rattle.reading.specs.Grammar as G
+use Rattle.reading.specs.Grammar.{deeper, optional, dateOf, aDate, Words, Inner, deep, nextKind}
+use Rattle.reading.proofs.Laws.{Near, Reads, Law, loop-law}
+use Rattle.reading.proofs.GrammarLaws.{Moves, InnerLaw, expression-law, blockTurn-law, named-law, payments-law, primary-law, target-law}
+use Rattle.reading.proofs.StatementLaws.{stops, payments-stop, near-tail, statement-tail}
+use Rattle.reading.proofs.EndingLaws.{Ends, Some, last-append, EachFirm, shallow, inside, primary-firm, bind-ends, if-ends, ask-ends, failAt-ends, the-some, the-last, kind-of, read-some}
+use Rattle.reading.proofs.ClosingLaws.{EachInnerFirm, flat, under}
+
+-- not `;`, `}` or a string
+abbrev pub unsealed : Token → Bool
+unsealed t = not (closes t || is "string" t)
+
+-- ends in one of the three
+abbrev pub Sealed : List Token → Type 0
+Sealed x = (d : Token) → unsealed (lastOf d x) ≡ false
+
+-- ends so, if what stands before does
+abbrev pub Keeps : List Token → Type 0
+Keeps x = (d : Token) → unsealed d ≡ false → unsealed (lastOf d x) ≡ false
+
+-- nothing, or ends so
+pub data Still (x : List Token) : Type 0 where
+  idle : x ≡ [] → Still x
+  ended : Sealed x → Still x
+
+sealed-after : (x y : List Token) → Sealed y → Sealed (x ++ y)
+sealed-after x y q d = ap unsealed (last-append d x y) ∙ q (lastOf d x)
+
+still-still : (x y : List Token) → Still x → Still y → Still (x ++ y)
+still-still x y p (ended q) = ended (sealed-after x y q)
+still-still x y (idle p) (idle q) = idle ((λ i. p i ++ q i))
+still-still x y (ended p) (idle q) = ended (λ d. ap (λ l. unsealed (lastOf d (x ++ l))) q ∙ ap (λ l. unsealed (lastOf d l)) (append-nil x) ∙ p d)
+
+module _ {A B : Type 0} {m : Reader A} {f : A → Reader B} where
+  some-sealed : Ends Some m → ((a : A) → Ends Sealed (f a)) → Ends Sealed (m >>= f)
+  some-sealed = bind-ends Some Sealed Sealed (λ x y p q. sealed-after x y q)
+
+  sealed-keeps : Ends Sealed m → ((a : A) → Ends Keeps (f a)) → Ends Sealed (m >>= f)
+  sealed-keeps = bind-ends Sealed Keeps Sealed (λ x y p q d. ap unsealed (last-append d x y) ∙ q (lastOf d x) (p d))
+
+  still-then : Ends Still m → ((a : A) → Ends Still (f a)) → Ends Still (m >>= f)
+  still-then = bind-ends Still Still Still still-still
+
+module _ {A : Type 0} {m : Reader A} where
+  law-some : (c : A → ℕ) → Law Near c m → Ends Some m
+  law-some c h ts a r e = let M : Reads Near (c a) m ts a r = h ts a r e in (M .used, M .split, tt)
+
+  sealed-is-keeps : Ends Sealed m → Ends Keeps m
+  sealed-is-keeps h ts a r e = let M : (used : List Token) × (ts ≡ used ++ r) × Sealed used = h ts a r e in (M .0, M .1, λ d n. M .2 d)
+
+  sealed-is-still : Ends Sealed m → Ends Still m
+  sealed-is-still h ts a r e = let M : (used : List Token) × (ts ≡ used ++ r) × Sealed used = h ts a r e in (M .0, M .1, ended (M .2))
+
+module _ {A : Type 0} where
+  keeps-give : (a : A) → Ends Keeps (give a)
+  unfolding give lastOf
+  keeps-give a ts b r e = let q : ts ≡ r = cc in ([], q, λ d x. x)
+
+  still-give : (a : A) → Ends Still (give a)
+  unfolding give
+  still-give a ts b r e = let q : ts ≡ r = cc in ([], q, idle refl)
+
+the-sealed : (s : String) → (not (eqb (code ";") (code s) || eqb (code "}") (code s) || eqb (code "string") (code s)) ≡ false) → (not (eqb (code "Newline") (code s)) ≡ true) → Ends Sealed (the s)
+the-sealed s h g =
+    the-last unsealed s (λ t e. kind-of s t e (λ (k : ℕ). not (eqb (code ";") k || eqb (code "}") k || eqb (code "string") k) ≡ false) h)
+    (λ t e. kind-of s t e (λ (k : ℕ). not (eqb (code "Newline") k) ≡ true) g)
+
+semicolon-sealed : Ends Sealed (the ";")
+unfolding code
+semicolon-sealed = the-sealed ";" refl refl
+
+brace-sealed : Ends Sealed (the "}")
+unfolding code
+brace-sealed = the-sealed "}" refl refl
+
+string-sealed : Ends Sealed (the "string")
+unfolding code
+string-sealed = the-sealed "string" refl refl
+
+-- ---- statements but pays
+
+ended-sealed : (p : Reader Tree) → Moves p → Ends Sealed (G.ended p)
+unfolding G.ended _>>_
+ended-sealed p h = some-sealed (law-some (λ a. 1) (expression-law p h)) λ e. sealed-keeps semicolon-sealed λ t. keeps-give e
+
+block-sealed : (s : Reader Tree) → Moves s → Ends Sealed (G.block s)
+unfolding G.block _>>_
+block-sealed s h =
+    some-sealed (the-some "{") λ t. some-sealed (law-some (λ a. 0) (loop-law (blockTurn-law s h) _)) λ ss. sealed-keeps brace-sealed λ u. keeps-give ss
+
+ifOver-sealed : (i : Inner) → InnerLaw i → Ends Sealed (G.ifOver i)
+unfolding G.ifOver _>>_
+ifOver-sealed i h =
+    some-sealed read-some λ t. some-sealed (law-some (λ a. 1) (expression-law (i .primary) (h .primary))) λ e.
+    sealed-keeps (block-sealed (i .statement) (h .statement)) λ ss.
+    ask-ends (is "else") (sealed-is-keeps (some-sealed read-some λ u. sealed-keeps (block-sealed (i .statement) (h .statement)) λ us. keeps-give _)) (keeps-give _)
+
+-- ---- pays: it stops where no statement begins, or has read a string
+
+-- what was read, and that it ends so if pays does not stop at what is left
+abbrev pub Seals : {A : Type 0} → Reader A → Type 0
+Seals {A} m = (ts : List Token) (a : A) (r : List Token) → m ts ≡ ok a r → (used : List Token) × (ts ≡ used ++ r) × (stops (first r) ≡ false → Sealed used)
+
+module _ {A : Type 0} where
+  seals : {m : Reader A} → Ends Sealed m → Seals m
+  seals h ts a r e = let M : (used : List Token) × (ts ≡ used ++ r) × Sealed used = h ts a r e in (M .0, M .1, λ q. M .2)
+
+  failAt-seals : (t : Token) (n : ℕ) → Seals {A = A} (failAt t n)
+  failAt-seals t n = seals (failAt-ends t n)
+
+  if-seals : (b : Bool) {m n : Reader A} → Seals m → Seals n → Seals (if b then m else n)
+  if-seals true hm hn = hm
+  if-seals false hm hn = hn
+
+module _ {B : Type 0} {f : Token → Reader B} where
+  peek-seals : ((t : Token) → Seals (f t)) → Seals (peek >>= f)
+  unfolding peek _>>=_
+  peek-seals h ts b r e = h (first ts) ts b r e
+
+module _ {A B : Type 0} {m : Reader A} {f : A → Reader B} where
+  some-seals : Ends Some m → ((a : A) → Seals (f a)) → Seals (m >>= f)
+  unfolding _>>=_
+  some-seals hm hf ts b r e = go (m ts) refl e
+    where
+      go : (o : Out A) → m ts ≡ o → bind f o ≡ ok b r → (used : List Token) × (ts ≡ used ++ r) × (stops (first r) ≡ false → Sealed used)
+      go (ok a s) q w =
+          let M : (used : List Token) × (ts ≡ used ++ s) × Some used = hm ts a s q in
+          let F : (used : List Token) × (s ≡ used ++ r) × (stops (first r) ≡ false → Sealed used) = hf a s b r w in
+          (M .0 ++ F .0, M .1 ∙ ap (λ l. M .0 ++ l) (F .1) ∙ sym (append-assoc (M .0) (F .0) r), λ n. sealed-after (M .0) (F .0) (F .2 n))
+      go (refused x p) q w = absurd (let z : _≡_ {A = ℕ} 0 1 = cc in omega arith)
+
+  -- a part that leaves what pays stops at, then one that reads nothing or ends so
+  stop-seals : Ends Some m → ((ts : List Token) (a : A) (r : List Token) → m ts ≡ ok a r → stops (first r) ≡ true) → ((a : A) → Ends Still (f a)) → Seals (m >>= f)
+  unfolding _>>=_
+  stop-seals hm st hf ts b r e = go (m ts) refl e
+    where
+      still : (x y s : List Token) → Still y → s ≡ y ++ r → stops (first s) ≡ true → stops (first r) ≡ false → Sealed (x ++ y)
+      still x y s (idle z) q t n = absurd (true≢false (sym t ∙ ap (λ l. stops (first l)) (q ∙ ap (λ l. l ++ r) z) ∙ n))
+      still x y s (ended z) q t n = sealed-after x y z
+
+      go : (o : Out A) → m ts ≡ o → bind f o ≡ ok b r → (used : List Token) × (ts ≡ used ++ r) × (stops (first r) ≡ false → Sealed used)
+      go (ok a s) q w =
+          let M : (used : List Token) × (ts ≡ used ++ s) × Some used = hm ts a s q in
+          let F : (used : List Token) × (s ≡ used ++ r) × Still used = hf a s b r w in
+          (M .0 ++ F .0, M .1 ∙ ap (λ l. M .0 ++ l) (F .1) ∙ sym (append-assoc (M .0) (F .0) r), still (M .0) (F .0) s (F .2) (F .1) (st ts a s q))
+      go (refused x p) q w = absurd (let z : _≡_ {A = ℕ} 0 1 = cc in omega arith)
+
+module _ {A B : Type 0} {m : Reader A} {f : A → Reader B} where
+  -- then a part that reads nothing, or ends so
+  seals-still : Seals m → ((a : A) → Ends Still (f a)) → Seals (m >>= f)
+  unfolding _>>=_
+  seals-still hm hf ts b r e = go (m ts) refl e
+    where
+      still : (x y s : List Token) → (stops (first s) ≡ false → Sealed x) → Still y → s ≡ y ++ r → stops (first r) ≡ false → Sealed (x ++ y)
+      still x y s h (idle z) q n =
+          let v : s ≡ r = q ∙ ap (λ l. l ++ r) z in
+          λ d. ap (λ l. unsealed (lastOf d (x ++ l))) z ∙ ap (λ l. unsealed (lastOf d l)) (append-nil x) ∙ h (ap (λ l. stops (first l)) v ∙ n) d
+      still x y s h (ended z) q n = sealed-after x y z
+
+      go : (o : Out A) → m ts ≡ o → bind f o ≡ ok b r → (used : List Token) × (ts ≡ used ++ r) × (stops (first r) ≡ false → Sealed used)
+      go (ok a s) q w =
+          let M : (used : List Token) × (ts ≡ used ++ s) × (stops (first s) ≡ false → Sealed used) = hm ts a s q in
+          let F : (used : List Token) × (s ≡ used ++ r) × Still used = hf a s b r w in
+          (M .0 ++ F .0, M .1 ∙ ap (λ l. M .0 ++ l) (F .1) ∙ sym (append-assoc (M .0) (F .0) r), still (M .0) (F .0) s (M .2) (F .2) (F .1))
+      go (refused x p) q w = absurd (let z : _≡_ {A = ℕ} 0 1 = cc in omega arith)
+
+module _ {A : Type 0} where
+  optional-still : (s : String) (a : A) (m : Reader A) → Ends Sealed m → Ends Still (optional s a m)
+  unfolding optional _>>_
+  optional-still s a m h = ask-ends (is s) (sealed-is-still (some-sealed (the-some s) λ t. h)) (still-give a)
+
+dateOf-keeps : (t : Token) → Ends Keeps (dateOf t)
+unfolding dateOf
+dateOf-keeps t = search (if-ends, failAt-ends, keeps-give)
+
+aDate-sealed : Ends Sealed aDate
+unfolding aDate
+aDate-sealed = sealed-keeps string-sealed dateOf-keeps
+
+module _ (W : Words) where
+  currencyOf-keeps : (t : Token) → Ends Keeps (G.currencyOf W t)
+  unfolding G.currencyOf
+  currencyOf-keeps t = search (if-ends, failAt-ends, keeps-give)
+
+  aCurrency-sealed : Ends Sealed (G.aCurrency W)
+  unfolding G.aCurrency
+  aCurrency-sealed = sealed-keeps string-sealed currencyOf-keeps
+
+  pays-seals : (o : Option (Reader Tree)) → EachFirm o → Seals (G.pays W o)
+  unfolding G.pays deeper _>>_
+  pays-seals none shallow = peek-seals λ t. failAt-seals t 15
+  pays-seals (some p) (inside h f) = peek-seals λ t.
+      some-seals (the-some "pays") λ u.
+      stop-seals (law-some (λ a. 0) (payments-law W p h)) (payments-stop W p h) λ es.
+      still-then (optional-still "on" 0 aDate aDate-sealed) λ d. still-then (optional-still "in" 0 (G.aCurrency W) aCurrency-sealed) λ c. still-give _
+
+  paid-seals : (o : Option (Reader Tree)) → EachFirm o → Seals (G.paid W o)
+  unfolding G.paid optional _>>_
+  paid-seals o g = seals-still (pays-seals o g) λ e. ask-ends (is ";") (sealed-is-still (sealed-keeps semicolon-sealed λ t. keeps-give e)) (still-give e)
+
+  -- ---- all statements
+
+  forOver-sealed : (i : Inner) → InnerLaw i → Ends Sealed (G.forOver W i)
+  unfolding G.forOver _>>_
+  forOver-sealed i h =
+      some-sealed read-some λ t. some-sealed (the-some "name") λ v. some-sealed (law-some (λ a. 0) (named-law W v)) λ x. some-sealed (the-some "in") λ u.
+      some-sealed (law-some (λ a. 1) (expression-law (i .primary) (h .primary))) λ e. sealed-keeps (block-sealed (i .statement) (h .statement)) λ ss. keeps-give _
+
+  assign-sealed : (p : Reader Tree) → Moves p → Ends Sealed (G.assign W p)
+  unfolding G.assign _>>_
+  assign-sealed p h = some-sealed (law-some (λ a. 1) (target-law W)) λ x. some-sealed read-some λ t. sealed-keeps (ended-sealed p h) λ e. keeps-give _
+
+  compound-sealed : (p : Reader Tree) → Moves p → Ends Sealed (G.compound W p)
+  unfolding G.compound
+  compound-sealed p h = some-sealed (law-some (λ a. 1) (target-law W)) λ x. some-sealed read-some λ t. sealed-keeps (ended-sealed p h) λ e. keeps-give _
+
+  assignPaid-seals : (o : Option (Reader Tree)) → EachFirm o → Seals (G.assignPaid W o)
+  unfolding G.assignPaid
+  assignPaid-seals o g = some-seals (law-some (λ a. 1) (target-law W)) λ x. seals-still (paid-seals o g) λ e. still-give _
+
+  nameFirst-seals : (p : Reader Tree) (o : Option (Reader Tree)) → Moves p → EachFirm o → (k : ℕ) → Seals (G.nameFirst W p o k)
+  unfolding G.nameFirst
+  nameFirst-seals p o h g k = search (if-seals, seals (assign-sealed p h), seals (compound-sealed p h), assignPaid-seals o g, seals (ended-sealed p h))
+
+  plain-seals : (p : Reader Tree) (o : Option Inner) → Moves p → EachInnerFirm o → Seals (G.plain W p o)
+  unfolding G.plain deeper
+  plain-seals p none h flat = peek-seals λ t. search (if-seals, failAt-seals, paid-seals none shallow, seals (ended-sealed p h))
+  plain-seals p (some i) h (under g f) = peek-seals λ t.
+      search (if-seals, seals (ifOver-sealed i g), seals (forOver-sealed i g), paid-seals (some (i .primary)) (inside (g .primary) f), seals (ended-sealed p h))
+
+  each-deep : (o : Option Inner) → EachInnerFirm o → EachFirm (deep o)
+  each-deep none flat = shallow
+  each-deep (some i) (under h f) = inside (h .primary) f
+
+  statementOver-seals : (p : Reader Tree) (o : Option Inner) → Moves p → EachInnerFirm o → Seals (G.statementOver W p o)
+  unfolding G.statementOver
+  statementOver-seals p o h g ts a r e = if-seals (is "name" (first ts)) (nameFirst-seals p (deep o) h (each-deep o g) (nextKind ts)) (plain-seals p o h g) ts a r e
+
+  -- a statement ends in `;`, `}` or a string, unless pays stops at what stands behind it
+  pub statement-seals : (d : ℕ) → Seals (G.statement W d)
+  unfolding G.statement
+  statement-seals zero = statementOver-seals (G.primary W zero) none (primary-law W zero) flat
+  statement-seals (suc d) =
+      statementOver-seals (G.primary W (suc d)) (some (record { statement = G.statement W d; primary = G.primary W d })) (primary-law W (suc d))
+      (under (record { statement = statement-tail W d near-tail; primary = primary-law W d }) (primary-firm W d))

@@ -1,0 +1,61 @@
+-- Records: what a statement is read as, a tree, and the words that the tree is written as.
+-- Kinds: 1 Variable, 2 Constant, 3 True, 4 False, 5 String, 6 List, 7 UnaryMinus, 8 Add, 9 Subtract, 10 Multiply, 11 Divide, 12 Pow, 13 Equal, 14 NotEqual, 15 Superior,
+-- 16 Inferior, 17 SuperiorOrEqual, 18 InferiorOrEqual, 19 And, 20 Or, 21 Ln, 22 Exp, 23 Min, 24 Max, 25 Cvg, 26 Fif, 27 Range, 28 Index, 29 Append, 30 Mean, 31 Std, 32 Spot,
+-- 33 equity spot, 34 Df, 35 RateIndex, 36 Pays, 37 Assign, 38 If, 39 ForEach.
+use mathlib.Core.List.{List, [], _∷_, _++_}
+use Prim.Native.Nat.{ℕ, suc, _+_}
+
+-- f1 to f4
+pub data Fields : Type 0 where
+  fields : ℕ → ℕ → ℕ → ℕ → Fields
+
+-- A node: its kind, the bytes of the string that it is (none but for kind 5), f1 to f4, and its direct parts
+mutual
+  pub data Tree : Type 0 where
+    node : ℕ → List ℕ → Fields → Trees → Tree
+
+  pub data Trees : Type 0 where
+    nil : Trees
+    _▹_ : Tree → Trees → Trees
+
+infixr 67 _▹_
+-- unused f are 0
+abbrev pub none : Fields
+none = fields 0 0 0 0
+
+-- one more part, at the end
+abbrev pub snoc : Trees → Tree → Trees
+snoc nil t = t ▹ nil
+snoc (u ▹ us) t = u ▹ snoc us t
+
+-- the parts of both, one after the other
+abbrev pub join : Trees → Trees → Trees
+join nil ts = ts
+join (u ▹ us) ts = u ▹ join us ts
+
+-- direct parts
+abbrev pub parts : Trees → ℕ
+parts nil = 0
+parts (t ▹ ts) = suc (parts ts)
+
+-- nodes in subtree
+unfoldable mutual
+  pub size : Tree → ℕ
+  size (node k s f ts) = suc (sizes ts)
+
+  pub sizes : Trees → ℕ
+  sizes nil = 0
+  sizes (t ▹ ts) = size t + sizes ts
+
+-- seven words: kind, nodes in subtree, direct parts, f1 to f4
+abbrev pub row : ℕ → ℕ → ℕ → Fields → List ℕ
+row k n m (fields a b c d) = k ∷ n ∷ m ∷ a ∷ b ∷ c ∷ d ∷ []
+
+-- children before parents, in script order
+unfoldable mutual
+  pub records : Tree → List ℕ
+  records (node k s f ts) = recordsOf ts ++ row k (suc (sizes ts)) (parts ts) f
+
+  pub recordsOf : Trees → List ℕ
+  recordsOf nil = []
+  recordsOf (t ▹ ts) = records t ++ recordsOf ts

@@ -1,0 +1,1 @@
+// Reading: tokens to records. The definition stands in specs/, its laws in proofs/.
