@@ -9,6 +9,9 @@ pub mod NumberLaws
 pub mod TableLaws
 pub mod FloatLaws
 pub mod NumberExamples
+pub mod TokenExamples
+pub mod DateExamples
+pub mod ListExamples
 pub mod TextLaws
 pub mod PlaceLaws
 pub mod NameLaws
