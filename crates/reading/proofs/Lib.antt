@@ -11,5 +11,15 @@ pub mod AmendLaws
 pub mod ReachLaws
 pub mod AmendBytes
 pub mod Endings
+pub mod TreeLaws
+pub mod SizeLaws
 pub mod WordLaws
 pub mod Examples
+pub mod HoldLaws
+pub mod RowLaws
+pub mod ChainLaws
+pub mod StepLaws
+pub mod SignLaws
+pub mod CallLaws
+pub mod AtomLaws
+pub mod CallingLaws

@@ -145,14 +145,22 @@ dateOf t = let d = date (content t) in if eqb d 0 then failAt t 11 else give d
 unfoldable pub aDate : Reader ℕ
 aDate = the "string" >>= dateOf
 
+-- the curve of a Df, or none
+abbrev pub curve : ℕ → Reader Tree
+curve d = optional "," (leaf 34 (fields d 0 0 0)) (do s ← the "string"; give (leaf 34 (fields d (suc (s .from)) (length (content s)) 0)))
+
 -- Df(date[,"curve"])
 unfoldable pub df : Reader Tree
 df = do
   the "("
   d ← aDate
-  e ← optional "," (leaf 34 (fields d 0 0 0)) (do s ← the "string"; give (leaf 34 (fields d (suc (s .from)) (length (content s)) 0)))
+  e ← curve d
   the ")"
   give e
+
+-- the strings of a RateIndex: its name and two dates
+abbrev pub rateOf : Token → Token → Token → Reader Tree
+rateOf s t u = do a ← dateOf t; b ← dateOf u; give (leaf 35 (fields (suc (s .from)) (length (content s)) a b))
 
 -- RateIndex("name",date,date), dates judged after `)`
 unfoldable pub rateIndex : Reader Tree
@@ -164,9 +172,7 @@ rateIndex = do
   the ","
   u ← the "string"
   the ")"
-  a ← dateOf t
-  b ← dateOf u
-  give (leaf 35 (fields (suc (s .from)) (length (content s)) a b))
+  rateOf s t u
 
 -- a String node
 abbrev pub isString : Tree → Bool
@@ -264,12 +270,14 @@ module _ (W : Words) where
   pair c = optional "," (leaf 32 (fields c 1 0 0)) (do k ← aCurrency; d ← optional "," 0 aDate; give (leaf 32 (fields c k d 0)))
 
   -- the first string decides
+  abbrev pub spotOf : Token → Reader Tree
+  spotOf s = let c = place (W .currencies) (content s) in if eqb c 0 then equity s else pair c
+
   unfoldable pub spot : Reader Tree
   spot = do
     the "("
     s ← the "string"
-    let c = place (W .currencies) (content s)
-    e ← if eqb c 0 then equity s else pair c
+    e ← spotOf s
     the ")"
     give e
 

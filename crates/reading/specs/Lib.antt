@@ -1,8 +1,13 @@
--- What the paper's words mean, from tokens on: one module for each of its sections. Laws of these definitions stand in proofs/.
+-- What the paper's words mean: trees and records, the grammar, the reading of a script; and what the code's readers answer.
 pub mod Sizes
 pub mod Trees
 pub mod Readers
 pub mod Grammar
 pub mod Script
 pub mod Words
+pub mod Atoms
+pub mod Rows
+pub mod Meets
+pub mod Calls
+pub mod Turns
 pub mod Computing

@@ -1,1 +1,7 @@
-// Reading: tokens to records. The definition stands in specs/, its laws in proofs/.
+// Reading: tokens as trees, trees as records.
+mod answers;
+mod atoms;
+mod calling;
+mod calls;
+mod records;
+mod signs;

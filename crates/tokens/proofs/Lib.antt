@@ -20,3 +20,4 @@ pub mod LexLaws
 pub mod MarkLaws
 pub mod ScanLaws
 pub mod CursorLaws
+pub mod KindLaws

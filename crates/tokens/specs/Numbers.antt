@@ -36,7 +36,7 @@ quotient n k = div binary64 (ofInt binary64 (pos n)) (ofInt binary64 (pos (10 ^ 
 unfoldable pub value : List ℕ → Float
 value bs = quotient (digits 0 bs) (decimals false bs)
 
--- the value of any bytes: 0 where they are no literal that is taken
+-- the value of any bytes: that of the rule where they have at most one dot and are not too long, and else 0
 unfoldable pub valueOf : List ℕ → Float
 valueOf bs = if eqb (numberFault bs) 0 then value bs else ofInt binary64 (pos 0)
 

@@ -1,4 +1,5 @@
-// The number of each kind of token. Where a token makes a record, it is the record's kind; `+=` makes the record of `+`: 20 more.
+// The number of each kind of token. Where a token alone makes a record, or joins two, it is the record's kind; `+=`, `-=`,
+// `*=` and `/=` are 20 more than the sign that they put to use. No other number says anything of records.
 
 pub const EOF: u8 = 0;
 

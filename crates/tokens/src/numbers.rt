@@ -136,7 +136,7 @@ fn ten_to(n: usize) -> u64
     TENS[n]
 }
 
-// The value of a literal, by one division; 0 where its bytes are not taken.
+// The value of a literal, by one division; 0 where its bytes are refused (5, 6).
 pub fn value_of(w: &[u8]) -> f64
     ensures { λ r. ⌜ r ≡ valueOf (now (w .entry)) ⌝ }
 {

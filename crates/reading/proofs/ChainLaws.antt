@@ -1,0 +1,178 @@
+-- Operands joined by operators: what each turn of the code's loop comes to. One set of laws for every level.
+use mathlib.Core.Path.{_≡_, refl, sym, ap, _∙_}
+use mathlib.Core.Bool.{Bool, true, false, _||_, true≢false}
+use mathlib.Core.List.{List, [], _∷_}
+use Prim.Native.Nat.{ℕ, suc, _+_, _-_, _*_, _≤_, _<_}
+use native.Mathlib.Omega.{arith}
+use lib.Dec.{eqb}
+use borrow.Author.Tests.{ne-eqb}
+use lib.ListN.{length}
+use Rattle.tokens.specs.Text.{if_then_else_}
+use Rattle.tokens.specs.Tokens.{Token, code}
+use Rattle.tokens.specs.declared.cursor.Cursor.{Cursor}
+use Rattle.reading.specs.Trees.{Tree, node, nil, _▹_, fields, none as unused, size, row}
+use Rattle.reading.specs.Readers.{Out, ok, refused, Reader, _>>=_, Turn, again, done, follow, loop, is, give, ask, read}
+use Rattle.reading.specs.Grammar.{Words, binary, groupTurn, grouped, power, product, comparison, primary}
+use Rattle.reading.specs.Rows.{rows, putRow, putRows}
+use Rattle.reading.specs.Meets.{toksAt, tokenAt, Holds, Room, Ready, Follows, stringAt, Quoted, Reads}
+use Rattle.reading.specs.Turns.{jointSign, sumSign, productSign, powerSign}
+use Rattle.reading.proofs.Laws.{loop-eq}
+use Rattle.reading.proofs.GrammarLaws.{Moves, groupTurn-law, grouped-law, comparison-law, primary-law}
+use Rattle.reading.proofs.SizeLaws.{Sized, moves-less, primary-size, power-size, product-size, comparison-size}
+use Rattle.reading.proofs.HoldLaws.{ask-yes, ask-no, read-then}
+use Rattle.reading.proofs.RowLaws.{size-some, size-two, after-two}
+
+-- what was read, with what is left, is no more than there was
+pub reads-within : (t : List ℕ) (p : Reader Tree) → Sized p → (c : Cursor) (n : ℕ) (o : List ℕ) (d : Cursor) (m q : ℕ) (o′ : List ℕ)
+    → Reads t (p (toksAt t (c .start))) n o d m q o′ → Room t c n → m + 3 * length (toksAt t (d .start)) ≤ n + 3 * length (toksAt t (c .start))
+reads-within t p h c n o d m q o′ r room =
+    omega (arith, h (toksAt t (c .start)) (r .tree) (toksAt t (d .start)) (r .is), r .counts)
+
+-- a tree of two parts is no String node
+pub binary-plain : (t : List ℕ) (k : ℕ) (a b : Tree) → (k ≡ 5 → ⊥) → (0 ≡ stringAt (binary k a b)) × Quoted t (binary k a b)
+binary-plain t k a b h = (rw (ne-eqb k 5 h), λ e. absurd (h e))
+
+-- a level of operators: its test by the kind's number, which neither End nor a string passes, and its operands
+pub record Level (test : Token → Bool) (op : ℕ → Bool) (p : Reader Tree) : Type 0 where
+  pub by : (u : Token) → test u ≡ op (u .kind)
+  pub not-end : op 0 ≡ false
+  pub not-string : op 5 ≡ false
+  pub moves : Moves p
+  pub short : Sized p
+
+-- the tree so far, and that the loop from here gives the whole reading R
+pub record Chain (test : Token → Bool) (p : Reader Tree) (t : List ℕ) (R : Out Tree) (n : ℕ) (o : List ℕ) (c : Cursor) (m q : ℕ) (o′ : List ℕ) : Type 0 where
+  pub tree : Tree
+  pub is : R ≡ loop (groupTurn test p) tree (toksAt t (c .start))
+  pub counts : m ≡ n + size tree
+  pub writes : o′ ≡ putRows o n (rows tree)
+  pub room : Room t c m
+  pub holds : Holds t c
+  pub string : q ≡ stringAt tree
+  pub quoted : Quoted t tree
+
+module _ {test : Token → Bool} {op : ℕ → Bool} {p : Reader Tree} (L : Level test op p) (t : List ℕ) where
+  -- where the loop begins
+  pub chain-enter : (c : Cursor) (n : ℕ) (o : List ℕ) (d : Cursor) (m q : ℕ) (o′ : List ℕ) → Room t c n → Reads t (p (toksAt t (c .start))) n o d m q o′
+      → Chain test p t (grouped test p (toksAt t (c .start))) n o d m q o′
+  unfolding grouped _>>=_
+  chain-enter c n o d m q o′ room r =
+      record {
+        tree = r .tree;
+        is = rw (r .is);
+        counts = r .counts;
+        writes = r .writes;
+        room = omega (arith, reads-within t p (L .short) c n o d m q o′ r room);
+        holds = r .holds;
+        string = r .string;
+        quoted = r .quoted;
+      }
+
+  pub chain-refused : (c : Cursor) (k b : ℕ) → p (toksAt t (c .start)) ≡ refused k b → grouped test p (toksAt t (c .start)) ≡ refused k b
+  unfolding grouped _>>=_
+  chain-refused c k b e = rw e
+
+  module _ (R : Out Tree) (n : ℕ) (o : List ℕ) (c : Cursor) (m q : ℕ) (o′ : List ℕ) (ch : Chain test p t R n o c m q o′) where
+    turn : R ≡ follow (loop (groupTurn test p)) (groupTurn test p (ch .tree) (toksAt t (c .start)))
+    turn = ch .is ∙ loop-eq (groupTurn-law test p (L .moves)) (ch .tree) (toksAt t (c .start))
+
+    -- no sign: the loop ends
+    pub chain-exit : op (c .code) ≡ false → Reads t R n o c m q o′
+    unfolding groupTurn give
+    chain-exit z =
+        record {
+          tree = ch .tree;
+          is = turn ∙ (rw (ask-no (ch .holds) test _ _ (L .by (tokenAt t c) ∙ z)));
+          counts = ch .counts;
+          writes = ch .writes;
+          holds = ch .holds;
+          string = ch .string;
+          quoted = ch .quoted;
+        }
+
+    -- a sign
+    module _ (z : op (c .code) ≡ true) (d : Cursor) (w : Follows t c d) where
+      some : c .code ≡ 0 → ⊥
+      some e = true≢false (sym z ∙ (ap op e ∙ L .not-end))
+
+      pub sign-ready : Ready t d m
+      sign-ready = (w .holds, omega (arith, ch .room, w .fewer some))
+
+      turn-is : groupTurn test p (ch .tree) (toksAt t (c .start)) ≡ (p >>= λ r. give (again (binary (c .code) (ch .tree) r))) (toksAt t (d .start))
+      unfolding groupTurn
+      turn-is = rw (ask-yes (ch .holds) test _ _ (L .by (tokenAt t c) ∙ z)) (read-then w some _)
+
+      pub sign-refused : (k b : ℕ) → p (toksAt t (d .start)) ≡ refused k b → R ≡ refused k b
+      unfolding _>>=_
+      sign-refused k b e = turn ∙ (rw (turn-is, e))
+
+      module _ (c₂ : Cursor) (m₂ q₂ : ℕ) (o₂ : List ℕ) (r : Reads t (p (toksAt t (d .start))) m o′ c₂ m₂ q₂ o₂) where
+        within : m₂ + 3 * length (toksAt t (c₂ .start)) ≤ m + 3 * length (toksAt t (d .start))
+        within = reads-within t p (L .short) d m o′ c₂ m₂ q₂ o₂ r (sign-ready .1)
+
+        -- the numbers that the code computes
+        pub sign-numbers : (n ≤ m) × (m ≤ m₂) × (m₂ < 50000) × (1 ≤ m₂ - n)
+        sign-numbers = omega (arith, within, w .fewer some, ch .room, ch .counts, r .counts, size-some (ch .tree))
+
+        pub sign-more : (o₃ : List ℕ) → o₃ ≡ putRow o₂ m₂ (row (c .code) (m₂ - n + 1) 2 unused) → Chain test p t R n o c₂ (m₂ + 1) 0 o₃
+        unfolding _>>=_ give
+        sign-more o₃ e =
+            let five : c .code ≡ 5 → ⊥ = λ f. true≢false (sym z ∙ (ap op f ∙ L .not-string)) in
+            let b = binary-plain t (c .code) (ch .tree) (r .tree) five in
+            let s = size-two (c .code) [] unused (ch .tree) (r .tree) in
+            record {
+              tree = binary (c .code) (ch .tree) (r .tree);
+              is = turn ∙ (rw (turn-is, r .is));
+              counts = omega (arith, s, ch .counts, r .counts);
+              writes = after-two o n (c .code) [] unused (ch .tree) (r .tree) (ch .counts) (ch .writes) (r .counts) (r .writes) (omega (arith, ch .counts, r .counts)) e;
+              room = omega (arith, within, w .fewer some, ch .room);
+              holds = r .holds;
+              string = b .0;
+              quoted = b .1;
+            }
+
+        pub sign-less : length (toksAt t (c₂ .start)) < length (toksAt t (c .start))
+        sign-less = omega (arith, moved, w .fewer some)
+          where
+            moved : length (toksAt t (c₂ .start)) < length (toksAt t (d .start))
+            moved = moves-less (L .moves) (toksAt t (d .start)) (r .tree) (toksAt t (c₂ .start)) (r .is)
+
+-- ---- the levels of the grammar
+
+module _ (W : Words) (d : ℕ) where
+  pub power-level : Level (is "**") powerSign (primary W d)
+  unfolding code
+  power-level = record { by = λ u. refl; not-end = refl; not-string = refl; moves = primary-law W d; short = primary-size W d }
+
+  pub product-level : Level (λ u. is "*" u || is "/" u) productSign (power (primary W d))
+  unfolding code
+  product-level =
+      record {
+        by = λ u. refl;
+        not-end = refl;
+        not-string = refl;
+        moves = grouped-law (is "**") (primary W d) (primary-law W d);
+        short = power-size (primary W d) (primary-size W d);
+      }
+
+  pub sum-level : Level (λ u. is "+" u || is "-" u) sumSign (product (primary W d))
+  unfolding code
+  sum-level =
+      record {
+        by = λ u. refl;
+        not-end = refl;
+        not-string = refl;
+        moves = grouped-law (λ u. is "*" u || is "/" u) (power (primary W d)) (product-level .moves);
+        short = product-size (primary W d) (primary-size W d);
+      }
+
+  pub joint-level : Level (λ u. is "and" u || is "or" u) jointSign (comparison (primary W d))
+  unfolding code
+  joint-level =
+      record {
+        by = λ u. refl;
+        not-end = refl;
+        not-string = refl;
+        moves = comparison-law (primary W d) (primary-law W d);
+        short = comparison-size (primary W d) (primary-size W d);
+      }

@@ -1,0 +1,354 @@
+-- Laws of records in lent memory: what stands there after a node's parts and the node, and after all.
+use mathlib.Core.Path.{_≡_, refl, sym, ap, _∙_}
+use mathlib.Core.Bool.{Bool, true, false}
+use mathlib.Core.List.{List, [], _∷_, _++_, append-assoc, append-nil}
+use Prim.Native.Nat.{ℕ, suc, _+_, _*_, _/_, _≤_, _<_}
+use native.Mathlib.Nat.{add-zero}
+use native.Mathlib.Numerals.{add-one}
+use native.Mathlib.Omega.{arith}
+use lib.Dec.{ltb}
+use lib.ListN.{length, length-append, length-set, set, take, drop, take-append-drop}
+use lib.Seq.{sets, sets-eq, length-take-le, take-at, drop-append-add, drop-drop}
+use borrow.Author.Tests.{lt-ltb, le-ltb}
+use Rattle.tokens.specs.Text.{if_then_else_}
+use Rattle.reading.specs.Sizes.{recordWidth}
+use Rattle.reading.specs.Trees.{Tree, Trees, node, nil, _▹_, Fields, fields, snoc, join, parts, size, sizes, row, records, recordsOf}
+use Rattle.reading.specs.Rows.{rows, rowsOf, putWords, putRow, putRows}
+use Rattle.reading.specs.Meets.{Before}
+
+-- ---- how many
+
+pub size-node : (k : ℕ) (x : List ℕ) (f : Fields) (ts : Trees) → size (node k x f ts) ≡ suc (sizes ts)
+unfolding size
+size-node k x f ts = refl
+
+pub sizes-nil : sizes nil ≡ 0
+unfolding size
+sizes-nil = refl
+
+pub sizes-front : (t : Tree) (ts : Trees) → sizes (t ▹ ts) ≡ size t + sizes ts
+unfolding size
+sizes-front t ts = refl
+
+pub size-leaf : (k : ℕ) (x : List ℕ) (f : Fields) → size (node k x f nil) ≡ 1
+unfolding size
+size-leaf k x f = refl
+
+pub size-one : (k : ℕ) (x : List ℕ) (f : Fields) (a : Tree) → size (node k x f (a ▹ nil)) ≡ suc (size a)
+unfolding size
+size-one k x f a = ap suc (add-zero (size a))
+
+pub size-two : (k : ℕ) (x : List ℕ) (f : Fields) (a b : Tree) → size (node k x f (a ▹ b ▹ nil)) ≡ suc (size a + size b)
+unfolding size
+size-two k x f a b = ap (λ n. suc (size a + n)) (add-zero (size b))
+
+pub size-some : (t : Tree) → 1 ≤ size t
+size-some (node k x f ts) = omega (arith, size-node k x f ts)
+
+pub size-snoc : (ts : Trees) (t : Tree) → sizes (snoc ts t) ≡ sizes ts + size t
+size-snoc nil t = omega (arith, sizes-nil, sizes-front t nil)
+size-snoc (u ▹ us) t = omega (arith, sizes-front u us, sizes-front u (snoc us t), size-snoc us t)
+
+pub sizes-join : (ts us : Trees) → sizes (join ts us) ≡ sizes ts + sizes us
+sizes-join nil us = omega (arith, sizes-nil)
+sizes-join (t ▹ ts) us = omega (arith, sizes-front t ts, sizes-front t (join ts us), sizes-join ts us)
+
+pub parts-snoc : (ts : Trees) (t : Tree) → parts (snoc ts t) ≡ suc (parts ts)
+parts-snoc nil t = refl
+parts-snoc (u ▹ us) t = ap suc (parts-snoc us t)
+
+pub parts-join : (ts us : Trees) → parts (join ts us) ≡ parts ts + parts us
+parts-join nil us = omega arith
+parts-join (t ▹ ts) us = omega (arith, parts-join ts us)
+
+pub parts-few : (ts : Trees) → parts ts ≤ sizes ts
+parts-few nil = omega arith
+parts-few (t ▹ ts) = omega (arith, sizes-front t ts, size-some t, parts-few ts)
+
+mutual
+  unfolding rows size
+
+  pub rows-size : (t : Tree) → length (rows t) ≡ size t
+  rows-size (node k x f ts) = length-append (rowsOf ts) (row k (suc (sizes ts)) (parts ts) f ∷ []) ∙ omega (arith, rowsOf-size ts)
+
+  pub rowsOf-size : (ts : Trees) → length (rowsOf ts) ≡ sizes ts
+  rowsOf-size nil = refl
+  rowsOf-size (t ▹ ts) = length-append (rows t) (rowsOf ts) ∙ omega (arith, rows-size t, rowsOf-size ts)
+
+-- ---- the rows of one more part
+
+pub rows-node : (k : ℕ) (x : List ℕ) (f : Fields) (ts : Trees) → rows (node k x f ts) ≡ rowsOf ts ++ (row k (suc (sizes ts)) (parts ts) f ∷ [])
+unfolding rows
+rows-node k x f ts = refl
+
+pub rowsOf-nil : rowsOf nil ≡ []
+unfolding rows
+rowsOf-nil = refl
+
+pub rowsOf-front : (t : Tree) (ts : Trees) → rowsOf (t ▹ ts) ≡ rows t ++ rowsOf ts
+unfolding rows
+rowsOf-front t ts = refl
+
+pub rowsOf-snoc : (ts : Trees) (t : Tree) → rowsOf (snoc ts t) ≡ rowsOf ts ++ rows t
+unfolding rows
+rowsOf-snoc nil t = append-nil (rows t)
+rowsOf-snoc (u ▹ us) t = ap (λ l. rows u ++ l) (rowsOf-snoc us t) ∙ sym (append-assoc (rows u) (rowsOf us) (rows t))
+
+pub rowsOf-join : (ts us : Trees) → rowsOf (join ts us) ≡ rowsOf ts ++ rowsOf us
+unfolding rows
+rowsOf-join nil us = refl
+rowsOf-join (t ▹ ts) us = ap (λ l. rows t ++ l) (rowsOf-join ts us) ∙ sym (append-assoc (rows t) (rowsOf ts) (rowsOf us))
+
+-- ---- the length stays
+
+pub putWords-length : (o : List ℕ) (i : ℕ) (ws : List ℕ) → length (putWords o i ws) ≡ length o
+unfolding putWords
+putWords-length o i [] = refl
+putWords-length o i (w ∷ ws) = putWords-length (set o i w) (i + 1) ws ∙ length-set o i w
+
+either-length : (b : Bool) (o o′ : List ℕ) → length o′ ≡ length o → length (if b then o′ else o) ≡ length o
+either-length true o o′ e = e
+either-length false o o′ e = refl
+
+pub putRow-length : (o : List ℕ) (n : ℕ) (r : List ℕ) → length (putRow o n r) ≡ length o
+unfolding putRow
+putRow-length o n r = either-length (ltb n (length o / recordWidth)) o (putWords o (recordWidth * n) r) (putWords-length o (recordWidth * n) r)
+
+pub putRows-length : (o : List ℕ) (n : ℕ) (rs : List (List ℕ)) → length (putRows o n rs) ≡ length o
+unfolding putRows
+putRows-length o n [] = refl
+putRows-length o n (r ∷ rs) = putRows-length (putRow o n r) (n + 1) rs ∙ putRow-length o n r
+
+-- ---- the memory, by the rows
+
+pub putRows-nil : (o : List ℕ) (n : ℕ) → putRows o n [] ≡ o
+unfolding putRows
+putRows-nil o n = refl
+
+pub putRows-one : (o : List ℕ) (n : ℕ) (r : List ℕ) → putRows o n (r ∷ []) ≡ putRow o n r
+unfolding putRows
+putRows-one o n r = refl
+
+pub putRows-append : (o : List ℕ) (n : ℕ) (xs ys : List (List ℕ)) → putRows o n (xs ++ ys) ≡ putRows (putRows o n xs) (n + length xs) ys
+unfolding putRows
+putRows-append o n [] ys = rw add-zero
+putRows-append o n (x ∷ xs) ys =
+    putRows-append (putRow o n x) (n + 1) xs ys
+    ∙ (let q : n + 1 + length xs ≡ n + suc (length xs) = omega arith in rw q)
+
+-- equal arguments, equal memory
+pub put-same : {o₁ o₂ : List ℕ} {n₁ n₂ : ℕ} {r₁ r₂ : List ℕ} → o₁ ≡ o₂ → n₁ ≡ n₂ → r₁ ≡ r₂ → putRow o₁ n₁ r₁ ≡ putRow o₂ n₂ r₂
+put-same p q r = cc
+
+pub row-same : (k : ℕ) (f : Fields) {n₁ n₂ m₁ m₂ : ℕ} → n₁ ≡ n₂ → m₁ ≡ m₂ → row k n₁ m₁ f ≡ row k n₂ m₂ f
+row-same k f p q = rw (p, q)
+
+pub put-rows-same : {o₁ o₂ : List ℕ} {n₁ n₂ : ℕ} {rs₁ rs₂ : List (List ℕ)} → o₁ ≡ o₂ → n₁ ≡ n₂ → rs₁ ≡ rs₂ → putRows o₁ n₁ rs₁ ≡ putRows o₂ n₂ rs₂
+put-rows-same p q r = cc
+
+-- ---- the memory, by the parts of a tree
+
+pub put-nil : (o : List ℕ) (n : ℕ) → putRows o n (rowsOf nil) ≡ o
+unfolding rows putRows
+put-nil o n = refl
+
+pub put-front : (o : List ℕ) (n : ℕ) (a : Tree) (ts : Trees) → putRows o n (rowsOf (a ▹ ts)) ≡ putRows (putRows o n (rows a)) (n + size a) (rowsOf ts)
+put-front o n a ts = rw (rowsOf-front a ts, putRows-append o n (rows a) (rowsOf ts), rows-size a)
+
+pub put-snoc : (o : List ℕ) (n : ℕ) (ts : Trees) (t : Tree) → putRows o n (rowsOf (snoc ts t)) ≡ putRows (putRows o n (rowsOf ts)) (n + sizes ts) (rows t)
+put-snoc o n ts t = rw (rowsOf-snoc ts t, putRows-append o n (rowsOf ts) (rows t), rowsOf-size ts)
+
+pub put-join : (o : List ℕ) (n : ℕ) (ts us : Trees) → putRows o n (rowsOf (join ts us)) ≡ putRows (putRows o n (rowsOf ts)) (n + sizes ts) (rowsOf us)
+put-join o n ts us = rw (rowsOf-join ts us, putRows-append o n (rowsOf ts) (rowsOf us), rowsOf-size ts)
+
+pub put-single : (o : List ℕ) (n : ℕ) (a : Tree) → putRows o n (rowsOf (a ▹ nil)) ≡ putRows o n (rows a)
+unfolding rows
+put-single o n a = rw append-nil
+
+pub put-pair : (o : List ℕ) (n : ℕ) (a b : Tree) → putRows o n (rowsOf (a ▹ b ▹ nil)) ≡ putRows (putRows o n (rows a)) (n + size a) (rows b)
+put-pair o n a b = put-front o n a (b ▹ nil) ∙ put-single (putRows o n (rows a)) (n + size a) b
+
+pub put-node : (o : List ℕ) (n k : ℕ) (x : List ℕ) (f : Fields) (ts : Trees)
+    → putRows o n (rows (node k x f ts)) ≡ putRow (putRows o n (rowsOf ts)) (n + sizes ts) (row k (suc (sizes ts)) (parts ts) f)
+put-node o n k x f ts =
+    rw (rows-node k x f ts, putRows-append o n (rowsOf ts) (row k (suc (sizes ts)) (parts ts) f ∷ []), putRows-one, rowsOf-size ts)
+
+pub put-leaf : (o : List ℕ) (n k : ℕ) (x : List ℕ) (f : Fields) → putRows o n (rows (node k x f nil)) ≡ putRow o n (row k 1 0 f)
+put-leaf o n k x f = put-node o n k x f nil ∙ rw (put-nil, sizes-nil, add-zero)
+
+pub put-one-part : (o : List ℕ) (n k : ℕ) (x : List ℕ) (f : Fields) (a : Tree)
+    → putRows o n (rows (node k x f (a ▹ nil))) ≡ putRow (putRows o n (rows a)) (n + size a) (row k (suc (size a)) 1 f)
+put-one-part o n k x f a =
+    let q : sizes (a ▹ nil) ≡ size a = omega (arith, sizes-front a nil, sizes-nil) in
+    put-node o n k x f (a ▹ nil) ∙ rw (put-single, q)
+
+pub put-two : (o : List ℕ) (n k : ℕ) (x : List ℕ) (f : Fields) (a b : Tree)
+    → putRows o n (rows (node k x f (a ▹ b ▹ nil)))
+    ≡ putRow (putRows (putRows o n (rows a)) (n + size a) (rows b)) (n + size a + size b) (row k (suc (size a + size b)) 2 f)
+put-two o n k x f a b =
+    let q : sizes (a ▹ b ▹ nil) ≡ size a + size b = omega (arith, sizes-front a (b ▹ nil), sizes-front b nil, sizes-nil) in
+    let p : n + (size a + size b) ≡ n + size a + size b = omega arith in
+    put-node o n k x f (a ▹ b ▹ nil) ∙ rw (put-pair, q, p)
+
+-- ---- the memory o₂ after a node, from the memory after its parts
+
+module _ (o : List ℕ) (n k : ℕ) (x : List ℕ) (f : Fields) {o₂ : List ℕ} where
+  pub after-leaf : o₂ ≡ putRow o n (row k 1 0 f) → o₂ ≡ putRows o n (rows (node k x f nil))
+  after-leaf e = e ∙ sym (put-leaf o n k x f)
+
+  pub after-one : {m w : ℕ} {o₁ : List ℕ} (a : Tree) → m ≡ n + size a → o₁ ≡ putRows o n (rows a) → w ≡ suc (size a)
+      → o₂ ≡ putRow o₁ m (row k w 1 f) → o₂ ≡ putRows o n (rows (node k x f (a ▹ nil)))
+  after-one a p q r e = e ∙ put-same q p (row-same k f r refl) ∙ sym (put-one-part o n k x f a)
+
+  pub after-two : {l m w : ℕ} {o₀ o₁ : List ℕ} (a b : Tree) → l ≡ n + size a → o₀ ≡ putRows o n (rows a) → m ≡ l + size b → o₁ ≡ putRows o₀ l (rows b)
+      → w ≡ suc (size a + size b) → o₂ ≡ putRow o₁ m (row k w 2 f) → o₂ ≡ putRows o n (rows (node k x f (a ▹ b ▹ nil)))
+  after-two {l} a b p q r s u e =
+      let m-is : l + size b ≡ n + size a + size b = omega arith in
+      e ∙ put-same (s ∙ put-rows-same q p refl) (r ∙ m-is) (row-same k f u refl) ∙ sym (put-two o n k x f a b)
+
+-- ---- the parts that stand before
+
+pub before-none : (n : ℕ) (o : List ℕ) → Before n o nil n o
+before-none n o = record { counts = omega (arith, sizes-nil); writes = sym (put-nil o n) }
+
+pub before-one : {n m : ℕ} {o o₁ : List ℕ} (t : Tree) → m ≡ n + size t → o₁ ≡ putRows o n (rows t) → Before n o (t ▹ nil) m o₁
+before-one {n} {o} t e w =
+    record { counts = omega (arith, sizes-front t nil, sizes-nil); writes = w ∙ sym (put-single o n t) }
+
+pub before-more : {n m m′ : ℕ} {o o₁ o₂ : List ℕ} {ts : Trees} (t : Tree) → Before n o ts m o₁ → m′ ≡ m + size t → o₂ ≡ putRows o₁ m (rows t)
+    → Before n o (snoc ts t) m′ o₂
+before-more {n} {o} {ts} t h e w =
+    record {
+      counts = omega (arith, h .counts, size-snoc ts t);
+      writes = w ∙ put-rows-same (h .writes) (h .counts) refl ∙ sym (put-snoc o n ts t);
+    }
+
+-- the node of the parts before it
+pub before-node : {n m w v : ℕ} {o o₁ o₂ : List ℕ} {ts : Trees} (k : ℕ) (x : List ℕ) (f : Fields) → Before n o ts m o₁ → w ≡ suc (sizes ts) → v ≡ parts ts
+    → o₂ ≡ putRow o₁ m (row k w v f) → o₂ ≡ putRows o n (rows (node k x f ts))
+before-node {n} {o} {ts} k x f h p q e = e ∙ put-same (h .writes) (h .counts) (row-same k f p q) ∙ sym (put-node o n k x f ts)
+
+-- ---- the words of the records
+
+abbrev pub flat : List (List ℕ) → List ℕ
+flat [] = []
+flat (r ∷ rs) = r ++ flat rs
+
+pub flat-append : (rs ss : List (List ℕ)) → flat (rs ++ ss) ≡ flat rs ++ flat ss
+flat-append [] ss = refl
+flat-append (r ∷ rs) ss = ap (λ l. r ++ l) (flat-append rs ss) ∙ sym (append-assoc r (flat rs) (flat ss))
+
+mutual
+  unfolding rows records
+
+  pub rows-flat : (t : Tree) → flat (rows t) ≡ records t
+  rows-flat (node k x f ts) =
+      flat-append (rowsOf ts) (row k (suc (sizes ts)) (parts ts) f ∷ [])
+      ∙ ap (λ l. l ++ (row k (suc (sizes ts)) (parts ts) f ++ [])) (rowsOf-flat ts)
+      ∙ ap (λ l. recordsOf ts ++ l) (append-nil (row k (suc (sizes ts)) (parts ts) f))
+
+  pub rowsOf-flat : (ts : Trees) → flat (rowsOf ts) ≡ recordsOf ts
+  rowsOf-flat nil = refl
+  rowsOf-flat (t ▹ ts) =
+      flat-append (rows t) (rowsOf ts) ∙ ap (λ l. l ++ flat (rowsOf ts)) (rows-flat t) ∙ ap (λ l. records t ++ l) (rowsOf-flat ts)
+
+-- each row has the words of a record
+pub data Wide : List (List ℕ) → Type 0 where
+  none : Wide []
+  more : {r : List ℕ} {rs : List (List ℕ)} → length r ≡ recordWidth → Wide rs → Wide (r ∷ rs)
+
+pub row-length : (k n m : ℕ) (f : Fields) → length (row k n m f) ≡ recordWidth
+row-length k n m (fields a b c d) = refl
+
+pub wide-append : {rs ss : List (List ℕ)} → Wide rs → Wide ss → Wide (rs ++ ss)
+wide-append none w = w
+wide-append (more e v) w = more e (wide-append v w)
+
+mutual
+  unfolding rows
+
+  pub rows-wide : (t : Tree) → Wide (rows t)
+  rows-wide (node k x f ts) = wide-append (rowsOf-wide ts) (more (row-length k (suc (sizes ts)) (parts ts) f) none)
+
+  pub rowsOf-wide : (ts : Trees) → Wide (rowsOf ts)
+  rowsOf-wide nil = none
+  rowsOf-wide (t ▹ ts) = wide-append (rows-wide t) (rowsOf-wide ts)
+
+-- ---- the memory after all
+
+pub putWords-sets : (o : List ℕ) (i : ℕ) (ws : List ℕ) → putWords o i ws ≡ sets o i ws
+unfolding putWords
+putWords-sets o i [] = refl
+putWords-sets o i (w ∷ ws) = putWords-sets (set o i w) (i + 1) ws ∙ rw add-one
+
+-- a record that fits
+pub put-row : (o : List ℕ) (n : ℕ) (r : List ℕ) → recordWidth * (n + 1) ≤ length o → length r ≡ recordWidth
+    → putRow o n r ≡ take (recordWidth * n) o ++ r ++ drop (recordWidth * (n + 1)) o
+unfolding putRow
+put-row o n r h e =
+    let fits : n < length o / recordWidth = omega arith in
+    let room : recordWidth * n + length r ≤ length o = omega arith in
+    let q : recordWidth * n + length r ≡ recordWidth * (n + 1) = omega arith in
+    rw (lt-ltb n (length o / recordWidth) fits) (putWords-sets o (recordWidth * n) r ∙ sets-eq r o (recordWidth * n) room ∙ rw q)
+
+-- a record that does not fit
+pub put-no-row : (o : List ℕ) (n : ℕ) (r : List ℕ) → length o / recordWidth ≤ n → putRow o n r ≡ o
+unfolding putRow
+put-no-row o n r h = rw (le-ltb n (length o / recordWidth) h)
+
+-- nothing is written where nothing fits
+pub put-none : (o : List ℕ) (n : ℕ) (rs : List (List ℕ)) → length o / recordWidth ≤ n → putRows o n rs ≡ o
+unfolding putRows
+put-none o n [] h = refl
+put-none o n (r ∷ rs) h =
+    let l : length o / recordWidth ≤ n + 1 = omega arith in
+    rw (put-no-row o n r h) (put-none o (n + 1) rs l)
+
+pub put-empty : (n : ℕ) (rs : List (List ℕ)) → putRows [] n rs ≡ []
+put-empty n rs = put-none [] n rs (omega arith)
+
+pub put-all : (o : List ℕ) (n : ℕ) (rs : List (List ℕ)) → recordWidth * (n + length rs) ≤ length o → Wide rs
+    → putRows o n rs ≡ take (recordWidth * n) o ++ (flat rs ++ drop (recordWidth * (n + length rs)) o)
+unfolding putRows
+put-all o n [] h w = sym (rw add-zero (take-append-drop (recordWidth * n) o))
+put-all o n (r ∷ rs) h (more e w) =
+    let room : recordWidth * (n + 1) ≤ length o = omega arith in
+    let front : length (take (recordWidth * n) o ++ r) ≡ recordWidth * (n + 1) =
+    length-append (take (recordWidth * n) o) r ∙ omega (arith, length-take-le (recordWidth * n) o (omega arith)) in
+    let is : putRow o n r ≡ take (recordWidth * n) o ++ r ++ drop (recordWidth * (n + 1)) o = put-row o n r room e in
+    let more-room : recordWidth * (n + 1 + length rs) ≤ length (putRow o n r) = omega (arith, putRow-length o n r) in
+    let before : take (recordWidth * (n + 1)) (putRow o n r) ≡ take (recordWidth * n) o ++ r =
+    rw is (take-at (take (recordWidth * n) o ++ r) (drop (recordWidth * (n + 1)) o) (recordWidth * (n + 1)) front) in
+    let past : recordWidth * (n + 1 + length rs) ≡ length (take (recordWidth * n) o ++ r) + recordWidth * length rs = omega arith in
+    let sum : recordWidth * (n + 1) + recordWidth * length rs ≡ recordWidth * (n + suc (length rs)) = omega arith in
+    let behind : drop (recordWidth * (n + 1 + length rs)) (putRow o n r) ≡ drop (recordWidth * (n + suc (length rs))) o =
+    rw (is, past)
+    (drop-append-add (take (recordWidth * n) o ++ r) (drop (recordWidth * (n + 1)) o) (recordWidth * length rs)
+    ∙ drop-drop (recordWidth * length rs) (recordWidth * (n + 1)) o ∙ ap (λ i. drop i o) sum) in
+    put-all (putRow o n r) (n + 1) rs more-room w
+    ∙ rw (before, behind) (append-assoc (take (recordWidth * n) o) r _ ∙ ap (λ l. take (recordWidth * n) o ++ l) (sym (append-assoc r _ _)))
+
+-- the words of a tree, and of trees, that fit
+pub put-tree : (o : List ℕ) (n : ℕ) (t : Tree) → recordWidth * (n + size t) ≤ length o
+    → putRows o n (rows t) ≡ take (recordWidth * n) o ++ (records t ++ drop (recordWidth * (n + size t)) o)
+put-tree o n t h =
+    let fits : recordWidth * (n + length (rows t)) ≤ length o = omega (arith, rows-size t) in
+    put-all o n (rows t) fits (rows-wide t) ∙ rw (rows-flat t, rows-size t)
+
+pub put-trees : (o : List ℕ) (n : ℕ) (ts : Trees) → recordWidth * (n + sizes ts) ≤ length o
+    → putRows o n (rowsOf ts) ≡ take (recordWidth * n) o ++ (recordsOf ts ++ drop (recordWidth * (n + sizes ts)) o)
+put-trees o n ts h =
+    let fits : recordWidth * (n + length (rowsOf ts)) ≤ length o = omega (arith, rowsOf-size ts) in
+    put-all o n (rowsOf ts) fits (rowsOf-wide ts) ∙ rw (rowsOf-flat ts, rowsOf-size ts)
+
+-- the seven words of a row, one store each
+pub put-seven : (o : List ℕ) (i a b c d e f g : ℕ)
+    → putWords o i (a ∷ b ∷ c ∷ d ∷ e ∷ f ∷ g ∷ []) ≡ set (set (set (set (set (set (set o i a) (i + 1) b) (i + 2) c) (i + 3) d) (i + 4) e) (i + 5) f) (i + 6) g
+unfolding putWords
+put-seven o i a b c d e f g =
+    let i₂ : i + 1 + 1 ≡ i + 2 = omega arith in
+    let i₃ : i + 2 + 1 ≡ i + 3 = omega arith in
+    let i₄ : i + 3 + 1 ≡ i + 4 = omega arith in
+    let i₅ : i + 4 + 1 ≡ i + 5 = omega arith in
+    let i₆ : i + 5 + 1 ≡ i + 6 = omega arith in
+    rw (i₂, i₃, i₄, i₅, i₆)

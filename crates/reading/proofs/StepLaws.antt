@@ -1,0 +1,290 @@
+-- What each step of the expression readers' code comes to in the definition. Each law is over plain values, and an answer of a
+-- proof cites one.
+use mathlib.Core.Path.{_≡_, refl, sym, ap, _∙_}
+use mathlib.Core.Bool.{Bool, true, false, _||_, true≢false}
+use mathlib.Core.List.{List, [], _∷_}
+use mathlib.Core.Option.{Option, none, some}
+use Prim.Native.Nat.{ℕ, zero, suc, _+_, _-_, _*_, _≤_, _<_}
+use native.Mathlib.Omega.{arith}
+use lib.Dec.{eqb, leb}
+use lib.Ieee.{neg}
+use borrow.Author.Tests.{eq-eqb, ne-eqb}
+use lib.ListN.{length}
+use Rattle.tokens.specs.Text.{if_then_else_, within}
+use Rattle.tokens.specs.Tokens.{Token, code}
+use Rattle.tokens.specs.declared.cursor.Cursor.{Cursor}
+use Rattle.reading.specs.Trees.{Tree, Trees, node, nil, _▹_, fields, none as unused, size, row}
+use Rattle.reading.specs.Readers.{Out, ok, refused, Reader, bind, _>>=_, _>>_, Turn, again, done, is, give, fail, failAt, ask, peek, read, the}
+use Rattle.reading.specs.Grammar.{Words, binary, deeper, sum, comparison, expression, postfixes, minus, negative, parenthesis, listed, pays, payment, name, primaryOver, primary}
+use Rattle.reading.specs.Rows.{rows, putRow, putRows, nodeRow}
+use Rattle.reading.specs.declared.records.Node.{Node}
+use Rattle.reading.specs.Atoms.{literal, atom}
+use Rattle.reading.specs.Meets.{toksAt, tokenAt, Holds, Room, Ready, Follows, Takes, stringAt, Quoted, Reads, Meets}
+use Rattle.reading.specs.Turns.{inner, parenthesised, listPostfixed, comparator}
+use Rattle.reading.specs.declared.answers.Read.{Read}
+use Rattle.reading.specs.declared.answers.Read.the-variants.{Done, Refused}
+use Rattle.reading.specs.declared.answers.Took.{Took}
+use Rattle.reading.specs.declared.answers.Took.the-variants as took
+use Rattle.reading.proofs.GrammarLaws.{Moves}
+use Rattle.reading.proofs.SizeLaws.{Sized, primary-size}
+use Rattle.reading.proofs.HoldLaws.{ask-yes, ask-no, peek-is, fail-is, read-then, read-next, the-next}
+use Rattle.reading.proofs.RowLaws.{size-some, size-one, size-two, after-one, after-two}
+use Rattle.reading.proofs.ChainLaws.{reads-within, binary-plain}
+
+-- ---- answers of calls, as the code takes them apart
+
+module _ (t : List ℕ) (R : Out Tree) (n : ℕ) (o : List ℕ) (r : Read) (o′ : List ℕ) where
+  -- the answer is a `Done`
+  pub done-reads : (c : Cursor) (m q : ℕ) → r ≡ Done c m q → Meets t R n o r o′ → Reads t R n o c m q o′
+  done-reads c m q e h = rw e at h
+
+  -- the answer is a refusal, and is handed on as the answer to another reading
+  pub refused-on : (R′ : Out Tree) (n′ : ℕ) (o₁ o₂ : List ℕ) (k b : ℕ) → r ≡ Refused k b → Meets t R n o r o′ → (R ≡ refused k b → R′ ≡ refused k b)
+      → Meets t R′ n′ o₁ r o₂
+  refused-on R′ n′ o₁ o₂ k b e h f = rw e (f (rw e at h))
+
+-- the answer to one reading is the answer to an equal one
+pub meets-as : (t : List ℕ) (R R′ : Out Tree) (n : ℕ) (o : List ℕ) (r : Read) (o′ : List ℕ) → R ≡ R′ → Meets t R′ n o r o′ → Meets t R n o r o′
+meets-as t R R′ n o r o′ e h = rw e h
+
+pub reads-as : (t : List ℕ) (R R′ : Out Tree) (n : ℕ) (o : List ℕ) (c : Cursor) (m q : ℕ) (o′ : List ℕ) → R ≡ R′ → Reads t R′ n o c m q o′ → Reads t R n o c m q o′
+reads-as t R R′ n o c m q o′ e h = rw e h
+
+module _ {A B : Type 0} where
+  -- a refusal goes through what would read on
+  pub bind-refused : (m : Reader A) (f : A → Reader B) (ts : _) (k b : ℕ) → m ts ≡ refused k b → (m >>= f) ts ≡ refused k b
+  unfolding _>>=_
+  bind-refused m f ts k b e = rw e
+
+-- ---- depth
+
+pub primary-is : (W : Words) (d : ℕ) → primary W d ≡ primaryOver W (inner W d)
+unfolding primary inner
+primary-is W zero = refl
+primary-is W (suc d) = refl
+
+pub inner-none : (W : Words) (d : ℕ) → d ≡ 0 → inner W d ≡ none
+unfolding inner
+inner-none W d e = rw e
+
+pub inner-some : (W : Words) (d : ℕ) → (d ≡ 0 → ⊥) → inner W d ≡ some (primary W (d - 1))
+unfolding inner
+inner-some W zero h = absurd (h refl)
+inner-some W (suc d) h = let q : suc d - 1 ≡ d = omega arith in rw q
+
+module _ {A : Type 0} where
+  pub deeper-none : (u : Token) (W : Words) (d : ℕ) (k : Reader Tree → Reader A) (ts : List Token) → d ≡ 0 → deeper u (inner W d) k ts ≡ refused 15 (u .from)
+  unfolding deeper failAt
+  deeper-none u W d k ts e = rw (inner-none W d e)
+
+  pub deeper-some : (u : Token) (W : Words) (d : ℕ) (k : Reader Tree → Reader A) (ts : List Token) → (d ≡ 0 → ⊥) → deeper u (inner W d) k ts ≡ k (primary W (d - 1)) ts
+  unfolding deeper
+  deeper-some u W d k ts h = rw (inner-some W d h)
+
+-- ---- numbers: what was read leaves room for one record more
+
+pub read-numbers : (t : List ℕ) (p : Reader Tree) → Sized p → (c : Cursor) (n : ℕ) (o : List ℕ) (d : Cursor) (m q : ℕ) (o′ : List ℕ)
+    → Reads t (p (toksAt t (c .start))) n o d m q o′ → Room t c n → (n < m) × (m ≤ 50000) × (m + 3 * length (toksAt t (d .start)) ≤ 50000)
+read-numbers t p h c n o d m q o′ r room = omega (arith, reads-within t p h c n o d m q o′ r room, size-some (r .tree), r .counts)
+
+-- ---- a comparison has at most one comparator
+
+module _ (p : Reader Tree) (short : Sized (sum p)) (t : List ℕ) (c : Cursor) (n : ℕ) (o : List ℕ) (room : Room t c n) where
+  pub comparison-refused : (k b : ℕ) → sum p (toksAt t (c .start)) ≡ refused k b → comparison p (toksAt t (c .start)) ≡ refused k b
+  unfolding comparison
+  comparison-refused k b e = bind-refused (sum p) _ (toksAt t (c .start)) k b e
+
+  module _ (d : Cursor) (m q : ℕ) (o′ : List ℕ) (r : Reads t (sum p (toksAt t (c .start))) n o d m q o′) where
+    behind : comparison p (toksAt t (c .start))
+        ≡ ask (λ u. within 13 18 (u .kind)) (do u ← read; x ← sum p; give (binary (u .kind) (r .tree) x)) (give (r .tree)) (toksAt t (d .start))
+    unfolding comparison _>>=_
+    behind = rw (r .is)
+
+    -- none
+    pub comparison-none : comparator (d .code) ≡ false → Reads t (comparison p (toksAt t (c .start))) n o d m q o′
+    unfolding give
+    comparison-none z =
+        record {
+          tree = r .tree;
+          is = behind ∙ ask-no (r .holds) (λ u. within 13 18 (u .kind)) _ _ z;
+          counts = r .counts;
+          writes = r .writes;
+          holds = r .holds;
+          string = r .string;
+          quoted = r .quoted;
+        }
+
+    -- one
+    module _ (z : comparator (d .code) ≡ true) (e : Cursor) (w : Follows t d e) where
+      some-sign : d .code ≡ 0 → ⊥
+      some-sign f = true≢false (sym z ∙ (ap comparator f))
+
+      pub comparison-ready : Ready t e m
+      comparison-ready = (w .holds, omega (arith, reads-within t (sum p) short c n o d m q o′ r room, room, w .fewer some-sign))
+
+      second : comparison p (toksAt t (c .start)) ≡ (sum p >>= λ x. give (binary (d .code) (r .tree) x)) (toksAt t (e .start))
+      second = behind ∙ ask-yes (r .holds) (λ u. within 13 18 (u .kind)) _ _ z ∙ read-then w some-sign _
+
+      pub comparison-second : (k b : ℕ) → sum p (toksAt t (e .start)) ≡ refused k b → comparison p (toksAt t (c .start)) ≡ refused k b
+      comparison-second k b f = second ∙ bind-refused (sum p) _ (toksAt t (e .start)) k b f
+
+      module _ (f : Cursor) (m₂ q₂ : ℕ) (o₂ : List ℕ) (r₂ : Reads t (sum p (toksAt t (e .start))) m o′ f m₂ q₂ o₂) where
+        pub comparison-numbers : (n ≤ m₂) × (m₂ < 50000)
+        comparison-numbers =
+            omega (arith, reads-within t (sum p) short c n o d m q o′ r room, reads-within t (sum p) short e m o′ f m₂ q₂ o₂ r₂ (comparison-ready .1), room, w .fewer some-sign, r .counts, r₂ .counts)
+
+        pub comparison-one : (o₃ : List ℕ) → o₃ ≡ putRow o₂ m₂ (row (d .code) (m₂ - n + 1) 2 unused) → Reads t (comparison p (toksAt t (c .start))) n o f (m₂ + 1) 0 o₃
+        unfolding _>>=_ give
+        comparison-one o₃ g =
+            let five : d .code ≡ 5 → ⊥ = λ h. true≢false (sym z ∙ (ap comparator h)) in
+            let b = binary-plain t (d .code) (r .tree) (r₂ .tree) five in
+            record {
+              tree = binary (d .code) (r .tree) (r₂ .tree);
+              is = second ∙ (rw (r₂ .is));
+              counts = omega (arith, size-two (d .code) [] unused (r .tree) (r₂ .tree), r .counts, r₂ .counts);
+              writes = after-two o n (d .code) [] unused (r .tree) (r₂ .tree) (r .counts) (r .writes) (r₂ .counts) (r₂ .writes) (omega (arith, r .counts, r₂ .counts)) g;
+              holds = r₂ .holds;
+              string = b .0;
+              quoted = b .1;
+            }
+
+-- ---- parentheses
+
+module _ (W : Words) (t : List ℕ) (c d : Cursor) (n : ℕ) (o : List ℕ) (depth : ℕ) (w : Follows t c d) (some-open : c .code ≡ 0 → ⊥) where
+  pub parenthesis-deep : depth ≡ 0 → parenthesised W depth (tokenAt t c) (toksAt t (c .start)) ≡ refused 15 (c .start)
+  parenthesis-deep e = deeper-none (tokenAt t c) W depth (λ p. read >> parenthesis W p) (toksAt t (c .start)) e
+
+  module _ (left : depth ≡ 0 → ⊥) where
+    inside : parenthesised W depth (tokenAt t c) (toksAt t (c .start)) ≡ parenthesis W (primary W (depth - 1)) (toksAt t (d .start))
+    inside = deeper-some (tokenAt t c) W depth (λ p. read >> parenthesis W p) (toksAt t (c .start)) left ∙ read-next w some-open (parenthesis W (primary W (depth - 1)))
+
+    pub parenthesis-refused : (k b : ℕ) → expression (primary W (depth - 1)) (toksAt t (d .start)) ≡ refused k b
+        → parenthesised W depth (tokenAt t c) (toksAt t (c .start)) ≡ refused k b
+    parenthesis-refused k b e = inside ∙ bind-refused (expression (primary W (depth - 1))) _ (toksAt t (d .start)) k b e
+
+    module _ (e : Cursor) (m q : ℕ) (o′ : List ℕ) (r : Reads t (expression (primary W (depth - 1)) (toksAt t (d .start))) n o e m q o′) where
+      closing : parenthesised W depth (tokenAt t c) (toksAt t (c .start)) ≡ (the ")" >> give (r .tree)) (toksAt t (e .start))
+      unfolding _>>=_
+      closing = inside ∙ (rw (r .is))
+
+      pub parenthesis-open : (b : ℕ) → Takes t 41 e (took.Not b) → parenthesised W depth (tokenAt t c) (toksAt t (c .start)) ≡ refused 8 b
+      unfolding code _>>_ _>>=_ the
+      parenthesis-open b g = closing ∙ (rw g)
+
+      pub parenthesis-closed : (f : Cursor) → Takes t 41 e (took.Next f) → Reads t (parenthesised W depth (tokenAt t c) (toksAt t (c .start))) n o f m q o′
+      unfolding give code
+      parenthesis-closed f g =
+          record {
+            tree = r .tree;
+            is = closing ∙ the-next (r .holds) (g .0) (λ z. omega (arith, z, g .1)) ")" (sym (g .1)) (give (r .tree));
+            counts = r .counts;
+            writes = r .writes;
+            holds = g .0 .holds;
+            string = r .string;
+            quoted = r .quoted;
+          }
+
+-- ---- what stands behind a token that was taken
+
+pub follow-ready : (t : List ℕ) (c d : Cursor) (n : ℕ) → (c .code ≡ 0 → ⊥) → Follows t c d → Ready t c n → Ready t d n × Room t d (n + 3)
+follow-ready t c d n some-token w r = ((w .holds, omega (arith, r .1, w .fewer some-token)), omega (arith, r .1, w .fewer some-token))
+
+pub takes-as : (t : List ℕ) (k : ℕ) (c : Cursor) (r r′ : Took) → r ≡ r′ → Takes t k c r → Takes t k c r′
+takes-as t k c r r′ e h = rw e at h
+
+-- the record of a node without fields
+pub put-plain : (o o₃ : List ℕ) (m k w v : ℕ) (x : Node) → x ≡ record { kind = k; nodes = w; parts = v; f1 = 0; f2 = 0; f3 = 0; f4 = 0 } → o₃ ≡ putRow o m (nodeRow x)
+    → o₃ ≡ putRow o m (row k w v unused)
+put-plain o o₃ m k w v x e h = h ∙ ap (λ (y : Node). putRow o m (nodeRow y)) e
+
+-- ---- a primary, by the code of its first token
+
+module _ (W : Words) (t : List ℕ) (c : Cursor) (h : Holds t c) (depth : ℕ) where
+  abbrev P : Out Tree
+  P = primary W depth (toksAt t (c .start))
+
+  pub prim-paren : c .code ≡ 40 → P ≡ parenthesised W depth (tokenAt t c) (toksAt t (c .start))
+  unfolding primaryOver code
+  prim-paren e = rw (primary-is W depth) (peek-is h _ ∙ (rw (ap (eqb 40) e)))
+
+  pub prim-plus-0 : c .code ≡ 8 → depth ≡ 0 → P ≡ refused 15 (c .start)
+  unfolding primaryOver code
+  prim-plus-0 e z = rw (primary-is W depth) (peek-is h _ ∙ (rw (ap (eqb 40) e, ap (eqb 8) e) (deeper-none (tokenAt t c) W depth (λ p. read >> p) (toksAt t (c .start)) z)))
+
+  pub prim-list : c .code ≡ 44 → P ≡ listPostfixed W depth (tokenAt t c) (toksAt t (c .start))
+  unfolding primaryOver code
+  prim-list e = rw (primary-is W depth) (peek-is h _ ∙ (rw (ap (eqb 40) e, ap (eqb 8) e, ap (eqb 9) e, ap (eqb 44) e)))
+
+  pub prim-pays : c .code ≡ 36 → P ≡ pays W (inner W depth) (toksAt t (c .start))
+  unfolding primaryOver code
+  prim-pays e =
+      rw (primary-is W depth)
+      (peek-is h _ ∙ (rw (ap (eqb 40) e, ap (eqb 8) e, ap (eqb 9) e, ap (eqb 44) e, ap (eqb 2) e, ap (eqb 3) e, ap (eqb 4) e, ap (eqb 5) e, ap (eqb 36) e)))
+
+  pub prim-atom : (c .code ≡ 40 → ⊥) → (c .code ≡ 8 → ⊥) → (c .code ≡ 9 → ⊥) → (c .code ≡ 44 → ⊥) → (c .code ≡ 36 → ⊥) → (c .code ≡ 1 → ⊥)
+      → P ≡ atom (toksAt t (c .start))
+  unfolding primaryOver code atom
+  prim-atom a b d e f g =
+      rw (primary-is W depth)
+      (peek-is h _
+      ∙ (rw (
+        ne-eqb 40 (c .code) (λ z. a (sym z)),
+        ne-eqb 8 (c .code) (λ z. b (sym z)),
+        ne-eqb 9 (c .code) (λ z. d (sym z)),
+        ne-eqb 44 (c .code) (λ z. e (sym z)),
+        ne-eqb 36 (c .code) (λ z. f (sym z)),
+        ne-eqb 1 (c .code) (λ z. g (sym z)),
+      ) (sym (peek-is h _))))
+
+  -- the cursor d behind it
+  module _ (d : Cursor) (w : Follows t c d) where
+    pub prim-plus : c .code ≡ 8 → (depth ≡ 0 → ⊥) → P ≡ primary W (depth - 1) (toksAt t (d .start))
+    unfolding primaryOver code
+    prim-plus e z =
+        rw (primary-is W depth)
+        (peek-is h _
+        ∙ (rw (ap (eqb 40) e, ap (eqb 8) e) (deeper-some (tokenAt t c) W depth (λ p. read >> p) (toksAt t (c .start)) z
+        ∙ read-next w (λ y. omega (arith, y, e)) (primary W (depth - 1)))))
+
+    pub prim-name : c .code ≡ 1 → P ≡ name W (inner W depth) (tokenAt t c) (toksAt t (d .start))
+    unfolding primaryOver code
+    prim-name e =
+        rw (primary-is W depth)
+        (peek-is h _
+        ∙ (rw (ap (eqb 40) e, ap (eqb 8) e, ap (eqb 9) e, ap (eqb 44) e, ap (eqb 2) e, ap (eqb 3) e, ap (eqb 4) e, ap (eqb 5) e, ap (eqb 36) e, ap (eqb 1) e)
+        (the-next h w (λ y. omega (arith, y, e)) "name" (sym e) (name W (inner W depth) (tokenAt t c)))))
+
+    minus-is : c .code ≡ 9 → P ≡ minus W (inner W depth) (tokenAt t c) (toksAt t (d .start))
+    unfolding primaryOver code
+    minus-is e =
+        rw (primary-is W depth)
+        (peek-is h _ ∙ (rw (ap (eqb 40) e, ap (eqb 8) e, ap (eqb 9) e) (read-next w (λ y. omega (arith, y, e)) (minus W (inner W depth) (tokenAt t c)))))
+
+    pub prim-minus-number : c .code ≡ 9 → d .code ≡ 2 → P ≡ literal true (toksAt t (d .start))
+    unfolding minus code
+    prim-minus-number e f = minus-is e ∙ (peek-is (w .holds) _ ∙ (rw (ap (eqb 2) f) (sym (peek-is (w .holds) _))))
+
+    pub prim-minus-0 : c .code ≡ 9 → (d .code ≡ 2 → ⊥) → depth ≡ 0 → P ≡ refused 15 (c .start)
+    unfolding minus code
+    prim-minus-0 e f z =
+        minus-is e ∙ (peek-is (w .holds) _ ∙ (rw (ne-eqb 2 (d .code) (λ y. f (sym y))) (deeper-none (tokenAt t c) W depth (negative W) (toksAt t (d .start)) z)))
+
+    pub prim-minus : c .code ≡ 9 → (d .code ≡ 2 → ⊥) → (depth ≡ 0 → ⊥) → P ≡ negative W (primary W (depth - 1)) (toksAt t (d .start))
+    unfolding minus code
+    prim-minus e f z =
+        minus-is e ∙ (peek-is (w .holds) _ ∙ (rw (ne-eqb 2 (d .code) (λ y. f (sym y))) (deeper-some (tokenAt t c) W depth (negative W) (toksAt t (d .start)) z)))
+
+-- a negation: what was read, and the record behind it
+pub negate-reads : (W : Words) (p : Reader Tree) (t : List ℕ) (ts : List Token) (n : ℕ) (o : List ℕ) (e : Cursor) (m q : ℕ) (o₁ o₂ : List ℕ) → Reads t (p ts) n o e m q o₁
+    → o₂ ≡ putRow o₁ m (row 7 (m - n + 1) 1 unused) → Reads t (negative W p ts) n o e (m + 1) 0 o₂
+unfolding _>>=_ give
+negate-reads W p t ts n o e m q o₁ o₂ r w =
+    record {
+      tree = node 7 [] unused (r .tree ▹ nil);
+      is = rw (r .is);
+      counts = omega (arith, size-one 7 [] unused (r .tree), r .counts);
+      writes = after-one o n 7 [] unused (r .tree) (r .counts) (r .writes) (omega (arith, r .counts)) w;
+      holds = r .holds;
+      string = refl;
+      quoted = λ z. absurd (omega arith);
+    }

@@ -1,0 +1,114 @@
+use native.Mathlib.Omega.{arith}
+use lib.ListN.{length-set}
+use borrow.Author.Tests.{lt-ltb, le-ltb}
+use mathlib.Core.Path.{sym}
+use Rattle.reading.specs.Rows.{putRow}
+use Rattle.reading.proofs.RowLaws.{put-seven}
+use borrow.Author.Needs.{needs}
+use Rattle.reading.proofs.records.put.Statement.{statement}
+use Rattle.reading.proofs.records.put.Tie as tie
+use Rattle.reading.proofs.records.put.Reads as reads
+use Rattle.reading.proofs.records.put.Lts as lts
+
+mul-at : tie.Need-mul-at
+mul-at c = search needs
+
+mul-out : tie.Need-mul-out
+mul-out c = search needs
+
+slice-write-out : tie.Need-slice-write-out
+slice-write-out c = search needs
+
+add-out : tie.Need-add-out
+add-out c = search needs
+
+mul-out-2 : tie.Need-mul-out-2
+mul-out-2 c = search needs
+
+slice-write-out-2 : tie.Need-slice-write-out-2
+slice-write-out-2 c = simp length-set (omega arith)
+
+add-out-2 : tie.Need-add-out-2
+add-out-2 c = search needs
+
+mul-out-3 : tie.Need-mul-out-3
+mul-out-3 c = search needs
+
+slice-write-out-3 : tie.Need-slice-write-out-3
+slice-write-out-3 c = simp length-set (omega arith)
+
+add-out-3 : tie.Need-add-out-3
+add-out-3 c = search needs
+
+mul-out-4 : tie.Need-mul-out-4
+mul-out-4 c = search needs
+
+slice-write-out-4 : tie.Need-slice-write-out-4
+slice-write-out-4 c = simp length-set (omega arith)
+
+add-out-4 : tie.Need-add-out-4
+add-out-4 c = search needs
+
+mul-out-5 : tie.Need-mul-out-5
+mul-out-5 c = search needs
+
+slice-write-out-5 : tie.Need-slice-write-out-5
+slice-write-out-5 c = simp length-set (omega arith)
+
+add-out-5 : tie.Need-add-out-5
+add-out-5 c = search needs
+
+mul-out-6 : tie.Need-mul-out-6
+mul-out-6 c = search needs
+
+slice-write-out-6 : tie.Need-slice-write-out-6
+slice-write-out-6 c = simp length-set (omega arith)
+
+add-out-6 : tie.Need-add-out-6
+add-out-6 c = search needs
+
+mul-out-7 : tie.Need-mul-out-7
+mul-out-7 c = search needs
+
+slice-write-out-7 : tie.Need-slice-write-out-7
+slice-write-out-7 c = simp length-set (omega arith)
+
+same-length : tie.Need-same-length
+same-length c = search needs
+
+returns : tie.Need-returns
+unfolding putRow
+returns c = rw (lt-ltb _ _ (c .if1 .taken)) (sym (put-seven _ _ _ _ _ _ _ _ _))
+
+returns-2 : tie.Need-returns-2
+unfolding putRow
+returns-2 c = rw (le-ltb _ _ (c .if1 .left))
+
+pub put-spec : {M : Type 1} → statement M
+put-spec =
+    tie.close
+    (tie.spec
+    mul-at
+    mul-out
+    slice-write-out
+    add-out
+    mul-out-2
+    slice-write-out-2
+    add-out-2
+    mul-out-3
+    slice-write-out-3
+    add-out-3
+    mul-out-4
+    slice-write-out-4
+    add-out-4
+    mul-out-5
+    slice-write-out-5
+    add-out-5
+    mul-out-6
+    slice-write-out-6
+    add-out-6
+    mul-out-7
+    slice-write-out-7
+    same-length
+    returns
+    returns-2)

@@ -1,0 +1,192 @@
+-- The readers of the code inside an expression: what is one deeper, parts of a list, postfixes.
+use mathlib.Core.Path.{_≡_}
+use mathlib.Core.Bool.{Bool, true, false, _||_, not}
+use mathlib.Core.List.{List, [], _∷_}
+use mathlib.Core.Logic.{_⊎_}
+use mathlib.Core.Option.{Option, none, some}
+use Prim.Native.Nat.{ℕ, zero, suc, _+_, _≤_}
+use lib.Dec.{eqb}
+use lib.ListN.{length, take, drop}
+use Rattle.tokens.specs.Text.{if_then_else_, within, leading, other}
+use Rattle.tokens.specs.Names.{member}
+use Rattle.tokens.specs.Dates.{date}
+use Rattle.tokens.specs.Tokens.{Token}
+use Rattle.tokens.specs.declared.cursor.Cursor.{Cursor}
+use Rattle.reading.specs.Trees.{Tree, Trees, node, nil, _▹_, snoc, size, sizes, parts}
+use Rattle.reading.specs.Readers.{Out, ok, refused, Reader, _>>=_, _>>_, Turn, again, done, loop, is, give, fail, ask, peek, read, the}
+use Rattle.reading.specs.Grammar.{Words, expression, primary, strings, text, spot, df, rateIndex, deeper, parenthesis, listed, postfixes}
+use Rattle.reading.specs.Rows.{rows, rowsOf, putRows}
+use Rattle.reading.specs.Calls.{rightCount}
+use Rattle.reading.specs.Meets.{toksAt, Holds, stringAt, Quoted}
+use Rattle.reading.specs.declared.answers.Read.{Read}
+use Rattle.reading.specs.declared.answers.Read.the-variants as answer
+use Rattle.reading.specs.declared.answers.Took.{Took}
+use Rattle.reading.specs.declared.answers.Took.the-variants as took
+use Rattle.reading.specs.declared.answers.Texts.{Texts}
+use Rattle.reading.specs.declared.answers.Items.{Items}
+use Rattle.reading.specs.declared.answers.Items.the-variants as part
+
+-- what can be read one deeper, with d left
+unfoldable pub inner : Words → ℕ → Option (Reader Tree)
+inner W zero = none
+inner W (suc d) = some (primary W d)
+
+-- an expression in parentheses, whose `(` is the token u
+abbrev pub parenthesised : Words → ℕ → Token → Reader Tree
+parenthesised W d u = deeper u (inner W d) (λ p. read >> parenthesis W p)
+
+-- a list with postfixes, whose `[` is the token u
+abbrev pub listPostfixed : Words → ℕ → Token → Reader Tree
+listPostfixed W d u = deeper u (inner W d) (λ p. read >> listed W p) >>= postfixes (inner W d)
+
+-- ---- signs by their numbers
+
+-- `and`, `or`
+abbrev pub jointSign : ℕ → Bool
+jointSign k = eqb 19 k || eqb 20 k
+
+-- `==` `!=` `>` `<` `>=` `<=`
+abbrev pub comparator : ℕ → Bool
+comparator k = within 13 18 k
+
+abbrev pub sumSign : ℕ → Bool
+sumSign k = eqb 8 k || eqb 9 k
+
+abbrev pub productSign : ℕ → Bool
+productSign k = eqb 10 k || eqb 11 k
+
+abbrev pub powerSign : ℕ → Bool
+powerSign k = eqb 12 k
+
+-- `.`, `[`
+abbrev pub postfixSign : ℕ → Bool
+postfixSign k = eqb 47 k || eqb 44 k
+
+-- `;`, `)`, `on`, `in`, the end
+abbrev pub paysStop : ℕ → Bool
+paysStop k = eqb 48 k || eqb 41 k || eqb 50 k || eqb 51 k || eqb 0 k
+
+-- ---- parts of a list
+
+-- `)` or `]`
+abbrev pub Closing : ℕ → Type 0
+Closing k = (k ≡ 41) ⊎ (k ≡ 45)
+
+-- what follows an expression of a list: a comma, which is read, or the closing sign
+abbrev pub itemEnd : ℕ → Trees → Reader (Turn Trees Trees)
+itemEnd k es = do
+  t ← peek
+  if is "," t then (do the ","; give (again es))
+      else if eqb k (t .kind) then give (again es) else fail 8
+
+-- `itemTurn` and `items` with the closing sign's number
+abbrev pub itemTurnBy : ℕ → Reader Tree → Trees → Reader (Turn Trees Trees)
+itemTurnBy k p es = ask (λ t. eqb k (t .kind)) (give (done es)) (do e ← expression p; itemEnd k (snoc es e))
+
+unfoldable pub itemsBy : ℕ → Reader Tree → Reader Trees
+itemsBy k p = loop (itemTurnBy k p) nil
+
+abbrev pub FollowsItem : List ℕ → ℕ → Cursor → Took → Type 0
+FollowsItem t k c (took.Next d) = Holds t d × ((es : Trees) → itemEnd k es (toksAt t (c .start)) ≡ ok (again es) (toksAt t (d .start)))
+FollowsItem t k c (took.Not b) = (es : Trees) → itemEnd k es (toksAt t (c .start)) ≡ refused 8 b
+
+-- where the string of the i-th part stands
+abbrev pub stringOf : Trees → ℕ → ℕ
+stringOf nil i = 0
+stringOf (t ▹ ts) zero = stringAt t
+stringOf (t ▹ ts) (suc i) = stringOf ts i
+
+abbrev pub AllQuoted : List ℕ → Trees → Type 0
+AllQuoted t nil = Unit {0}
+AllQuoted t (x ▹ xs) = Quoted t x × AllQuoted t xs
+
+-- the strings of the first three parts
+pub record Shown (t : List ℕ) (es : Trees) (x : Texts) : Type 0 where
+  pub first : x .first ≡ stringOf es 0
+  pub second : x .second ≡ stringOf es 1
+  pub third : x .third ≡ stringOf es 2
+  pub quoted : AllQuoted t es
+
+-- they stand inside the text
+abbrev pub Inside : List ℕ → Texts → Type 0
+Inside t x = (x .first ≤ length t) × (x .second ≤ length t) × (x .third ≤ length t)
+
+-- the bytes of the text from a place on, up to the next quote
+abbrev pub contentAt : List ℕ → ℕ → List ℕ
+contentAt t p = take (leading (other 34) (drop p t)) (drop p t)
+
+-- one more part, whose string stands at p, behind n others
+abbrev pub shownBy : Texts → ℕ → ℕ → Texts
+shownBy x n p =
+    record {
+      first = if eqb n 0 then p else x .first;
+      second = if eqb n 1 then p else x .second;
+      third = if eqb n 2 then p else x .third;
+    }
+
+pub record ReadsItems (t : List ℕ) (R : Out Trees) (n : ℕ) (o : List ℕ) (c : Cursor) (m k : ℕ) (x : Texts) (o′ : List ℕ) : Type 0 where
+  pub items : Trees
+  pub is : R ≡ ok items (toksAt t (c .start))
+  pub counts : m ≡ n + sizes items
+  pub parts-are : k ≡ parts items
+  pub writes : o′ ≡ putRows o n (rowsOf items)
+  pub holds : Holds t c
+  pub shown : Shown t items x
+
+abbrev pub MeetsItems : List ℕ → Out Trees → ℕ → List ℕ → Items → List ℕ → Type 0
+MeetsItems t R n o (part.Done c m k x) o′ = ReadsItems t R n o c m k x o′
+MeetsItems t R n o (part.Refused k b) o′ = R ≡ refused k b
+
+-- the closing sign stands behind the parts
+abbrev pub Closed : ℕ → Items → Type 0
+Closed close (part.Done c m k x) = c .code ≡ close
+Closed close (part.Refused k b) = Unit {0}
+
+-- a refusal of one kind as one of the other
+abbrev pub refusalOf : Items → Read
+refusalOf (part.Done c m k x) = answer.Refused 8 0
+refusalOf (part.Refused k b) = answer.Refused k b
+
+abbrev pub itemsRefusal : Read → Items
+itemsRefusal (answer.Done c m p) = part.Refused 8 0
+itemsRefusal (answer.Refused k b) = part.Refused k b
+
+-- ---- what a call's arguments are refused for: 0 where they are taken
+
+abbrev pub cvgFault : List (List ℕ) → Trees → ℕ
+cvgFault counters es =
+    if not (strings es) then 14
+    else if eqb (date (text es 0)) 0 || eqb (date (text es 1)) 0 then 11
+    else if member counters (text es 2) then 0
+    else 13
+
+abbrev pub callFault : List (List ℕ) → ℕ → Trees → ℕ
+callFault counters k es =
+    if not (rightCount k (parts es)) then 10
+    else if eqb k 25 then cvgFault counters es
+    else 0
+
+-- Spot, Df, RateIndex
+abbrev pub specialOf : Words → ℕ → Reader Tree
+specialOf W k = if eqb k 32 then spot W else if eqb k 34 then df else rateIndex
+
+-- ---- postfixes
+
+abbrev pub Unquoted : Tree → Type 0
+Unquoted (node k x f ts) = k ≡ 5 → ⊥
+
+-- the records from n to m are those of the tree x, which is no String node
+pub record Tops (n : ℕ) (o : List ℕ) (x : Tree) (m : ℕ) (o′ : List ℕ) : Type 0 where
+  pub counts : m ≡ n + size x
+  pub writes : o′ ≡ putRows o n (rows x)
+  pub unquoted : Unquoted x
+
+pub record ReadsTurn (t : List ℕ) (R : Out (Turn Tree Tree)) (n : ℕ) (o : List ℕ) (c : Cursor) (m : ℕ) (o′ : List ℕ) : Type 0 where
+  pub tree : Tree
+  pub is : R ≡ ok (again tree) (toksAt t (c .start))
+  pub tops : Tops n o tree m o′
+  pub holds : Holds t c
+
+abbrev pub MeetsTurn : List ℕ → Out (Turn Tree Tree) → ℕ → List ℕ → Read → List ℕ → Type 0
+MeetsTurn t R n o (answer.Done c m p) o′ = ReadsTurn t R n o c m o′
+MeetsTurn t R n o (answer.Refused k b) o′ = R ≡ refused k b

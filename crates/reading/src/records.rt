@@ -1,0 +1,50 @@
+// Records in lent memory.
+ghost use mathlib.Core.Path.{_≡_};
+ghost use Rattle.reading.specs.Rows.{nodeRow, putRow};
+
+// The words of a record: kind, nodes in subtree, direct parts, f1 to f4.
+pub struct Node {
+    pub kind: u32,
+    pub nodes: u32,
+    pub parts: u32,
+    pub f1: u32,
+    pub f2: u32,
+    pub f3: u32,
+    pub f4: u32,
+}
+
+impl Node {
+    pub const WIDTH: usize = 7;
+}
+
+// A node without fields.
+pub fn plain(kind: u8, nodes: u32, parts: u32) -> Node
+    ensures { λ r. ⌜ r ≡ record { kind = kind; nodes = nodes; parts = parts; f1 = 0; f2 = 0; f3 = 0; f4 = 0 } ⌝ }
+{
+    Node {
+        kind: kind as u32,
+        nodes,
+        parts,
+        f1: 0,
+        f2: 0,
+        f3: 0,
+        f4: 0,
+    }
+}
+
+// Writes the record n, where it fits whole.
+pub fn put(out: &mut [u32], n: u32, node: Node)
+    ensures { λ _. ⌜ now (out .exit) ≡ putRow (now (out .entry)) n (nodeRow node) ⌝ }
+{
+    let k = n as usize;
+    if k < out.len() / Node::WIDTH {
+        let at = Node::WIDTH * k;
+        out[at] = node.kind;
+        out[at + 1] = node.nodes;
+        out[at + 2] = node.parts;
+        out[at + 3] = node.f1;
+        out[at + 4] = node.f2;
+        out[at + 5] = node.f3;
+        out[at + 6] = node.f4;
+    }
+}
