@@ -23,3 +23,5 @@ pub mod SignLaws
 pub mod CallLaws
 pub mod AtomLaws
 pub mod CallingLaws
+pub mod ItemLaws
+pub mod PostfixLaws

@@ -4,7 +4,7 @@ use mathlib.Core.Bool.{Bool, true, false, _||_, not}
 use mathlib.Core.List.{List, [], _∷_}
 use mathlib.Core.Logic.{_⊎_}
 use mathlib.Core.Option.{Option, none, some}
-use Prim.Native.Nat.{ℕ, zero, suc, _+_, _≤_}
+use Prim.Native.Nat.{ℕ, zero, suc, _+_, _≤_, _<_}
 use lib.Dec.{eqb}
 use lib.ListN.{length, take, drop}
 use Rattle.tokens.specs.Text.{if_then_else_, within, leading, other}
@@ -17,7 +17,7 @@ use Rattle.reading.specs.Readers.{Out, ok, refused, Reader, _>>=_, _>>_,
 use Rattle.reading.specs.Grammar.{Words, expression, primary, strings, text, spot, df, rateIndex, deeper, parenthesis, listed, postfixes}
 use Rattle.reading.specs.Rows.{rows, rowsOf, putRows}
 use Rattle.reading.specs.Calls.{rightCount}
-use Rattle.reading.specs.Meets.{toksAt, Holds, stringAt, Quoted}
+use Rattle.reading.specs.Meets.{toksAt, Holds, Ready, stringAt, Quoted}
 use Rattle.reading.specs.declared.answers.Read.{Read}
 use Rattle.reading.specs.declared.answers.Read.the-variants as answer
 use Rattle.reading.specs.declared.answers.Took.{Took}
@@ -190,3 +190,12 @@ pub record ReadsTurn (t : List ℕ) (R : Out (Turn Tree Tree)) (n : ℕ) (o : Li
 abbrev pub MeetsTurn : List ℕ → Out (Turn Tree Tree) → ℕ → List ℕ → Read → List ℕ → Type 0
 MeetsTurn t R n o (answer.Done c m p) o′ = ReadsTurn t R n o c m o′
 MeetsTurn t R n o (answer.Refused k b) o′ = R ≡ refused k b
+
+-- whatever tree stood before: there is room behind the turn, which has read a token at least
+abbrev pub Onward : List ℕ → Cursor → ℕ → Read → Type 0
+Onward t c n (answer.Done d m p) = Ready t d m × (n < m) × (length (toksAt t (d .start)) < length (toksAt t (c .start)))
+Onward t c n (answer.Refused k b) = Unit {0}
+
+-- a turn over every tree x whose records are those from n to m
+abbrev pub MeetsTurns : List ℕ → (Tree → Out (Turn Tree Tree)) → ℕ → ℕ → List ℕ → Cursor → Read → List ℕ → Type 0
+MeetsTurns t R n m o₁ c r o₂ = ((x : Tree) (o : List ℕ) → Tops n o x m o₁ → MeetsTurn t (R x) n o r o₂) × Onward t c n r

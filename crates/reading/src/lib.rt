@@ -3,5 +3,6 @@ mod answers;
 mod atoms;
 mod calling;
 mod calls;
+mod expressions;
 mod records;
 mod signs;

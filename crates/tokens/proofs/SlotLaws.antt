@@ -16,7 +16,7 @@ use Rattle.tokens.proofs.NameLaws.{Cut, cut-first, cut-all, cut-take, c
 
 -- ---- the slot of a name
 module _ (s : List ℕ) (i h : ℕ) where
-  pub slot-turn : i < length s → slotFrom ((h * 31 + getD s i 0) % 2048) (drop (i + 1) s) ≡ slotFrom h (drop i s)
+  pub slot-turn : i < length s → slotFrom ((h * 37 + getD s i 0) % 2048) (drop (i + 1) s) ≡ slotFrom h (drop i s)
   unfolding slotFrom
   slot-turn l = rw (add-one, drop-cons s i 0 l)
 

@@ -7,7 +7,7 @@ use Rattle.tokens.specs.Names.{member}
 -- the slot of a name, h of the bytes before
 unfoldable pub slotFrom : ℕ → List ℕ → ℕ
 slotFrom h [] = h
-slotFrom h (b ∷ bs) = slotFrom ((h * 31 + b) % 2048) bs
+slotFrom h (b ∷ bs) = slotFrom ((h * 37 + b) % 2048) bs
 
 abbrev pub slotOf : List ℕ → ℕ
 slotOf n = slotFrom 0 n

@@ -72,7 +72,7 @@ fn slot_of(name: &[u8]) -> usize
     let mut h: usize = 0;
     let mut i: usize = 0;
     while i < name.len() {
-        h = (h * 31 + name[i] as usize) % 2048;
+        h = (h * 37 + name[i] as usize) % 2048;
         i += 1;
     }
     h

@@ -1,0 +1,629 @@
+// Expressions: one reader for each rule. They call each other through parentheses, lists, arguments and index, with the
+// depth that is left as the falling number.
+use crate::answers::Items;
+use crate::answers::Read;
+use crate::answers::Texts;
+use crate::answers::Took;
+use crate::atoms::atom_at;
+use crate::atoms::constant_at;
+use crate::atoms::next;
+use crate::atoms::take;
+use crate::atoms::variable_at;
+use crate::calling::call_fault;
+use crate::calling::follow;
+use crate::calling::payday_at;
+use crate::calling::refusal;
+use crate::calling::refused;
+use crate::calling::shown;
+use crate::calling::special;
+use crate::calls::call_of;
+use crate::calls::method_of;
+use crate::records::plain;
+use crate::records::put;
+use crate::signs::is_comparator;
+use crate::signs::is_joint;
+use crate::signs::is_postfix;
+use crate::signs::is_power;
+use crate::signs::is_product;
+use crate::signs::is_sum;
+use crate::signs::stops_pays;
+use tokens::codes::CLOSE_BRACKET;
+use tokens::codes::CLOSE_PAREN;
+use tokens::codes::DOT;
+use tokens::codes::MINUS;
+use tokens::codes::NAME;
+use tokens::codes::NUMBER;
+use tokens::codes::OPEN_BRACKET;
+use tokens::codes::OPEN_PAREN;
+use tokens::codes::PAYS;
+use tokens::codes::PLUS;
+use tokens::cursor::Cursor;
+ghost use mathlib.Core.Path.{_≡_};
+ghost use mathlib.Core.Bool.{true};
+ghost use mathlib.Core.List.{List};
+ghost use Prim.Native.Nat.{ℕ, _≤_, _<_};
+ghost use Rattle.reading.specs.Trees.{Tree};
+ghost use Rattle.reading.specs.Grammar.{power, product, sum, comparison, expression, arguments, methodOf, indexOf, postfixTurn, postfixes, calls, callOf, call, name, pays, primary};
+ghost use Rattle.reading.specs.Calls.{callKind};
+ghost use Rattle.reading.specs.Meets.{wordsIn, toksAt, tokenAt, Holds, Ready, Few, Follows, Meets};
+ghost use Rattle.reading.specs.Turns.{inner, parenthesised, listPostfixed, itemsBy, Closing, Closed, MeetsItems, Tops, MeetsTurns, postfixSign};
+
+// Comparisons joined by `and` and `or`, one level, left to right.
+pub fn expression(
+    s: &[u8],
+    reserved: &[u8],
+    currencies: &[u8],
+    counters: &[u8],
+    c: Cursor,
+    depth: u32,
+    out: &mut [u32],
+    n: u32,
+) -> Read
+    requires { ⌜ Ready (now s) c n × Few (now currencies) ⌝ }
+    ensures { λ r. ⌜ Meets (now (s .entry)) (expression (primary (wordsIn (now (reserved .entry)) (now (currencies .entry)) (now (counters .entry))) depth) (toksAt (now (s .entry)) (c .start))) n (now (out .entry)) r (now (out .exit)) ⌝ }
+{
+    let r = comparison(s, reserved, currencies, counters, c, depth, out, n);
+    let Read::Done(c1, n1, p1) = r else {
+        return r;
+    };
+    let mut at = c1;
+    let mut m = n1;
+    let mut p = p1;
+    loop {
+        let code = at.code;
+        if !is_joint(code) {
+            return Read::Done(at, m, p);
+        }
+        let d = next(s, at);
+        let q = comparison(s, reserved, currencies, counters, d, depth, out, m);
+        let Read::Done(c2, n2, _) = q else {
+            return q;
+        };
+        put(out, n2, plain(code, n2 - n + 1, 2));
+        at = c2;
+        m = n2 + 1;
+        p = 0;
+    }
+}
+
+// A comparison has at most one comparator between sums.
+fn comparison(
+    s: &[u8],
+    reserved: &[u8],
+    currencies: &[u8],
+    counters: &[u8],
+    c: Cursor,
+    depth: u32,
+    out: &mut [u32],
+    n: u32,
+) -> Read
+    requires { ⌜ Ready (now s) c n × Few (now currencies) ⌝ }
+    ensures { λ r. ⌜ Meets (now (s .entry)) (comparison (primary (wordsIn (now (reserved .entry)) (now (currencies .entry)) (now (counters .entry))) depth) (toksAt (now (s .entry)) (c .start))) n (now (out .entry)) r (now (out .exit)) ⌝ }
+{
+    let r = sum(s, reserved, currencies, counters, c, depth, out, n);
+    let Read::Done(c1, n1, p1) = r else {
+        return r;
+    };
+    let code = c1.code;
+    if !is_comparator(code) {
+        return Read::Done(c1, n1, p1);
+    }
+    let d = next(s, c1);
+    let q = sum(s, reserved, currencies, counters, d, depth, out, n1);
+    let Read::Done(c2, n2, _) = q else {
+        return q;
+    };
+    put(out, n2, plain(code, n2 - n + 1, 2));
+    Read::Done(c2, n2 + 1, 0)
+}
+
+// Products joined by `+` and `-`.
+fn sum(
+    s: &[u8],
+    reserved: &[u8],
+    currencies: &[u8],
+    counters: &[u8],
+    c: Cursor,
+    depth: u32,
+    out: &mut [u32],
+    n: u32,
+) -> Read
+    requires { ⌜ Ready (now s) c n × Few (now currencies) ⌝ }
+    ensures { λ r. ⌜ Meets (now (s .entry)) (sum (primary (wordsIn (now (reserved .entry)) (now (currencies .entry)) (now (counters .entry))) depth) (toksAt (now (s .entry)) (c .start))) n (now (out .entry)) r (now (out .exit)) ⌝ }
+{
+    let r = product(s, reserved, currencies, counters, c, depth, out, n);
+    let Read::Done(c1, n1, p1) = r else {
+        return r;
+    };
+    let mut at = c1;
+    let mut m = n1;
+    let mut p = p1;
+    loop {
+        let code = at.code;
+        if !is_sum(code) {
+            return Read::Done(at, m, p);
+        }
+        let d = next(s, at);
+        let q = product(s, reserved, currencies, counters, d, depth, out, m);
+        let Read::Done(c2, n2, _) = q else {
+            return q;
+        };
+        put(out, n2, plain(code, n2 - n + 1, 2));
+        at = c2;
+        m = n2 + 1;
+        p = 0;
+    }
+}
+
+// Powers joined by `*` and `/`.
+fn product(
+    s: &[u8],
+    reserved: &[u8],
+    currencies: &[u8],
+    counters: &[u8],
+    c: Cursor,
+    depth: u32,
+    out: &mut [u32],
+    n: u32,
+) -> Read
+    requires { ⌜ Ready (now s) c n × Few (now currencies) ⌝ }
+    ensures { λ r. ⌜ Meets (now (s .entry)) (product (primary (wordsIn (now (reserved .entry)) (now (currencies .entry)) (now (counters .entry))) depth) (toksAt (now (s .entry)) (c .start))) n (now (out .entry)) r (now (out .exit)) ⌝ }
+{
+    let r = power(s, reserved, currencies, counters, c, depth, out, n);
+    let Read::Done(c1, n1, p1) = r else {
+        return r;
+    };
+    let mut at = c1;
+    let mut m = n1;
+    let mut p = p1;
+    loop {
+        let code = at.code;
+        if !is_product(code) {
+            return Read::Done(at, m, p);
+        }
+        let d = next(s, at);
+        let q = power(s, reserved, currencies, counters, d, depth, out, m);
+        let Read::Done(c2, n2, _) = q else {
+            return q;
+        };
+        put(out, n2, plain(code, n2 - n + 1, 2));
+        at = c2;
+        m = n2 + 1;
+        p = 0;
+    }
+}
+
+// Primaries joined by `**`.
+fn power(
+    s: &[u8],
+    reserved: &[u8],
+    currencies: &[u8],
+    counters: &[u8],
+    c: Cursor,
+    depth: u32,
+    out: &mut [u32],
+    n: u32,
+) -> Read
+    requires { ⌜ Ready (now s) c n × Few (now currencies) ⌝ }
+    ensures { λ r. ⌜ Meets (now (s .entry)) (power (primary (wordsIn (now (reserved .entry)) (now (currencies .entry)) (now (counters .entry))) depth) (toksAt (now (s .entry)) (c .start))) n (now (out .entry)) r (now (out .exit)) ⌝ }
+{
+    let r = primary(s, reserved, currencies, counters, c, depth, out, n);
+    let Read::Done(c1, n1, p1) = r else {
+        return r;
+    };
+    let mut at = c1;
+    let mut m = n1;
+    let mut p = p1;
+    loop {
+        let code = at.code;
+        if !is_power(code) {
+            return Read::Done(at, m, p);
+        }
+        let d = next(s, at);
+        let q = primary(s, reserved, currencies, counters, d, depth, out, m);
+        let Read::Done(c2, n2, _) = q else {
+            return q;
+        };
+        put(out, n2, plain(code, n2 - n + 1, 2));
+        at = c2;
+        m = n2 + 1;
+        p = 0;
+    }
+}
+
+// A primary. A unary sign calls primary again.
+fn primary(
+    s: &[u8],
+    reserved: &[u8],
+    currencies: &[u8],
+    counters: &[u8],
+    c: Cursor,
+    depth: u32,
+    out: &mut [u32],
+    n: u32,
+) -> Read
+    requires { ⌜ Ready (now s) c n × Few (now currencies) ⌝ }
+    ensures { λ r. ⌜ Meets (now (s .entry)) (primary (wordsIn (now (reserved .entry)) (now (currencies .entry)) (now (counters .entry))) depth (toksAt (now (s .entry)) (c .start))) n (now (out .entry)) r (now (out .exit)) ⌝ }
+{
+    let d = next(s, c);
+    let code = c.code;
+    match code {
+        OPEN_PAREN => parenthesis(s, reserved, currencies, counters, c, d, depth, out, n),
+        PLUS => {
+            if depth == 0 {
+                return Read::Refused(15, c.start);
+            }
+            primary(s, reserved, currencies, counters, d, depth - 1, out, n)
+        }
+        MINUS => {
+            if d.code == NUMBER {
+                return constant_at(s, d, true, out, n);
+            }
+            if depth == 0 {
+                return Read::Refused(15, c.start);
+            }
+            let r = primary(s, reserved, currencies, counters, d, depth - 1, out, n);
+            let Read::Done(e, m, _) = r else {
+                return r;
+            };
+            put(out, m, plain(7, m - n + 1, 1));
+            Read::Done(e, m + 1, 0)
+        }
+        OPEN_BRACKET => list(s, reserved, currencies, counters, c, d, depth, out, n),
+        PAYS => pays(s, reserved, currencies, counters, c, d, depth, out, n),
+        NAME => name(s, reserved, currencies, counters, c, d, depth, out, n),
+        _ => atom_at(s, c, out, n),
+    }
+}
+
+// An expression in parentheses; d stands behind the opening one, at c.
+fn parenthesis(
+    s: &[u8],
+    reserved: &[u8],
+    currencies: &[u8],
+    counters: &[u8],
+    c: Cursor,
+    d: Cursor,
+    depth: u32,
+    out: &mut [u32],
+    n: u32,
+) -> Read
+    requires { ⌜ Ready (now s) c n × Follows (now s) c d × (c .code ≡ 40) × Few (now currencies) ⌝ }
+    ensures { λ r. ⌜ Meets (now (s .entry)) (parenthesised (wordsIn (now (reserved .entry)) (now (currencies .entry)) (now (counters .entry))) depth (tokenAt (now (s .entry)) c) (toksAt (now (s .entry)) (c .start))) n (now (out .entry)) r (now (out .exit)) ⌝ }
+{
+    if depth == 0 {
+        return Read::Refused(15, c.start);
+    }
+    let r = expression(s, reserved, currencies, counters, d, depth - 1, out, n);
+    let Read::Done(e, m, p) = r else {
+        return r;
+    };
+    match take(s, e, CLOSE_PAREN) {
+        Took::Not(b) => Read::Refused(8, b),
+        Took::Next(f) => Read::Done(f, m, p),
+    }
+}
+
+// A list with postfixes; d stands behind its `[`, at c.
+fn list(
+    s: &[u8],
+    reserved: &[u8],
+    currencies: &[u8],
+    counters: &[u8],
+    c: Cursor,
+    d: Cursor,
+    depth: u32,
+    out: &mut [u32],
+    n: u32,
+) -> Read
+    requires { ⌜ Ready (now s) c n × Follows (now s) c d × (c .code ≡ 44) × Few (now currencies) ⌝ }
+    ensures { λ r. ⌜ Meets (now (s .entry)) (listPostfixed (wordsIn (now (reserved .entry)) (now (currencies .entry)) (now (counters .entry))) depth (tokenAt (now (s .entry)) c) (toksAt (now (s .entry)) (c .start))) n (now (out .entry)) r (now (out .exit)) ⌝ }
+{
+    if depth == 0 {
+        return Read::Refused(15, c.start);
+    }
+    let r = items(
+        s,
+        reserved,
+        currencies,
+        counters,
+        d,
+        CLOSE_BRACKET,
+        depth - 1,
+        out,
+        n,
+    );
+    let Items::Done(e, m, count, _) = r else {
+        return refusal(r);
+    };
+    let f = next(s, e);
+    put(out, m, plain(6, m - n + 1, count));
+    postfixes(s, reserved, currencies, counters, f, depth, out, n, m + 1)
+}
+
+// The parts of a pays, its date and its currency; d stands behind the word, at c.
+fn pays(
+    s: &[u8],
+    reserved: &[u8],
+    currencies: &[u8],
+    counters: &[u8],
+    c: Cursor,
+    d: Cursor,
+    depth: u32,
+    out: &mut [u32],
+    n: u32,
+) -> Read
+    requires { ⌜ Ready (now s) c n × Follows (now s) c d × (c .code ≡ 36) × Few (now currencies) ⌝ }
+    ensures { λ r. ⌜ Meets (now (s .entry)) (pays (wordsIn (now (reserved .entry)) (now (currencies .entry)) (now (counters .entry))) (inner (wordsIn (now (reserved .entry)) (now (currencies .entry)) (now (counters .entry))) depth) (toksAt (now (s .entry)) (c .start))) n (now (out .entry)) r (now (out .exit)) ⌝ }
+{
+    if depth == 0 {
+        return Read::Refused(15, c.start);
+    }
+    let mut at = d;
+    let mut m = n;
+    let mut count: u32 = 0;
+    loop {
+        if stops_pays(at.code) {
+            return payday_at(s, currencies, at, out, n, m, count);
+        }
+        let r = expression(s, reserved, currencies, counters, at, depth - 1, out, m);
+        let Read::Done(e, k, _) = r else {
+            return r;
+        };
+        at = e;
+        m = k;
+        count += 1;
+    }
+}
+
+// A call or a variable with postfixes: the name stands at c, and d behind it.
+fn name(
+    s: &[u8],
+    reserved: &[u8],
+    currencies: &[u8],
+    counters: &[u8],
+    c: Cursor,
+    d: Cursor,
+    depth: u32,
+    out: &mut [u32],
+    n: u32,
+) -> Read
+    requires { ⌜ Ready (now s) c n × Follows (now s) c d × (c .code ≡ 1) × Few (now currencies) ⌝ }
+    ensures { λ r. ⌜ Meets (now (s .entry)) (name (wordsIn (now (reserved .entry)) (now (currencies .entry)) (now (counters .entry))) (inner (wordsIn (now (reserved .entry)) (now (currencies .entry)) (now (counters .entry))) depth) (tokenAt (now (s .entry)) c) (toksAt (now (s .entry)) (d .start))) n (now (out .entry)) r (now (out .exit)) ⌝ }
+{
+    let a = c.start as usize;
+    let e = c.end as usize;
+    let kind = call_of(&s[a..e]);
+    if kind == 0 {
+        let r = variable_at(s, reserved, c, d, out, n);
+        let Read::Done(f, m, _) = r else {
+            return r;
+        };
+        return postfixes(s, reserved, currencies, counters, f, depth, out, n, m);
+    }
+    if 32 <= kind {
+        return special(s, currencies, kind, d, out, n);
+    }
+    call(s, reserved, currencies, counters, c, d, kind, depth, out, n)
+}
+
+// An ordinary call, whose record has this kind: its name stands at c, and d behind it.
+fn call(
+    s: &[u8],
+    reserved: &[u8],
+    currencies: &[u8],
+    counters: &[u8],
+    c: Cursor,
+    d: Cursor,
+    kind: u8,
+    depth: u32,
+    out: &mut [u32],
+    n: u32,
+) -> Read
+    requires { ⌜ Ready (now s) d n × Holds (now s) c × (c .code ≡ 1) × Few (now currencies) × (kind ≡ callKind (tokenAt (now s) c .text)) × (1 ≤ kind) × (kind < 32) ⌝ }
+    ensures { λ r. ⌜ Meets (now (s .entry)) (call (wordsIn (now (reserved .entry)) (now (currencies .entry)) (now (counters .entry))) (inner (wordsIn (now (reserved .entry)) (now (currencies .entry)) (now (counters .entry))) depth) (tokenAt (now (s .entry)) c) (callOf (tokenAt (now (s .entry)) c .text) calls) (toksAt (now (s .entry)) (d .start))) n (now (out .entry)) r (now (out .exit)) ⌝ }
+{
+    let r = arguments(s, reserved, currencies, counters, d, depth, out, n);
+    let Items::Done(e, m, count, texts) = r else {
+        return refusal(r);
+    };
+    let fault = call_fault(s, counters, kind, count, texts);
+    if fault != 0 {
+        return Read::Refused(fault, c.start);
+    }
+    put(out, m, plain(kind, m - n + 1, count));
+    Read::Done(e, m + 1, 0)
+}
+
+// An argument list and both its parentheses.
+fn arguments(
+    s: &[u8],
+    reserved: &[u8],
+    currencies: &[u8],
+    counters: &[u8],
+    c: Cursor,
+    depth: u32,
+    out: &mut [u32],
+    n: u32,
+) -> Items
+    requires { ⌜ Ready (now s) c n × Few (now currencies) ⌝ }
+    ensures { λ r. ⌜ MeetsItems (now (s .entry)) (arguments (inner (wordsIn (now (reserved .entry)) (now (currencies .entry)) (now (counters .entry))) depth) (toksAt (now (s .entry)) (c .start))) n (now (out .entry)) r (now (out .exit)) ⌝ }
+{
+    if c.code != OPEN_PAREN {
+        return Items::Refused(8, c.start);
+    }
+    if depth == 0 {
+        return Items::Refused(15, c.start);
+    }
+    let d = next(s, c);
+    let r = items(
+        s,
+        reserved,
+        currencies,
+        counters,
+        d,
+        CLOSE_PAREN,
+        depth - 1,
+        out,
+        n,
+    );
+    let Items::Done(e, m, count, texts) = r else {
+        return r;
+    };
+    Items::Done(next(s, e), m, count, texts)
+}
+
+// Expressions with commas between them, up to the closing sign, which is not taken; a comma may trail.
+fn items(
+    s: &[u8],
+    reserved: &[u8],
+    currencies: &[u8],
+    counters: &[u8],
+    c: Cursor,
+    close: u8,
+    depth: u32,
+    out: &mut [u32],
+    n: u32,
+) -> Items
+    requires { ⌜ Ready (now s) c n × Few (now currencies) × Closing close ⌝ }
+    ensures { λ r. ⌜ MeetsItems (now (s .entry)) (itemsBy close (primary (wordsIn (now (reserved .entry)) (now (currencies .entry)) (now (counters .entry))) depth) (toksAt (now (s .entry)) (c .start))) n (now (out .entry)) r (now (out .exit)) × Closed close r ⌝ }
+{
+    let mut at = c;
+    let mut m = n;
+    let mut count: u32 = 0;
+    let mut texts = Texts {
+        first: 0,
+        second: 0,
+        third: 0,
+    };
+    loop {
+        if at.code == close {
+            return Items::Done(at, m, count, texts);
+        }
+        let r = expression(s, reserved, currencies, counters, at, depth, out, m);
+        let Read::Done(e, k, p) = r else {
+            return refused(r);
+        };
+        let Took::Next(f) = follow(s, e, close) else {
+            return Items::Refused(8, e.start);
+        };
+        texts = shown(texts, count, p);
+        at = f;
+        m = k;
+        count += 1;
+    }
+}
+
+// Postfixes of what was read before, whose records are those from n to m.
+fn postfixes(
+    s: &[u8],
+    reserved: &[u8],
+    currencies: &[u8],
+    counters: &[u8],
+    c: Cursor,
+    depth: u32,
+    out: &mut [u32],
+    n: u32,
+    m: u32,
+) -> Read
+    requires { ⌜ Ready (now s) c m × Few (now currencies) × (n < m) ⌝ }
+    ensures { λ r. ⌜ ((x : Tree) (o : List ℕ) → Tops n o x m (now (out .entry)) → Meets (now (s .entry)) (postfixes (inner (wordsIn (now (reserved .entry)) (now (currencies .entry)) (now (counters .entry))) depth) x (toksAt (now (s .entry)) (c .start))) n o r (now (out .exit))) ⌝ }
+{
+    let mut at = c;
+    let mut k = m;
+    loop {
+        let code = at.code;
+        if !is_postfix(code) {
+            return Read::Done(at, k, 0);
+        }
+        let r = postfix(s, reserved, currencies, counters, at, depth, out, n, k);
+        let Read::Done(e, j, _) = r else {
+            return r;
+        };
+        at = e;
+        k = j;
+    }
+}
+
+// One postfix, whose sign stands at c.
+fn postfix(
+    s: &[u8],
+    reserved: &[u8],
+    currencies: &[u8],
+    counters: &[u8],
+    c: Cursor,
+    depth: u32,
+    out: &mut [u32],
+    n: u32,
+    m: u32,
+) -> Read
+    requires { ⌜ Ready (now s) c m × Few (now currencies) × (n < m) × (postfixSign (c .code) ≡ true) ⌝ }
+    ensures { λ r. ⌜ MeetsTurns (now (s .entry)) (λ x. postfixTurn (inner (wordsIn (now (reserved .entry)) (now (currencies .entry)) (now (counters .entry))) depth) x (toksAt (now (s .entry)) (c .start))) n m (now (out .entry)) c r (now (out .exit)) ⌝ }
+{
+    let d = next(s, c);
+    if c.code == DOT {
+        return method(s, reserved, currencies, counters, d, depth, out, n, m);
+    }
+    if depth == 0 {
+        return Read::Refused(15, c.start);
+    }
+    index(s, reserved, currencies, counters, d, depth - 1, out, n, m)
+}
+
+// A method, behind its `.`.
+fn method(
+    s: &[u8],
+    reserved: &[u8],
+    currencies: &[u8],
+    counters: &[u8],
+    c: Cursor,
+    depth: u32,
+    out: &mut [u32],
+    n: u32,
+    m: u32,
+) -> Read
+    requires { ⌜ Ready (now s) c m × Few (now currencies) × (n < m) ⌝ }
+    ensures { λ r. ⌜ MeetsTurns (now (s .entry)) (λ x. methodOf (inner (wordsIn (now (reserved .entry)) (now (currencies .entry)) (now (counters .entry))) depth) x (toksAt (now (s .entry)) (c .start))) n m (now (out .entry)) c r (now (out .exit)) ⌝ }
+{
+    let Took::Next(d) = take(s, c, NAME) else {
+        return Read::Refused(8, c.start);
+    };
+    let r = arguments(s, reserved, currencies, counters, d, depth, out, m);
+    let Items::Done(e, k, count, _) = r else {
+        return refusal(r);
+    };
+    let a = c.start as usize;
+    let b = c.end as usize;
+    let kind = method_of(&s[a..b], count);
+    if kind == 0 {
+        return Read::Refused(10, c.start);
+    }
+    put(out, k, plain(kind, k - n + 1, count + 1));
+    Read::Done(e, k + 1, 0)
+}
+
+// An index, behind its `[`.
+fn index(
+    s: &[u8],
+    reserved: &[u8],
+    currencies: &[u8],
+    counters: &[u8],
+    c: Cursor,
+    depth: u32,
+    out: &mut [u32],
+    n: u32,
+    m: u32,
+) -> Read
+    requires { ⌜ Ready (now s) c m × Few (now currencies) × (n < m) ⌝ }
+    ensures { λ r. ⌜ MeetsTurns (now (s .entry)) (λ x. indexOf (primary (wordsIn (now (reserved .entry)) (now (currencies .entry)) (now (counters .entry))) depth) x (toksAt (now (s .entry)) (c .start))) n m (now (out .entry)) c r (now (out .exit)) ⌝ }
+{
+    let r = expression(s, reserved, currencies, counters, c, depth, out, m);
+    let Read::Done(d, k, _) = r else {
+        return r;
+    };
+    let Took::Next(e) = take(s, d, CLOSE_BRACKET) else {
+        return Read::Refused(8, d.start);
+    };
+    put(out, k, plain(28, k - n + 1, 2));
+    Read::Done(e, k + 1, 0)
+}
