@@ -25,3 +25,5 @@ pub mod AtomLaws
 pub mod CallingLaws
 pub mod ItemLaws
 pub mod PostfixLaws
+pub mod AssignLaws
+pub mod BodyLaws

@@ -10,4 +10,5 @@ pub mod Rows
 pub mod Meets
 pub mod Calls
 pub mod Turns
+pub mod Bodies
 pub mod Computing

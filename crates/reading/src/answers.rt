@@ -39,3 +39,9 @@ pub enum Items {
     Done(Cursor, u32, u32, Texts),
     Refused(u8, u16),
 }
+
+// The statements of a block were read: the cursor behind it, how many records there are then, and how many statements.
+pub enum Block {
+    Done(Cursor, u32, u32),
+    Refused(u8, u16),
+}

@@ -342,7 +342,7 @@ fn list(
 }
 
 // The parts of a pays, its date and its currency; d stands behind the word, at c.
-fn pays(
+pub fn pays(
     s: &[u8],
     reserved: &[u8],
     currencies: &[u8],

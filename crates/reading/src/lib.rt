@@ -1,8 +1,11 @@
 // Reading: tokens as trees, trees as records.
 mod answers;
+mod assignments;
 mod atoms;
+mod bodies;
 mod calling;
 mod calls;
 mod expressions;
 mod records;
 mod signs;
+mod statements;

@@ -1,0 +1,1945 @@
+use Prim.Native.Nat.{ℕ, _<_}
+use borrow.Fn.Kinds.{In}
+use borrow.Fn.PlainCycle.{Measures, is, falls, and}
+use Rattle.reading.proofs.statements.block.Reads as block
+use Rattle.reading.proofs.statements.block.Kinds as block-kinds
+use Rattle.reading.proofs.statements.+block+conditional+repetition+statement.Lts-block as block-lts
+use Rattle.reading.proofs.statements.conditional.Reads as conditional
+use Rattle.reading.proofs.statements.conditional.Kinds as conditional-kinds
+use Rattle.reading.proofs.statements.+block+conditional+repetition+statement.Lts-conditional as conditional-lts
+use Rattle.reading.proofs.statements.repetition.Reads as repetition
+use Rattle.reading.proofs.statements.repetition.Kinds as repetition-kinds
+use Rattle.reading.proofs.statements.+block+conditional+repetition+statement.Lts-repetition as repetition-lts
+use Rattle.reading.proofs.statements.statement.Reads as statement′
+use Rattle.reading.proofs.statements.statement.Kinds as statement-kinds
+use Rattle.reading.proofs.statements.+block+conditional+repetition+statement.Lts-statement as statement-lts
+use Rattle.reading.proofs.assignments.begun.Reads as begun-reads
+use Rattle.reading.proofs.assignments.ended.Reads as ended-reads
+use Rattle.reading.proofs.assignments.paid.Reads as paid-reads
+use Rattle.reading.proofs.atoms.next.Reads as next-reads
+use Rattle.reading.proofs.atoms.take.Reads as take-reads
+use Rattle.reading.proofs.bodies.block_refusal.Reads as block-refusal-reads
+use Rattle.reading.proofs.bodies.block_refused.Reads as block-refused-reads
+use Rattle.reading.proofs.bodies.branch.Reads as branch-reads
+use Rattle.reading.proofs.bodies.each.Reads as each-reads
+use Rattle.reading.proofs.bodies.loop_head.Reads as loop-head-reads
+use Rattle.reading.proofs.bodies.number_refusal.Reads as number-refusal-reads
+use Rattle.reading.proofs.expressions.expression.Reads as expression-reads
+use Rattle.reading.proofs.records.put.Reads as put-reads
+use Rattle.reading.proofs.statements.+block+conditional+repetition+statement.{statement}
+use Rattle.reading.proofs.statements.+block+conditional+repetition+statement.Tie.{close}
+use borrow.Author.Needs.{needs}
+use native.Mathlib.Omega.{arith}
+use Prim.Native.Nat.{_+_, _*_}
+use mathlib.Core.Path.{_≡_, refl, _∙_}
+use lib.ListN.{length}
+use Rattle.reading.specs.Trees.{nil}
+use Rattle.reading.specs.Readers.{loop}
+use Rattle.reading.specs.Grammar as G
+use Rattle.reading.specs.Meets.{wordsIn, toksAt}
+use Rattle.reading.proofs.SizeLaws.{statement-size}
+use Rattle.reading.proofs.HoldLaws.{start-in}
+use Rattle.reading.proofs.StepLaws.{done-reads, refused-on, meets-as}
+use Rattle.reading.proofs.BodyLaws.{done-block, block-refusal-on, tree-refusal-on, head-is, head-refusal-on, put-fields, statement-law, stat-name, stat-if, stat-for, stat-pays, stat-ended, BlockChain, block-unopened, block-opened, block-start, block-ready, block-exit, block-refused, block-numbers, block-less, block-next, bind-is, if-0, if-ready, if-refused, if-body-ready, if-body-refused, if-numbers, if-done, else-ready, else-refused, else-numbers, else-done, for-0, for-head-refused, for-ready, for-refused, for-body-ready, for-body-refused, for-numbers, for-done}
+
+abbrev μ-block : Measures 5 block-kinds.ps ℕ
+μ-block κs a = 8 * (a .1 .1 .1 .1 .1 .0) + 4
+
+abbrev μ-conditional : Measures 5 conditional-kinds.ps ℕ
+μ-conditional κs a = 8 * (a .1 .1 .1 .1 .1 .1 .0) + 2
+
+abbrev μ-repetition : Measures 5 repetition-kinds.ps ℕ
+μ-repetition κs a = 8 * (a .1 .1 .1 .1 .1 .1 .0) + 2
+
+abbrev μ-statement : Measures 5 statement-kinds.ps ℕ
+μ-statement κs a = 8 * (a .1 .1 .1 .1 .1 .0) + 3
+
+abbrev block-at : ℕ → In 5 block-kinds.ps
+block-at t = and 5 block-kinds.ps (is 5 block-kinds.ps μ-block t) block.Pre
+
+abbrev block-below : ℕ → In 5 block-kinds.ps
+block-below t = and 5 block-kinds.ps (falls 5 block-kinds.ps _<_ μ-block t) block.Pre
+
+abbrev conditional-at : ℕ → In 5 conditional-kinds.ps
+conditional-at t =
+    and 5 conditional-kinds.ps (is 5 conditional-kinds.ps μ-conditional t) conditional.Pre
+
+abbrev conditional-below : ℕ → In 5 conditional-kinds.ps
+conditional-below t =
+    and 5 conditional-kinds.ps (falls 5 conditional-kinds.ps _<_ μ-conditional t) conditional.Pre
+
+abbrev repetition-at : ℕ → In 5 repetition-kinds.ps
+repetition-at t =
+    and 5 repetition-kinds.ps (is 5 repetition-kinds.ps μ-repetition t) repetition.Pre
+
+abbrev repetition-below : ℕ → In 5 repetition-kinds.ps
+repetition-below t =
+    and 5 repetition-kinds.ps (falls 5 repetition-kinds.ps _<_ μ-repetition t) repetition.Pre
+
+abbrev statement-at : ℕ → In 5 statement-kinds.ps
+statement-at t = and 5 statement-kinds.ps (is 5 statement-kinds.ps μ-statement t) statement′.Pre
+
+abbrev statement-below : ℕ → In 5 statement-kinds.ps
+statement-below t =
+    and 5 statement-kinds.ps (falls 5 statement-kinds.ps _<_ μ-statement t) statement′.Pre
+
+abbrev block-Inv-loop : block-lts.InvT-loop
+block-Inv-loop s reserved currencies counters depth out₀ n at₀ m₀ count₀ out at m count = (length out ≡ length out₀) × BlockChain (G.statement (wordsIn reserved currencies counters) depth) s (loop (G.blockTurn (G.statement (wordsIn reserved currencies counters) depth)) nil (toksAt s (at₀ .start))) n out₀ at m count out
+
+abbrev block-μ-loop : block-lts.MeasureT-loop
+block-μ-loop s reserved currencies counters depth out₀ n at₀ m₀ count₀ out at m count = length (toksAt s (at .start))
+
+-- src/statements.rt:152:25
+block-take-requires : (t : ℕ) → block-lts.Need-take-requires (
+  take-reads.Asked,
+  take-reads.Learnt,
+  next-reads.Asked,
+  next-reads.Learnt,
+  statement-below t,
+  statement′.Post,
+  block-refused-reads.Asked,
+  block-refused-reads.Learnt,
+) (block-at t) block.Post block-Inv-loop block-μ-loop
+block-take-requires t c κs = (c .before .before .before .before .before .pre .1 .0 .0, λ z. omega arith)
+
+-- src/statements.rt:152:20
+block-enum-known-d : (t : ℕ) → block-lts.Need-enum-known-d (
+  take-reads.Asked,
+  take-reads.Learnt,
+  next-reads.Asked,
+  next-reads.Learnt,
+  statement-below t,
+  statement′.Post,
+  block-refused-reads.Asked,
+  block-refused-reads.Learnt,
+) (block-at t) block.Post block-Inv-loop block-μ-loop
+block-enum-known-d t c = search needs
+
+-- src/statements.rt:153:9
+block-enum-told : (t : ℕ) → block-lts.Need-enum-told (
+  take-reads.Asked,
+  take-reads.Learnt,
+  next-reads.Asked,
+  next-reads.Learnt,
+  statement-below t,
+  statement′.Post,
+  block-refused-reads.Asked,
+  block-refused-reads.Learnt,
+) (block-at t) block.Post block-Inv-loop block-μ-loop
+block-enum-told t c = search needs
+
+-- src/statements.rt:153:9
+block-returns : (t : ℕ) → block-lts.Need-returns (
+  take-reads.Asked,
+  take-reads.Learnt,
+  next-reads.Asked,
+  next-reads.Learnt,
+  statement-below t,
+  statement′.Post,
+  block-refused-reads.Asked,
+  block-refused-reads.Learnt,
+) (block-at t) block.Post block-Inv-loop block-μ-loop
+block-returns t c = block-unopened (G.statement (wordsIn (c .before .before .before .before .before .before .before .before .args .reserved .now) (c .before .before .before .before .before .before .before .before .args .currencies .now) (c .before .before .before .before .before .before .before .before .args .counters .now)) (c .before .before .before .before .before .before .before .before .args .depth)) (statement-law (wordsIn (c .before .before .before .before .before .before .before .before .args .reserved .now) (c .before .before .before .before .before .before .before .before .args .currencies .now) (c .before .before .before .before .before .before .before .before .args .counters .now)) (c .before .before .before .before .before .before .before .before .args .depth)) (statement-size (wordsIn (c .before .before .before .before .before .before .before .before .args .reserved .now) (c .before .before .before .before .before .before .before .before .args .currencies .now) (c .before .before .before .before .before .before .before .before .args .counters .now)) (c .before .before .before .before .before .before .before .before .args .depth)) (c .before .before .before .before .before .before .before .before .args .s .now) (c .before .before .before .before .before .before .before .before .args .c) (c .before .before .before .before .before .before .before .before .pre .1 .0 .0) (c .before .before .take .result) _ (c .enum-told .given .1) (c .before .before .take .ensures)
+
+-- src/statements.rt:158:5
+block-loop-holds : (t : ℕ) → block-lts.Need-loop-holds (
+  take-reads.Asked,
+  take-reads.Learnt,
+  next-reads.Asked,
+  next-reads.Learnt,
+  statement-below t,
+  statement′.Post,
+  block-refused-reads.Asked,
+  block-refused-reads.Learnt,
+) (block-at t) block.Post block-Inv-loop block-μ-loop
+block-loop-holds t c = (refl, block-start (G.statement (wordsIn (c .before .before .before .before .before .before .before .before .before .args .reserved .now) (c .before .before .before .before .before .before .before .before .before .args .currencies .now) (c .before .before .before .before .before .before .before .before .before .args .counters .now)) (c .before .before .before .before .before .before .before .before .before .args .depth)) (statement-law (wordsIn (c .before .before .before .before .before .before .before .before .before .args .reserved .now) (c .before .before .before .before .before .before .before .before .before .args .currencies .now) (c .before .before .before .before .before .before .before .before .before .args .counters .now)) (c .before .before .before .before .before .before .before .before .before .args .depth)) (statement-size (wordsIn (c .before .before .before .before .before .before .before .before .before .args .reserved .now) (c .before .before .before .before .before .before .before .before .before .args .currencies .now) (c .before .before .before .before .before .before .before .before .before .args .counters .now)) (c .before .before .before .before .before .before .before .before .before .args .depth)) (c .before .before .before .before .before .before .before .before .before .args .s .now) (c .before .before .before .before .before .before .before .before .before .args .c) (c .before .before .before .before .before .before .before .before .before .pre .1 .0 .0) (c .before .before .before .take .result) (c .before .d .given .0 .0) (c .before .d .given .1) (c .before .before .before .take .ensures) _ _ (c .before .before .before .before .before .before .before .before .before .pre .1 .0 .1))
+
+-- src/statements.rt:160:32
+block-next-requires : (t : ℕ) → block-lts.Need-next-requires (
+  take-reads.Asked,
+  take-reads.Learnt,
+  next-reads.Asked,
+  next-reads.Learnt,
+  statement-below t,
+  statement′.Post,
+  block-refused-reads.Asked,
+  block-refused-reads.Learnt,
+) (block-at t) block.Post block-Inv-loop block-μ-loop
+block-next-requires t c κs = c .before .before .loop .inv .1 .holds
+
+-- src/statements.rt:160:13
+block-same-length : (t : ℕ) → block-lts.Need-same-length (
+  take-reads.Asked,
+  take-reads.Learnt,
+  next-reads.Asked,
+  next-reads.Learnt,
+  statement-below t,
+  statement′.Post,
+  block-refused-reads.Asked,
+  block-refused-reads.Learnt,
+) (block-at t) block.Post block-Inv-loop block-μ-loop
+block-same-length t c = c .before .before .before .loop .inv .0
+
+-- src/statements.rt:160:13
+block-returns-2 : (t : ℕ) → block-lts.Need-returns-2 (
+  take-reads.Asked,
+  take-reads.Learnt,
+  next-reads.Asked,
+  next-reads.Learnt,
+  statement-below t,
+  statement′.Post,
+  block-refused-reads.Asked,
+  block-refused-reads.Learnt,
+) (block-at t) block.Post block-Inv-loop block-μ-loop
+block-returns-2 t c = block-exit (G.statement (wordsIn (c .before .before .before .before .before .before .before .before .before .before .before .before .before .args .reserved .now) (c .before .before .before .before .before .before .before .before .before .before .before .before .before .args .currencies .now) (c .before .before .before .before .before .before .before .before .before .before .before .before .before .args .counters .now)) (c .before .before .before .before .before .before .before .before .before .before .before .before .before .args .depth)) (statement-law (wordsIn (c .before .before .before .before .before .before .before .before .before .before .before .before .before .args .reserved .now) (c .before .before .before .before .before .before .before .before .before .before .before .before .before .args .currencies .now) (c .before .before .before .before .before .before .before .before .before .before .before .before .before .args .counters .now)) (c .before .before .before .before .before .before .before .before .before .before .before .before .before .args .depth)) (statement-size (wordsIn (c .before .before .before .before .before .before .before .before .before .before .before .before .before .args .reserved .now) (c .before .before .before .before .before .before .before .before .before .before .before .before .before .args .currencies .now) (c .before .before .before .before .before .before .before .before .before .before .before .before .before .args .counters .now)) (c .before .before .before .before .before .before .before .before .before .before .before .before .before .args .depth)) (c .before .before .before .before .before .before .before .before .before .before .before .before .before .args .s .now) _ _ _ _ _ _ _ (c .before .before .before .loop .inv .1) (c .before .if1 .taken) (c .next .result) (c .next .ensures) _ (bind-is (G.statement (wordsIn (c .before .before .before .before .before .before .before .before .before .before .before .before .before .args .reserved .now) (c .before .before .before .before .before .before .before .before .before .before .before .before .before .args .currencies .now) (c .before .before .before .before .before .before .before .before .before .before .before .before .before .args .counters .now)) (c .before .before .before .before .before .before .before .before .before .before .before .before .before .args .depth)) _ _ (block-opened (G.statement (wordsIn (c .before .before .before .before .before .before .before .before .before .before .before .before .before .args .reserved .now) (c .before .before .before .before .before .before .before .before .before .before .before .before .before .args .currencies .now) (c .before .before .before .before .before .before .before .before .before .before .before .before .before .args .counters .now)) (c .before .before .before .before .before .before .before .before .before .before .before .before .before .args .depth)) (statement-law (wordsIn (c .before .before .before .before .before .before .before .before .before .before .before .before .before .args .reserved .now) (c .before .before .before .before .before .before .before .before .before .before .before .before .before .args .currencies .now) (c .before .before .before .before .before .before .before .before .before .before .before .before .before .args .counters .now)) (c .before .before .before .before .before .before .before .before .before .before .before .before .before .args .depth)) (statement-size (wordsIn (c .before .before .before .before .before .before .before .before .before .before .before .before .before .args .reserved .now) (c .before .before .before .before .before .before .before .before .before .before .before .before .before .args .currencies .now) (c .before .before .before .before .before .before .before .before .before .before .before .before .before .args .counters .now)) (c .before .before .before .before .before .before .before .before .before .before .before .before .before .args .depth)) (c .before .before .before .before .before .before .before .before .before .before .before .before .before .args .s .now) (c .before .before .before .before .before .before .before .before .before .before .before .before .before .args .c) (c .before .before .before .before .before .before .before .before .before .before .before .before .before .pre .1 .0 .0) (c .before .before .before .before .before .before .before .take .result) (c .before .before .before .before .before .d .given .0 .0) (c .before .before .before .before .before .d .given .1) (c .before .before .before .before .before .before .before .take .ensures)))
+
+-- src/statements.rt:162:13
+block-statement-requires : (t : ℕ) → block-lts.Need-statement-requires (
+  take-reads.Asked,
+  take-reads.Learnt,
+  next-reads.Asked,
+  next-reads.Learnt,
+  statement-below t,
+  statement′.Post,
+  block-refused-reads.Asked,
+  block-refused-reads.Learnt,
+) (block-at t) block.Post block-Inv-loop block-μ-loop
+block-statement-requires t c κs = (omega (arith, c .before .before .before .before .before .before .before .before .before .before .before .before .before .pre .0), (block-ready (G.statement (wordsIn (c .before .before .before .before .before .before .before .before .before .before .before .before .before .args .reserved .now) (c .before .before .before .before .before .before .before .before .before .before .before .before .before .args .currencies .now) (c .before .before .before .before .before .before .before .before .before .before .before .before .before .args .counters .now)) (c .before .before .before .before .before .before .before .before .before .before .before .before .before .args .depth)) (statement-law (wordsIn (c .before .before .before .before .before .before .before .before .before .before .before .before .before .args .reserved .now) (c .before .before .before .before .before .before .before .before .before .before .before .before .before .args .currencies .now) (c .before .before .before .before .before .before .before .before .before .before .before .before .before .args .counters .now)) (c .before .before .before .before .before .before .before .before .before .before .before .before .before .args .depth)) (statement-size (wordsIn (c .before .before .before .before .before .before .before .before .before .before .before .before .before .args .reserved .now) (c .before .before .before .before .before .before .before .before .before .before .before .before .before .args .currencies .now) (c .before .before .before .before .before .before .before .before .before .before .before .before .before .args .counters .now)) (c .before .before .before .before .before .before .before .before .before .before .before .before .before .args .depth)) (c .before .before .before .before .before .before .before .before .before .before .before .before .before .args .s .now) _ _ _ _ _ _ _ (c .before .before .before .loop .inv .1), c .before .before .before .before .before .before .before .before .before .before .before .before .before .pre .1 .1))
+
+-- src/statements.rt:163:24
+block-enum-known-r : (t : ℕ) → block-lts.Need-enum-known-r (
+  take-reads.Asked,
+  take-reads.Learnt,
+  next-reads.Asked,
+  next-reads.Learnt,
+  statement-below t,
+  statement′.Post,
+  block-refused-reads.Asked,
+  block-refused-reads.Learnt,
+) (block-at t) block.Post block-Inv-loop block-μ-loop
+block-enum-known-r t c = search needs
+
+-- src/statements.rt:164:13
+block-enum-told-2 : (t : ℕ) → block-lts.Need-enum-told-2 (
+  take-reads.Asked,
+  take-reads.Learnt,
+  next-reads.Asked,
+  next-reads.Learnt,
+  statement-below t,
+  statement′.Post,
+  block-refused-reads.Asked,
+  block-refused-reads.Learnt,
+) (block-at t) block.Post block-Inv-loop block-μ-loop
+block-enum-told-2 t c = search needs
+
+-- src/statements.rt:164:13
+block-block-refused-requires : (t : ℕ) → block-lts.Need-block-refused-requires (
+  take-reads.Asked,
+  take-reads.Learnt,
+  next-reads.Asked,
+  next-reads.Learnt,
+  statement-below t,
+  statement′.Post,
+  block-refused-reads.Asked,
+  block-refused-reads.Learnt,
+) (block-at t) block.Post block-Inv-loop block-μ-loop
+block-block-refused-requires t c κs = search needs
+
+-- src/statements.rt:164:13
+block-same-length-2 : (t : ℕ) → block-lts.Need-same-length-2 (
+  take-reads.Asked,
+  take-reads.Learnt,
+  next-reads.Asked,
+  next-reads.Learnt,
+  statement-below t,
+  statement′.Post,
+  block-refused-reads.Asked,
+  block-refused-reads.Learnt,
+) (block-at t) block.Post block-Inv-loop block-μ-loop
+block-same-length-2 t c = c .before .before .before .before .before .statement .kept .1 .1 .1 .1 .1 .1 .0 ∙ c .before .before .before .before .before .before .before .before .before .loop .inv .0
+
+-- src/statements.rt:164:13
+block-returns-3 : (t : ℕ) → block-lts.Need-returns-3 (
+  take-reads.Asked,
+  take-reads.Learnt,
+  next-reads.Asked,
+  next-reads.Learnt,
+  statement-below t,
+  statement′.Post,
+  block-refused-reads.Asked,
+  block-refused-reads.Learnt,
+) (block-at t) block.Post block-Inv-loop block-μ-loop
+block-returns-3 t c = tree-refusal-on _ _ _ _ _ _ (c .block-refused .result) _ _ _ _ _ _ (c .before .enum-told2 .given .1) (c .before .before .before .before .before .statement .ensures) (c .block-refused .ensures) (block-refused (G.statement (wordsIn (c .before .before .before .before .before .before .before .before .before .before .before .before .before .before .before .before .before .before .before .args .reserved .now) (c .before .before .before .before .before .before .before .before .before .before .before .before .before .before .before .before .before .before .before .args .currencies .now) (c .before .before .before .before .before .before .before .before .before .before .before .before .before .before .before .before .before .before .before .args .counters .now)) (c .before .before .before .before .before .before .before .before .before .before .before .before .before .before .before .before .before .before .before .args .depth)) (statement-law (wordsIn (c .before .before .before .before .before .before .before .before .before .before .before .before .before .before .before .before .before .before .before .args .reserved .now) (c .before .before .before .before .before .before .before .before .before .before .before .before .before .before .before .before .before .before .before .args .currencies .now) (c .before .before .before .before .before .before .before .before .before .before .before .before .before .before .before .before .before .before .before .args .counters .now)) (c .before .before .before .before .before .before .before .before .before .before .before .before .before .before .before .before .before .before .before .args .depth)) (statement-size (wordsIn (c .before .before .before .before .before .before .before .before .before .before .before .before .before .before .before .before .before .before .before .args .reserved .now) (c .before .before .before .before .before .before .before .before .before .before .before .before .before .before .before .before .before .before .before .args .currencies .now) (c .before .before .before .before .before .before .before .before .before .before .before .before .before .before .before .before .before .before .before .args .counters .now)) (c .before .before .before .before .before .before .before .before .before .before .before .before .before .before .before .before .before .before .before .args .depth)) (c .before .before .before .before .before .before .before .before .before .before .before .before .before .before .before .before .before .before .before .args .s .now) _ _ _ _ _ _ _ (c .before .before .before .before .before .before .before .before .before .loop .inv .1) (c .before .before .before .before .before .before .before .if1 .left) _ _ _ (bind-is (G.statement (wordsIn (c .before .before .before .before .before .before .before .before .before .before .before .before .before .before .before .before .before .before .before .args .reserved .now) (c .before .before .before .before .before .before .before .before .before .before .before .before .before .before .before .before .before .before .before .args .currencies .now) (c .before .before .before .before .before .before .before .before .before .before .before .before .before .before .before .before .before .before .before .args .counters .now)) (c .before .before .before .before .before .before .before .before .before .before .before .before .before .before .before .before .before .before .before .args .depth)) _ _ (block-opened (G.statement (wordsIn (c .before .before .before .before .before .before .before .before .before .before .before .before .before .before .before .before .before .before .before .args .reserved .now) (c .before .before .before .before .before .before .before .before .before .before .before .before .before .before .before .before .before .before .before .args .currencies .now) (c .before .before .before .before .before .before .before .before .before .before .before .before .before .before .before .before .before .before .before .args .counters .now)) (c .before .before .before .before .before .before .before .before .before .before .before .before .before .before .before .before .before .before .before .args .depth)) (statement-law (wordsIn (c .before .before .before .before .before .before .before .before .before .before .before .before .before .before .before .before .before .before .before .args .reserved .now) (c .before .before .before .before .before .before .before .before .before .before .before .before .before .before .before .before .before .before .before .args .currencies .now) (c .before .before .before .before .before .before .before .before .before .before .before .before .before .before .before .before .before .before .before .args .counters .now)) (c .before .before .before .before .before .before .before .before .before .before .before .before .before .before .before .before .before .before .before .args .depth)) (statement-size (wordsIn (c .before .before .before .before .before .before .before .before .before .before .before .before .before .before .before .before .before .before .before .args .reserved .now) (c .before .before .before .before .before .before .before .before .before .before .before .before .before .before .before .before .before .before .before .args .currencies .now) (c .before .before .before .before .before .before .before .before .before .before .before .before .before .before .before .before .before .before .before .args .counters .now)) (c .before .before .before .before .before .before .before .before .before .before .before .before .before .before .before .before .before .before .before .args .depth)) (c .before .before .before .before .before .before .before .before .before .before .before .before .before .before .before .before .before .before .before .args .s .now) (c .before .before .before .before .before .before .before .before .before .before .before .before .before .before .before .before .before .before .before .args .c) (c .before .before .before .before .before .before .before .before .before .before .before .before .before .before .before .before .before .before .before .pre .1 .0 .0) (c .before .before .before .before .before .before .before .before .before .before .before .before .before .take .result) (c .before .before .before .before .before .before .before .before .before .before .before .d .given .0 .0) (c .before .before .before .before .before .before .before .before .before .before .before .d .given .1) (c .before .before .before .before .before .before .before .before .before .before .before .before .before .take .ensures))))
+
+-- src/statements.rt:168:9
+block-add-count : (t : ℕ) → block-lts.Need-add-count (
+  take-reads.Asked,
+  take-reads.Learnt,
+  next-reads.Asked,
+  next-reads.Learnt,
+  statement-below t,
+  statement′.Post,
+  block-refused-reads.Asked,
+  block-refused-reads.Learnt,
+) (block-at t) block.Post block-Inv-loop block-μ-loop
+block-add-count t c = omega (arith, block-numbers (G.statement (wordsIn (c .before .before .before .before .before .before .before .before .before .before .before .before .before .before .before .before .before .before .before .args .reserved .now) (c .before .before .before .before .before .before .before .before .before .before .before .before .before .before .before .before .before .before .before .args .currencies .now) (c .before .before .before .before .before .before .before .before .before .before .before .before .before .before .before .before .before .before .before .args .counters .now)) (c .before .before .before .before .before .before .before .before .before .before .before .before .before .before .before .before .before .before .before .args .depth)) (statement-law (wordsIn (c .before .before .before .before .before .before .before .before .before .before .before .before .before .before .before .before .before .before .before .args .reserved .now) (c .before .before .before .before .before .before .before .before .before .before .before .before .before .before .before .before .before .before .before .args .currencies .now) (c .before .before .before .before .before .before .before .before .before .before .before .before .before .before .before .before .before .before .before .args .counters .now)) (c .before .before .before .before .before .before .before .before .before .before .before .before .before .before .before .before .before .before .before .args .depth)) (statement-size (wordsIn (c .before .before .before .before .before .before .before .before .before .before .before .before .before .before .before .before .before .before .before .args .reserved .now) (c .before .before .before .before .before .before .before .before .before .before .before .before .before .before .before .before .before .before .before .args .currencies .now) (c .before .before .before .before .before .before .before .before .before .before .before .before .before .before .before .before .before .before .before .args .counters .now)) (c .before .before .before .before .before .before .before .before .before .before .before .before .before .before .before .before .before .before .before .args .depth)) (c .before .before .before .before .before .before .before .before .before .before .before .before .before .before .before .before .before .before .before .args .s .now) _ _ _ _ _ _ _ (c .before .before .before .before .before .before .before .before .before .loop .inv .1) (c .before .before .before .before .before .before .before .if1 .left) _ _ _ _ (done-reads _ _ _ _ _ _ _ _ _ (c .before .r .given .1) (c .before .before .before .before .before .statement .ensures)))
+
+-- src/statements.rt:158:5
+block-loop-less : (t : ℕ) → block-lts.Need-loop-less (
+  take-reads.Asked,
+  take-reads.Learnt,
+  next-reads.Asked,
+  next-reads.Learnt,
+  statement-below t,
+  statement′.Post,
+  block-refused-reads.Asked,
+  block-refused-reads.Learnt,
+) (block-at t) block.Post block-Inv-loop block-μ-loop
+block-loop-less t c = block-less (G.statement (wordsIn (c .before .before .before .before .before .before .before .before .before .before .before .before .before .before .before .before .before .before .before .args .reserved .now) (c .before .before .before .before .before .before .before .before .before .before .before .before .before .before .before .before .before .before .before .args .currencies .now) (c .before .before .before .before .before .before .before .before .before .before .before .before .before .before .before .before .before .before .before .args .counters .now)) (c .before .before .before .before .before .before .before .before .before .before .before .before .before .before .before .before .before .before .before .args .depth)) (statement-law (wordsIn (c .before .before .before .before .before .before .before .before .before .before .before .before .before .before .before .before .before .before .before .args .reserved .now) (c .before .before .before .before .before .before .before .before .before .before .before .before .before .before .before .before .before .before .before .args .currencies .now) (c .before .before .before .before .before .before .before .before .before .before .before .before .before .before .before .before .before .before .before .args .counters .now)) (c .before .before .before .before .before .before .before .before .before .before .before .before .before .before .before .before .before .before .before .args .depth)) (statement-size (wordsIn (c .before .before .before .before .before .before .before .before .before .before .before .before .before .before .before .before .before .before .before .args .reserved .now) (c .before .before .before .before .before .before .before .before .before .before .before .before .before .before .before .before .before .before .before .args .currencies .now) (c .before .before .before .before .before .before .before .before .before .before .before .before .before .before .before .before .before .before .before .args .counters .now)) (c .before .before .before .before .before .before .before .before .before .before .before .before .before .before .before .before .before .before .before .args .depth)) (c .before .before .before .before .before .before .before .before .before .before .before .before .before .before .before .before .before .before .before .args .s .now) _ _ _ _ _ _ _ (c .before .before .before .before .before .before .before .before .before .loop .inv .1) (c .before .before .before .before .before .before .before .if1 .left) _ _ _ _ (done-reads _ _ _ _ _ _ _ _ _ (c .before .r .given .1) (c .before .before .before .before .before .statement .ensures))
+
+-- src/statements.rt:158:5
+block-loop-again : (t : ℕ) → block-lts.Need-loop-again (
+  take-reads.Asked,
+  take-reads.Learnt,
+  next-reads.Asked,
+  next-reads.Learnt,
+  statement-below t,
+  statement′.Post,
+  block-refused-reads.Asked,
+  block-refused-reads.Learnt,
+) (block-at t) block.Post block-Inv-loop block-μ-loop
+block-loop-again t c = (c .before .before .before .before .before .statement .kept .1 .1 .1 .1 .1 .1 .0 ∙ c .before .before .before .before .before .before .before .before .before .loop .inv .0, block-next (G.statement (wordsIn (c .before .before .before .before .before .before .before .before .before .before .before .before .before .before .before .before .before .before .before .args .reserved .now) (c .before .before .before .before .before .before .before .before .before .before .before .before .before .before .before .before .before .before .before .args .currencies .now) (c .before .before .before .before .before .before .before .before .before .before .before .before .before .before .before .before .before .before .before .args .counters .now)) (c .before .before .before .before .before .before .before .before .before .before .before .before .before .before .before .before .before .before .before .args .depth)) (statement-law (wordsIn (c .before .before .before .before .before .before .before .before .before .before .before .before .before .before .before .before .before .before .before .args .reserved .now) (c .before .before .before .before .before .before .before .before .before .before .before .before .before .before .before .before .before .before .before .args .currencies .now) (c .before .before .before .before .before .before .before .before .before .before .before .before .before .before .before .before .before .before .before .args .counters .now)) (c .before .before .before .before .before .before .before .before .before .before .before .before .before .before .before .before .before .before .before .args .depth)) (statement-size (wordsIn (c .before .before .before .before .before .before .before .before .before .before .before .before .before .before .before .before .before .before .before .args .reserved .now) (c .before .before .before .before .before .before .before .before .before .before .before .before .before .before .before .before .before .before .before .args .currencies .now) (c .before .before .before .before .before .before .before .before .before .before .before .before .before .before .before .before .before .before .before .args .counters .now)) (c .before .before .before .before .before .before .before .before .before .before .before .before .before .before .before .before .before .before .before .args .depth)) (c .before .before .before .before .before .before .before .before .before .before .before .before .before .before .before .before .before .before .before .args .s .now) _ _ _ _ _ _ _ (c .before .before .before .before .before .before .before .before .before .loop .inv .1) (c .before .before .before .before .before .before .before .if1 .left) _ _ _ _ (done-reads _ _ _ _ _ _ _ _ _ (c .before .r .given .1) (c .before .before .before .before .before .statement .ensures)))
+
+-- src/statements.rt:73:9
+conditional-returns : (t : ℕ) → conditional-lts.Need-returns (
+  expression-reads.Asked,
+  expression-reads.Learnt,
+  block-below t,
+  block.Post,
+  block-refusal-reads.Asked,
+  block-refusal-reads.Learnt,
+  branch-reads.Asked,
+  branch-reads.Learnt,
+  put-reads.Asked,
+  put-reads.Learnt,
+  next-reads.Asked,
+  next-reads.Learnt,
+) (conditional-at t) conditional.Post
+conditional-returns t c = if-0 (wordsIn (c .before .before .before .before .before .before .args .reserved .now) (c .before .before .before .before .before .before .args .currencies .now) (c .before .before .before .before .before .before .args .counters .now)) (c .before .before .before .before .before .before .args .depth) (c .before .before .before .before .before .before .args .s .now) (c .before .before .before .before .before .before .args .c) (c .before .before .before .before .before .before .args .d) (c .before .before .before .before .before .before .pre .1 .1) (c .before .before .before .before .before .before .pre .1 .2) (c .if1 .taken)
+
+-- src/statements.rt:75:62
+conditional-sub-expression : (t : ℕ) → conditional-lts.Need-sub-expression (
+  expression-reads.Asked,
+  expression-reads.Learnt,
+  block-below t,
+  block.Post,
+  block-refusal-reads.Asked,
+  block-refusal-reads.Learnt,
+  branch-reads.Asked,
+  branch-reads.Learnt,
+  put-reads.Asked,
+  put-reads.Learnt,
+  next-reads.Asked,
+  next-reads.Learnt,
+) (conditional-at t) conditional.Post
+conditional-sub-expression t c = omega (arith, c .if1 .left)
+
+-- src/statements.rt:75:9
+conditional-expression-requires : (t : ℕ) → conditional-lts.Need-expression-requires (
+  expression-reads.Asked,
+  expression-reads.Learnt,
+  block-below t,
+  block.Post,
+  block-refusal-reads.Asked,
+  block-refusal-reads.Learnt,
+  branch-reads.Asked,
+  branch-reads.Learnt,
+  put-reads.Asked,
+  put-reads.Learnt,
+  next-reads.Asked,
+  next-reads.Learnt,
+) (conditional-at t) conditional.Post
+conditional-expression-requires t c κs = (if-ready (wordsIn (c .before .before .before .before .before .before .before .args .reserved .now) (c .before .before .before .before .before .before .before .args .currencies .now) (c .before .before .before .before .before .before .before .args .counters .now)) (c .before .before .before .before .before .before .before .args .depth) (c .before .before .before .before .before .before .before .args .s .now) (c .before .before .before .before .before .before .before .args .c) (c .before .before .before .before .before .before .before .args .d) (c .before .before .before .before .before .before .before .pre .1 .1) (c .before .before .before .before .before .before .before .pre .1 .2) _ (c .before .before .before .before .before .before .before .pre .1 .0 .1), c .before .before .before .before .before .before .before .pre .1 .3)
+
+-- src/statements.rt:76:20
+conditional-enum-known-r : (t : ℕ) → conditional-lts.Need-enum-known-r (
+  expression-reads.Asked,
+  expression-reads.Learnt,
+  block-below t,
+  block.Post,
+  block-refusal-reads.Asked,
+  block-refusal-reads.Learnt,
+  branch-reads.Asked,
+  branch-reads.Learnt,
+  put-reads.Asked,
+  put-reads.Learnt,
+  next-reads.Asked,
+  next-reads.Learnt,
+) (conditional-at t) conditional.Post
+conditional-enum-known-r t c = search needs
+
+-- src/statements.rt:77:9
+conditional-enum-told : (t : ℕ) → conditional-lts.Need-enum-told (
+  expression-reads.Asked,
+  expression-reads.Learnt,
+  block-below t,
+  block.Post,
+  block-refusal-reads.Asked,
+  block-refusal-reads.Learnt,
+  branch-reads.Asked,
+  branch-reads.Learnt,
+  put-reads.Asked,
+  put-reads.Learnt,
+  next-reads.Asked,
+  next-reads.Learnt,
+) (conditional-at t) conditional.Post
+conditional-enum-told t c = search needs
+
+-- src/statements.rt:77:9
+conditional-same-length : (t : ℕ) → conditional-lts.Need-same-length (
+  expression-reads.Asked,
+  expression-reads.Learnt,
+  block-below t,
+  block.Post,
+  block-refusal-reads.Asked,
+  block-refusal-reads.Learnt,
+  branch-reads.Asked,
+  branch-reads.Learnt,
+  put-reads.Asked,
+  put-reads.Learnt,
+  next-reads.Asked,
+  next-reads.Learnt,
+) (conditional-at t) conditional.Post
+conditional-same-length t c = c .before .before .before .before .expression .kept .1 .1 .1 .1 .1 .1 .0
+
+-- src/statements.rt:77:9
+conditional-returns-2 : (t : ℕ) → conditional-lts.Need-returns-2 (
+  expression-reads.Asked,
+  expression-reads.Learnt,
+  block-below t,
+  block.Post,
+  block-refusal-reads.Asked,
+  block-refusal-reads.Learnt,
+  branch-reads.Asked,
+  branch-reads.Learnt,
+  put-reads.Asked,
+  put-reads.Learnt,
+  next-reads.Asked,
+  next-reads.Learnt,
+) (conditional-at t) conditional.Post
+conditional-returns-2 t c = refused-on _ _ _ _ _ _ _ _ _ _ _ _ (c .enum-told .given .1) (c .before .before .before .before .expression .ensures) (if-refused (wordsIn (c .before .before .before .before .before .before .before .before .before .before .before .before .args .reserved .now) (c .before .before .before .before .before .before .before .before .before .before .before .before .args .currencies .now) (c .before .before .before .before .before .before .before .before .before .before .before .before .args .counters .now)) (c .before .before .before .before .before .before .before .before .before .before .before .before .args .depth) (c .before .before .before .before .before .before .before .before .before .before .before .before .args .s .now) (c .before .before .before .before .before .before .before .before .before .before .before .before .args .c) (c .before .before .before .before .before .before .before .before .before .before .before .before .args .d) (c .before .before .before .before .before .before .before .before .before .before .before .before .pre .1 .1) (c .before .before .before .before .before .before .before .before .before .before .before .before .pre .1 .2) (c .before .before .before .before .before .before .if1 .left) _ _)
+
+-- src/statements.rt:79:57
+conditional-sub-block : (t : ℕ) → conditional-lts.Need-sub-block (
+  expression-reads.Asked,
+  expression-reads.Learnt,
+  block-below t,
+  block.Post,
+  block-refusal-reads.Asked,
+  block-refusal-reads.Learnt,
+  branch-reads.Asked,
+  branch-reads.Learnt,
+  put-reads.Asked,
+  put-reads.Learnt,
+  next-reads.Asked,
+  next-reads.Learnt,
+) (conditional-at t) conditional.Post
+conditional-sub-block t c = omega (arith, c .before .before .before .before .before .before .before .if1 .left)
+
+-- src/statements.rt:79:9
+conditional-block-requires : (t : ℕ) → conditional-lts.Need-block-requires (
+  expression-reads.Asked,
+  expression-reads.Learnt,
+  block-below t,
+  block.Post,
+  block-refusal-reads.Asked,
+  block-refusal-reads.Learnt,
+  branch-reads.Asked,
+  branch-reads.Learnt,
+  put-reads.Asked,
+  put-reads.Learnt,
+  next-reads.Asked,
+  next-reads.Learnt,
+) (conditional-at t) conditional.Post
+conditional-block-requires t c κs = (omega (arith, c .before .before .before .before .before .before .before .before .before .before .before .before .before .before .pre .0, c .before .before .before .before .before .before .before .before .if1 .left), (if-body-ready (wordsIn (c .before .before .before .before .before .before .before .before .before .before .before .before .before .before .args .reserved .now) (c .before .before .before .before .before .before .before .before .before .before .before .before .before .before .args .currencies .now) (c .before .before .before .before .before .before .before .before .before .before .before .before .before .before .args .counters .now)) (c .before .before .before .before .before .before .before .before .before .before .before .before .before .before .args .depth) (c .before .before .before .before .before .before .before .before .before .before .before .before .before .before .args .s .now) (c .before .before .before .before .before .before .before .before .before .before .before .before .before .before .args .c) (c .before .before .before .before .before .before .before .before .before .before .before .before .before .before .args .d) (c .before .before .before .before .before .before .before .before .before .before .before .before .before .before .pre .1 .1) (c .before .before .before .before .before .before .before .before .before .before .before .before .before .before .pre .1 .2) (c .before .before .before .before .before .before .before .before .if1 .left) _ (c .before .before .before .before .before .before .before .before .before .before .before .before .before .before .pre .1 .0 .1) _ _ _ _ _ (done-reads _ _ _ _ _ _ _ _ _ (c .before .before .r .given .1) (c .before .before .before .before .before .before .expression .ensures)), c .before .before .before .before .before .before .before .before .before .before .before .before .before .before .pre .1 .3))
+
+-- src/statements.rt:80:21
+conditional-enum-known-q : (t : ℕ) → conditional-lts.Need-enum-known-q (
+  expression-reads.Asked,
+  expression-reads.Learnt,
+  block-below t,
+  block.Post,
+  block-refusal-reads.Asked,
+  block-refusal-reads.Learnt,
+  branch-reads.Asked,
+  branch-reads.Learnt,
+  put-reads.Asked,
+  put-reads.Learnt,
+  next-reads.Asked,
+  next-reads.Learnt,
+) (conditional-at t) conditional.Post
+conditional-enum-known-q t c = search needs
+
+-- src/statements.rt:81:9
+conditional-enum-told-2 : (t : ℕ) → conditional-lts.Need-enum-told-2 (
+  expression-reads.Asked,
+  expression-reads.Learnt,
+  block-below t,
+  block.Post,
+  block-refusal-reads.Asked,
+  block-refusal-reads.Learnt,
+  branch-reads.Asked,
+  branch-reads.Learnt,
+  put-reads.Asked,
+  put-reads.Learnt,
+  next-reads.Asked,
+  next-reads.Learnt,
+) (conditional-at t) conditional.Post
+conditional-enum-told-2 t c = search needs
+
+-- src/statements.rt:81:9
+conditional-block-refusal-requires : (t : ℕ) → conditional-lts.Need-block-refusal-requires (
+  expression-reads.Asked,
+  expression-reads.Learnt,
+  block-below t,
+  block.Post,
+  block-refusal-reads.Asked,
+  block-refusal-reads.Learnt,
+  branch-reads.Asked,
+  branch-reads.Learnt,
+  put-reads.Asked,
+  put-reads.Learnt,
+  next-reads.Asked,
+  next-reads.Learnt,
+) (conditional-at t) conditional.Post
+conditional-block-refusal-requires t c κs = search needs
+
+-- src/statements.rt:81:9
+conditional-same-length-2 : (t : ℕ) → conditional-lts.Need-same-length-2 (
+  expression-reads.Asked,
+  expression-reads.Learnt,
+  block-below t,
+  block.Post,
+  block-refusal-reads.Asked,
+  block-refusal-reads.Learnt,
+  branch-reads.Asked,
+  branch-reads.Learnt,
+  put-reads.Asked,
+  put-reads.Learnt,
+  next-reads.Asked,
+  next-reads.Learnt,
+) (conditional-at t) conditional.Post
+conditional-same-length-2 t c = c .before .before .before .before .before .block .kept .1 .1 .1 .1 .1 .1 .0 ∙ c .before .before .before .before .before .before .before .before .before .before .before .before .expression .kept .1 .1 .1 .1 .1 .1 .0
+
+-- src/statements.rt:81:9
+conditional-returns-3 : (t : ℕ) → conditional-lts.Need-returns-3 (
+  expression-reads.Asked,
+  expression-reads.Learnt,
+  block-below t,
+  block.Post,
+  block-refusal-reads.Asked,
+  block-refusal-reads.Learnt,
+  branch-reads.Asked,
+  branch-reads.Learnt,
+  put-reads.Asked,
+  put-reads.Learnt,
+  next-reads.Asked,
+  next-reads.Learnt,
+) (conditional-at t) conditional.Post
+conditional-returns-3 t c = block-refusal-on _ _ _ _ _ _ (c .block-refusal .result) _ _ _ _ _ _ (c .before .enum-told2 .given .1) (c .before .before .before .before .before .block .ensures) (c .block-refusal .ensures) (if-body-refused (wordsIn (c .before .before .before .before .before .before .before .before .before .before .before .before .before .before .before .before .before .before .before .before .args .reserved .now) (c .before .before .before .before .before .before .before .before .before .before .before .before .before .before .before .before .before .before .before .before .args .currencies .now) (c .before .before .before .before .before .before .before .before .before .before .before .before .before .before .before .before .before .before .before .before .args .counters .now)) (c .before .before .before .before .before .before .before .before .before .before .before .before .before .before .before .before .before .before .before .before .args .depth) (c .before .before .before .before .before .before .before .before .before .before .before .before .before .before .before .before .before .before .before .before .args .s .now) (c .before .before .before .before .before .before .before .before .before .before .before .before .before .before .before .before .before .before .before .before .args .c) (c .before .before .before .before .before .before .before .before .before .before .before .before .before .before .before .before .before .before .before .before .args .d) (c .before .before .before .before .before .before .before .before .before .before .before .before .before .before .before .before .before .before .before .before .pre .1 .1) (c .before .before .before .before .before .before .before .before .before .before .before .before .before .before .before .before .before .before .before .before .pre .1 .2) (c .before .before .before .before .before .before .before .before .before .before .before .before .before .before .if1 .left) _ (c .before .before .before .before .before .before .before .before .before .before .before .before .before .before .before .before .before .before .before .before .pre .1 .0 .1) _ _ _ _ _ (done-reads _ _ _ _ _ _ _ _ _ (c .before .before .before .before .before .before .before .before .r .given .1) (c .before .before .before .before .before .before .before .before .before .before .before .before .expression .ensures)) _ _)
+
+-- src/statements.rt:84:28
+conditional-sub-branch : (t : ℕ) → conditional-lts.Need-sub-branch (
+  expression-reads.Asked,
+  expression-reads.Learnt,
+  block-below t,
+  block.Post,
+  block-refusal-reads.Asked,
+  block-refusal-reads.Learnt,
+  branch-reads.Asked,
+  branch-reads.Learnt,
+  put-reads.Asked,
+  put-reads.Learnt,
+  next-reads.Asked,
+  next-reads.Learnt,
+) (conditional-at t) conditional.Post
+conditional-sub-branch t c = omega (arith, if-numbers (wordsIn (c .before .before .before .before .before .before .before .before .before .before .before .before .before .before .before .before .before .before .before .before .before .before .before .args .reserved .now) (c .before .before .before .before .before .before .before .before .before .before .before .before .before .before .before .before .before .before .before .before .before .before .before .args .currencies .now) (c .before .before .before .before .before .before .before .before .before .before .before .before .before .before .before .before .before .before .before .before .before .before .before .args .counters .now)) (c .before .before .before .before .before .before .before .before .before .before .before .before .before .before .before .before .before .before .before .before .before .before .before .args .depth) (c .before .before .before .before .before .before .before .before .before .before .before .before .before .before .before .before .before .before .before .before .before .before .before .args .s .now) (c .before .before .before .before .before .before .before .before .before .before .before .before .before .before .before .before .before .before .before .before .before .before .before .args .c) (c .before .before .before .before .before .before .before .before .before .before .before .before .before .before .before .before .before .before .before .before .before .before .before .args .d) (c .before .before .before .before .before .before .before .before .before .before .before .before .before .before .before .before .before .before .before .before .before .before .before .pre .1 .1) (c .before .before .before .before .before .before .before .before .before .before .before .before .before .before .before .before .before .before .before .before .before .before .before .pre .1 .2) (c .before .before .before .before .before .before .before .before .before .before .before .before .before .before .before .before .before .if1 .left) _ (c .before .before .before .before .before .before .before .before .before .before .before .before .before .before .before .before .before .before .before .before .before .before .before .pre .1 .0 .1) _ _ _ _ _ (done-reads _ _ _ _ _ _ _ _ _ (c .before .before .before .before .before .before .before .before .before .before .before .r .given .1) (c .before .before .before .before .before .before .before .before .before .before .before .before .before .before .before .expression .ensures)) _ _ _ _ (done-block _ _ _ _ _ _ _ _ _ (c .before .before .before .before .q .given .1) (c .before .before .before .before .before .before .before .before .block .ensures)))
+
+-- src/statements.rt:84:28
+conditional-add-branch : (t : ℕ) → conditional-lts.Need-add-branch (
+  expression-reads.Asked,
+  expression-reads.Learnt,
+  block-below t,
+  block.Post,
+  block-refusal-reads.Asked,
+  block-refusal-reads.Learnt,
+  branch-reads.Asked,
+  branch-reads.Learnt,
+  put-reads.Asked,
+  put-reads.Learnt,
+  next-reads.Asked,
+  next-reads.Learnt,
+) (conditional-at t) conditional.Post
+conditional-add-branch t c = omega (arith, if-numbers (wordsIn (c .before .before .before .before .before .before .before .before .before .before .before .before .before .before .before .before .before .before .before .before .before .before .before .args .reserved .now) (c .before .before .before .before .before .before .before .before .before .before .before .before .before .before .before .before .before .before .before .before .before .before .before .args .currencies .now) (c .before .before .before .before .before .before .before .before .before .before .before .before .before .before .before .before .before .before .before .before .before .before .before .args .counters .now)) (c .before .before .before .before .before .before .before .before .before .before .before .before .before .before .before .before .before .before .before .before .before .before .before .args .depth) (c .before .before .before .before .before .before .before .before .before .before .before .before .before .before .before .before .before .before .before .before .before .before .before .args .s .now) (c .before .before .before .before .before .before .before .before .before .before .before .before .before .before .before .before .before .before .before .before .before .before .before .args .c) (c .before .before .before .before .before .before .before .before .before .before .before .before .before .before .before .before .before .before .before .before .before .before .before .args .d) (c .before .before .before .before .before .before .before .before .before .before .before .before .before .before .before .before .before .before .before .before .before .before .before .pre .1 .1) (c .before .before .before .before .before .before .before .before .before .before .before .before .before .before .before .before .before .before .before .before .before .before .before .pre .1 .2) (c .before .before .before .before .before .before .before .before .before .before .before .before .before .before .before .before .before .if1 .left) _ (c .before .before .before .before .before .before .before .before .before .before .before .before .before .before .before .before .before .before .before .before .before .before .before .pre .1 .0 .1) _ _ _ _ _ (done-reads _ _ _ _ _ _ _ _ _ (c .before .before .before .before .before .before .before .before .before .before .before .r .given .1) (c .before .before .before .before .before .before .before .before .before .before .before .before .before .before .before .expression .ensures)) _ _ _ _ (done-block _ _ _ _ _ _ _ _ _ (c .before .before .before .before .q .given .1) (c .before .before .before .before .before .before .before .before .block .ensures)))
+
+-- src/statements.rt:84:39
+conditional-add-branch-2 : (t : ℕ) → conditional-lts.Need-add-branch-2 (
+  expression-reads.Asked,
+  expression-reads.Learnt,
+  block-below t,
+  block.Post,
+  block-refusal-reads.Asked,
+  block-refusal-reads.Learnt,
+  branch-reads.Asked,
+  branch-reads.Learnt,
+  put-reads.Asked,
+  put-reads.Learnt,
+  next-reads.Asked,
+  next-reads.Learnt,
+) (conditional-at t) conditional.Post
+conditional-add-branch-2 t c = omega (arith, if-numbers (wordsIn (c .before .before .before .before .before .before .before .before .before .before .before .before .before .before .before .before .before .before .before .before .before .before .before .args .reserved .now) (c .before .before .before .before .before .before .before .before .before .before .before .before .before .before .before .before .before .before .before .before .before .before .before .args .currencies .now) (c .before .before .before .before .before .before .before .before .before .before .before .before .before .before .before .before .before .before .before .before .before .before .before .args .counters .now)) (c .before .before .before .before .before .before .before .before .before .before .before .before .before .before .before .before .before .before .before .before .before .before .before .args .depth) (c .before .before .before .before .before .before .before .before .before .before .before .before .before .before .before .before .before .before .before .before .before .before .before .args .s .now) (c .before .before .before .before .before .before .before .before .before .before .before .before .before .before .before .before .before .before .before .before .before .before .before .args .c) (c .before .before .before .before .before .before .before .before .before .before .before .before .before .before .before .before .before .before .before .before .before .before .before .args .d) (c .before .before .before .before .before .before .before .before .before .before .before .before .before .before .before .before .before .before .before .before .before .before .before .pre .1 .1) (c .before .before .before .before .before .before .before .before .before .before .before .before .before .before .before .before .before .before .before .before .before .before .before .pre .1 .2) (c .before .before .before .before .before .before .before .before .before .before .before .before .before .before .before .before .before .if1 .left) _ (c .before .before .before .before .before .before .before .before .before .before .before .before .before .before .before .before .before .before .before .before .before .before .before .pre .1 .0 .1) _ _ _ _ _ (done-reads _ _ _ _ _ _ _ _ _ (c .before .before .before .before .before .before .before .before .before .before .before .r .given .1) (c .before .before .before .before .before .before .before .before .before .before .before .before .before .before .before .expression .ensures)) _ _ _ _ (done-block _ _ _ _ _ _ _ _ _ (c .before .before .before .before .q .given .1) (c .before .before .before .before .before .before .before .before .block .ensures)))
+
+-- src/statements.rt:84:21
+conditional-branch-requires : (t : ℕ) → conditional-lts.Need-branch-requires (
+  expression-reads.Asked,
+  expression-reads.Learnt,
+  block-below t,
+  block.Post,
+  block-refusal-reads.Asked,
+  block-refusal-reads.Learnt,
+  branch-reads.Asked,
+  branch-reads.Learnt,
+  put-reads.Asked,
+  put-reads.Learnt,
+  next-reads.Asked,
+  next-reads.Learnt,
+) (conditional-at t) conditional.Post
+conditional-branch-requires t c κs = search needs
+
+-- src/statements.rt:84:9
+conditional-put-requires : (t : ℕ) → conditional-lts.Need-put-requires (
+  expression-reads.Asked,
+  expression-reads.Learnt,
+  block-below t,
+  block.Post,
+  block-refusal-reads.Asked,
+  block-refusal-reads.Learnt,
+  branch-reads.Asked,
+  branch-reads.Learnt,
+  put-reads.Asked,
+  put-reads.Learnt,
+  next-reads.Asked,
+  next-reads.Learnt,
+) (conditional-at t) conditional.Post
+conditional-put-requires t c κs = search needs
+
+-- src/statements.rt:85:30
+conditional-add-t31 : (t : ℕ) → conditional-lts.Need-add-t31 (
+  expression-reads.Asked,
+  expression-reads.Learnt,
+  block-below t,
+  block.Post,
+  block-refusal-reads.Asked,
+  block-refusal-reads.Learnt,
+  branch-reads.Asked,
+  branch-reads.Learnt,
+  put-reads.Asked,
+  put-reads.Learnt,
+  next-reads.Asked,
+  next-reads.Learnt,
+) (conditional-at t) conditional.Post
+conditional-add-t31 t c = omega (arith, if-numbers (wordsIn (c .before .before .before .before .before .before .before .before .before .before .before .before .before .before .before .before .before .before .before .before .before .before .before .before .before .before .before .args .reserved .now) (c .before .before .before .before .before .before .before .before .before .before .before .before .before .before .before .before .before .before .before .before .before .before .before .before .before .before .before .args .currencies .now) (c .before .before .before .before .before .before .before .before .before .before .before .before .before .before .before .before .before .before .before .before .before .before .before .before .before .before .before .args .counters .now)) (c .before .before .before .before .before .before .before .before .before .before .before .before .before .before .before .before .before .before .before .before .before .before .before .before .before .before .before .args .depth) (c .before .before .before .before .before .before .before .before .before .before .before .before .before .before .before .before .before .before .before .before .before .before .before .before .before .before .before .args .s .now) (c .before .before .before .before .before .before .before .before .before .before .before .before .before .before .before .before .before .before .before .before .before .before .before .before .before .before .before .args .c) (c .before .before .before .before .before .before .before .before .before .before .before .before .before .before .before .before .before .before .before .before .before .before .before .before .before .before .before .args .d) (c .before .before .before .before .before .before .before .before .before .before .before .before .before .before .before .before .before .before .before .before .before .before .before .before .before .before .before .pre .1 .1) (c .before .before .before .before .before .before .before .before .before .before .before .before .before .before .before .before .before .before .before .before .before .before .before .before .before .before .before .pre .1 .2) (c .before .before .before .before .before .before .before .before .before .before .before .before .before .before .before .before .before .before .before .before .before .if1 .left) _ (c .before .before .before .before .before .before .before .before .before .before .before .before .before .before .before .before .before .before .before .before .before .before .before .before .before .before .before .pre .1 .0 .1) _ _ _ _ _ (done-reads _ _ _ _ _ _ _ _ _ (c .before .before .before .before .before .before .before .before .before .before .before .before .before .before .before .r .given .1) (c .before .before .before .before .before .before .before .before .before .before .before .before .before .before .before .before .before .before .before .expression .ensures)) _ _ _ _ (done-block _ _ _ _ _ _ _ _ _ (c .before .before .before .before .before .before .before .before .q .given .1) (c .before .before .before .before .before .before .before .before .before .before .before .before .block .ensures)))
+
+-- src/statements.rt:85:9
+conditional-same-length-3 : (t : ℕ) → conditional-lts.Need-same-length-3 (
+  expression-reads.Asked,
+  expression-reads.Learnt,
+  block-below t,
+  block.Post,
+  block-refusal-reads.Asked,
+  block-refusal-reads.Learnt,
+  branch-reads.Asked,
+  branch-reads.Learnt,
+  put-reads.Asked,
+  put-reads.Learnt,
+  next-reads.Asked,
+  next-reads.Learnt,
+) (conditional-at t) conditional.Post
+conditional-same-length-3 t c = c .before .before .put .kept .0 ∙ (c .before .before .before .before .before .before .before .before .before .before .before .before .block .kept .1 .1 .1 .1 .1 .1 .0 ∙ c .before .before .before .before .before .before .before .before .before .before .before .before .before .before .before .before .before .before .before .expression .kept .1 .1 .1 .1 .1 .1 .0)
+
+-- src/statements.rt:85:9
+conditional-returns-4 : (t : ℕ) → conditional-lts.Need-returns-4 (
+  expression-reads.Asked,
+  expression-reads.Learnt,
+  block-below t,
+  block.Post,
+  block-refusal-reads.Asked,
+  block-refusal-reads.Learnt,
+  branch-reads.Asked,
+  branch-reads.Learnt,
+  put-reads.Asked,
+  put-reads.Learnt,
+  next-reads.Asked,
+  next-reads.Learnt,
+) (conditional-at t) conditional.Post
+conditional-returns-4 t c = if-done (wordsIn (c .before .before .before .before .before .before .before .before .before .before .before .before .before .before .before .before .before .before .before .before .before .before .before .before .before .before .before .args .reserved .now) (c .before .before .before .before .before .before .before .before .before .before .before .before .before .before .before .before .before .before .before .before .before .before .before .before .before .before .before .args .currencies .now) (c .before .before .before .before .before .before .before .before .before .before .before .before .before .before .before .before .before .before .before .before .before .before .before .before .before .before .before .args .counters .now)) (c .before .before .before .before .before .before .before .before .before .before .before .before .before .before .before .before .before .before .before .before .before .before .before .before .before .before .before .args .depth) (c .before .before .before .before .before .before .before .before .before .before .before .before .before .before .before .before .before .before .before .before .before .before .before .before .before .before .before .args .s .now) (c .before .before .before .before .before .before .before .before .before .before .before .before .before .before .before .before .before .before .before .before .before .before .before .before .before .before .before .args .c) (c .before .before .before .before .before .before .before .before .before .before .before .before .before .before .before .before .before .before .before .before .before .before .before .before .before .before .before .args .d) (c .before .before .before .before .before .before .before .before .before .before .before .before .before .before .before .before .before .before .before .before .before .before .before .before .before .before .before .pre .1 .1) (c .before .before .before .before .before .before .before .before .before .before .before .before .before .before .before .before .before .before .before .before .before .before .before .before .before .before .before .pre .1 .2) (c .before .before .before .before .before .before .before .before .before .before .before .before .before .before .before .before .before .before .before .before .before .if1 .left) _ (c .before .before .before .before .before .before .before .before .before .before .before .before .before .before .before .before .before .before .before .before .before .before .before .before .before .before .before .pre .1 .0 .1) _ _ _ _ _ (done-reads _ _ _ _ _ _ _ _ _ (c .before .before .before .before .before .before .before .before .before .before .before .before .before .before .before .r .given .1) (c .before .before .before .before .before .before .before .before .before .before .before .before .before .before .before .before .before .before .before .expression .ensures)) _ _ _ _ (done-block _ _ _ _ _ _ _ _ _ (c .before .before .before .before .before .before .before .before .q .given .1) (c .before .before .before .before .before .before .before .before .before .before .before .before .block .ensures)) (c .before .before .before .before .before .if2 .taken) _ (put-fields _ _ _ _ _ _ _ _ _ (c .before .before .before .branch .ensures) (c .before .before .put .ensures))
+
+-- src/statements.rt:92:9
+conditional-next-requires : (t : ℕ) → conditional-lts.Need-next-requires (
+  expression-reads.Asked,
+  expression-reads.Learnt,
+  block-below t,
+  block.Post,
+  block-refusal-reads.Asked,
+  block-refusal-reads.Learnt,
+  branch-reads.Asked,
+  branch-reads.Learnt,
+  put-reads.Asked,
+  put-reads.Learnt,
+  next-reads.Asked,
+  next-reads.Learnt,
+) (conditional-at t) conditional.Post
+conditional-next-requires t c κs = (done-block _ _ _ _ _ _ _ _ _ (c .before .before .before .q .given .1) (c .before .before .before .before .before .before .before .block .ensures)) .holds
+
+-- src/statements.rt:93:9
+conditional-sub-block-2 : (t : ℕ) → conditional-lts.Need-sub-block-2 (
+  expression-reads.Asked,
+  expression-reads.Learnt,
+  block-below t,
+  block.Post,
+  block-refusal-reads.Asked,
+  block-refusal-reads.Learnt,
+  branch-reads.Asked,
+  branch-reads.Learnt,
+  put-reads.Asked,
+  put-reads.Learnt,
+  next-reads.Asked,
+  next-reads.Learnt,
+) (conditional-at t) conditional.Post
+conditional-sub-block-2 t c = omega (arith, c .before .before .before .before .before .before .before .before .before .before .before .before .before .before .before .before .before .if1 .left)
+
+-- src/statements.rt:87:9
+conditional-block-requires-2 : (t : ℕ) → conditional-lts.Need-block-requires-2 (
+  expression-reads.Asked,
+  expression-reads.Learnt,
+  block-below t,
+  block.Post,
+  block-refusal-reads.Asked,
+  block-refusal-reads.Learnt,
+  branch-reads.Asked,
+  branch-reads.Learnt,
+  put-reads.Asked,
+  put-reads.Learnt,
+  next-reads.Asked,
+  next-reads.Learnt,
+) (conditional-at t) conditional.Post
+conditional-block-requires-2 t c κs = (omega (arith, c .before .before .before .before .before .before .before .before .before .before .before .before .before .before .before .before .before .before .before .before .before .before .before .before .pre .0, c .before .before .before .before .before .before .before .before .before .before .before .before .before .before .before .before .before .before .if1 .left), (else-ready (wordsIn (c .before .before .before .before .before .before .before .before .before .before .before .before .before .before .before .before .before .before .before .before .before .before .before .before .args .reserved .now) (c .before .before .before .before .before .before .before .before .before .before .before .before .before .before .before .before .before .before .before .before .before .before .before .before .args .currencies .now) (c .before .before .before .before .before .before .before .before .before .before .before .before .before .before .before .before .before .before .before .before .before .before .before .before .args .counters .now)) (c .before .before .before .before .before .before .before .before .before .before .before .before .before .before .before .before .before .before .before .before .before .before .before .before .args .depth) (c .before .before .before .before .before .before .before .before .before .before .before .before .before .before .before .before .before .before .before .before .before .before .before .before .args .s .now) (c .before .before .before .before .before .before .before .before .before .before .before .before .before .before .before .before .before .before .before .before .before .before .before .before .args .c) (c .before .before .before .before .before .before .before .before .before .before .before .before .before .before .before .before .before .before .before .before .before .before .before .before .args .d) (c .before .before .before .before .before .before .before .before .before .before .before .before .before .before .before .before .before .before .before .before .before .before .before .before .pre .1 .1) (c .before .before .before .before .before .before .before .before .before .before .before .before .before .before .before .before .before .before .before .before .before .before .before .before .pre .1 .2) (c .before .before .before .before .before .before .before .before .before .before .before .before .before .before .before .before .before .before .if1 .left) _ (c .before .before .before .before .before .before .before .before .before .before .before .before .before .before .before .before .before .before .before .before .before .before .before .before .pre .1 .0 .1) _ _ _ _ _ (done-reads _ _ _ _ _ _ _ _ _ (c .before .before .before .before .before .before .before .before .before .before .before .before .r .given .1) (c .before .before .before .before .before .before .before .before .before .before .before .before .before .before .before .before .expression .ensures)) _ _ _ _ (done-block _ _ _ _ _ _ _ _ _ (c .before .before .before .before .before .q .given .1) (c .before .before .before .before .before .before .before .before .before .block .ensures)) (c .before .before .if2 .left) (c .before .next .result) (c .before .next .ensures), c .before .before .before .before .before .before .before .before .before .before .before .before .before .before .before .before .before .before .before .before .before .before .before .before .pre .1 .3))
+
+-- src/statements.rt:97:21
+conditional-enum-known-p : (t : ℕ) → conditional-lts.Need-enum-known-p (
+  expression-reads.Asked,
+  expression-reads.Learnt,
+  block-below t,
+  block.Post,
+  block-refusal-reads.Asked,
+  block-refusal-reads.Learnt,
+  branch-reads.Asked,
+  branch-reads.Learnt,
+  put-reads.Asked,
+  put-reads.Learnt,
+  next-reads.Asked,
+  next-reads.Learnt,
+) (conditional-at t) conditional.Post
+conditional-enum-known-p t c = search needs
+
+-- src/statements.rt:98:9
+conditional-enum-told-3 : (t : ℕ) → conditional-lts.Need-enum-told-3 (
+  expression-reads.Asked,
+  expression-reads.Learnt,
+  block-below t,
+  block.Post,
+  block-refusal-reads.Asked,
+  block-refusal-reads.Learnt,
+  branch-reads.Asked,
+  branch-reads.Learnt,
+  put-reads.Asked,
+  put-reads.Learnt,
+  next-reads.Asked,
+  next-reads.Learnt,
+) (conditional-at t) conditional.Post
+conditional-enum-told-3 t c = search needs
+
+-- src/statements.rt:98:9
+conditional-block-refusal-requires-2 : (t : ℕ) → conditional-lts.Need-block-refusal-requires-2 (
+  expression-reads.Asked,
+  expression-reads.Learnt,
+  block-below t,
+  block.Post,
+  block-refusal-reads.Asked,
+  block-refusal-reads.Learnt,
+  branch-reads.Asked,
+  branch-reads.Learnt,
+  put-reads.Asked,
+  put-reads.Learnt,
+  next-reads.Asked,
+  next-reads.Learnt,
+) (conditional-at t) conditional.Post
+conditional-block-refusal-requires-2 t c κs = search needs
+
+-- src/statements.rt:98:9
+conditional-same-length-4 : (t : ℕ) → conditional-lts.Need-same-length-4 (
+  expression-reads.Asked,
+  expression-reads.Learnt,
+  block-below t,
+  block.Post,
+  block-refusal-reads.Asked,
+  block-refusal-reads.Learnt,
+  branch-reads.Asked,
+  branch-reads.Learnt,
+  put-reads.Asked,
+  put-reads.Learnt,
+  next-reads.Asked,
+  next-reads.Learnt,
+) (conditional-at t) conditional.Post
+conditional-same-length-4 t c = c .before .before .before .before .before .block2 .kept .1 .1 .1 .1 .1 .1 .0 ∙ (c .before .before .before .before .before .before .before .before .before .before .before .before .before .before .before .block .kept .1 .1 .1 .1 .1 .1 .0 ∙ c .before .before .before .before .before .before .before .before .before .before .before .before .before .before .before .before .before .before .before .before .before .before .expression .kept .1 .1 .1 .1 .1 .1 .0)
+
+-- src/statements.rt:98:9
+conditional-returns-5 : (t : ℕ) → conditional-lts.Need-returns-5 (
+  expression-reads.Asked,
+  expression-reads.Learnt,
+  block-below t,
+  block.Post,
+  block-refusal-reads.Asked,
+  block-refusal-reads.Learnt,
+  branch-reads.Asked,
+  branch-reads.Learnt,
+  put-reads.Asked,
+  put-reads.Learnt,
+  next-reads.Asked,
+  next-reads.Learnt,
+) (conditional-at t) conditional.Post
+conditional-returns-5 t c = block-refusal-on _ _ _ _ _ _ (c .block-refusal2 .result) _ _ _ _ _ _ (c .before .enum-told3 .given .1) (c .before .before .before .before .before .block2 .ensures) (c .block-refusal2 .ensures) (else-refused (wordsIn (c .before .before .before .before .before .before .before .before .before .before .before .before .before .before .before .before .before .before .before .before .before .before .before .before .before .before .before .before .before .before .args .reserved .now) (c .before .before .before .before .before .before .before .before .before .before .before .before .before .before .before .before .before .before .before .before .before .before .before .before .before .before .before .before .before .before .args .currencies .now) (c .before .before .before .before .before .before .before .before .before .before .before .before .before .before .before .before .before .before .before .before .before .before .before .before .before .before .before .before .before .before .args .counters .now)) (c .before .before .before .before .before .before .before .before .before .before .before .before .before .before .before .before .before .before .before .before .before .before .before .before .before .before .before .before .before .before .args .depth) (c .before .before .before .before .before .before .before .before .before .before .before .before .before .before .before .before .before .before .before .before .before .before .before .before .before .before .before .before .before .before .args .s .now) (c .before .before .before .before .before .before .before .before .before .before .before .before .before .before .before .before .before .before .before .before .before .before .before .before .before .before .before .before .before .before .args .c) (c .before .before .before .before .before .before .before .before .before .before .before .before .before .before .before .before .before .before .before .before .before .before .before .before .before .before .before .before .before .before .args .d) (c .before .before .before .before .before .before .before .before .before .before .before .before .before .before .before .before .before .before .before .before .before .before .before .before .before .before .before .before .before .before .pre .1 .1) (c .before .before .before .before .before .before .before .before .before .before .before .before .before .before .before .before .before .before .before .before .before .before .before .before .before .before .before .before .before .before .pre .1 .2) (c .before .before .before .before .before .before .before .before .before .before .before .before .before .before .before .before .before .before .before .before .before .before .before .before .if1 .left) _ (c .before .before .before .before .before .before .before .before .before .before .before .before .before .before .before .before .before .before .before .before .before .before .before .before .before .before .before .before .before .before .pre .1 .0 .1) _ _ _ _ _ (done-reads _ _ _ _ _ _ _ _ _ (c .before .before .before .before .before .before .before .before .before .before .before .before .before .before .before .before .before .before .r .given .1) (c .before .before .before .before .before .before .before .before .before .before .before .before .before .before .before .before .before .before .before .before .before .before .expression .ensures)) _ _ _ _ (done-block _ _ _ _ _ _ _ _ _ (c .before .before .before .before .before .before .before .before .before .before .before .q .given .1) (c .before .before .before .before .before .before .before .before .before .before .before .before .before .before .before .block .ensures)) (c .before .before .before .before .before .before .before .before .if2 .left) (c .before .before .before .before .before .before .before .next .result) (c .before .before .before .before .before .before .before .next .ensures) _ _)
+
+-- src/statements.rt:100:24
+conditional-sub-branch-2 : (t : ℕ) → conditional-lts.Need-sub-branch-2 (
+  expression-reads.Asked,
+  expression-reads.Learnt,
+  block-below t,
+  block.Post,
+  block-refusal-reads.Asked,
+  block-refusal-reads.Learnt,
+  branch-reads.Asked,
+  branch-reads.Learnt,
+  put-reads.Asked,
+  put-reads.Learnt,
+  next-reads.Asked,
+  next-reads.Learnt,
+) (conditional-at t) conditional.Post
+conditional-sub-branch-2 t c = omega (arith, else-numbers (wordsIn (c .before .before .before .before .before .before .before .before .before .before .before .before .before .before .before .before .before .before .before .before .before .before .before .before .before .before .before .before .before .before .before .args .reserved .now) (c .before .before .before .before .before .before .before .before .before .before .before .before .before .before .before .before .before .before .before .before .before .before .before .before .before .before .before .before .before .before .before .args .currencies .now) (c .before .before .before .before .before .before .before .before .before .before .before .before .before .before .before .before .before .before .before .before .before .before .before .before .before .before .before .before .before .before .before .args .counters .now)) (c .before .before .before .before .before .before .before .before .before .before .before .before .before .before .before .before .before .before .before .before .before .before .before .before .before .before .before .before .before .before .before .args .depth) (c .before .before .before .before .before .before .before .before .before .before .before .before .before .before .before .before .before .before .before .before .before .before .before .before .before .before .before .before .before .before .before .args .s .now) (c .before .before .before .before .before .before .before .before .before .before .before .before .before .before .before .before .before .before .before .before .before .before .before .before .before .before .before .before .before .before .before .args .c) (c .before .before .before .before .before .before .before .before .before .before .before .before .before .before .before .before .before .before .before .before .before .before .before .before .before .before .before .before .before .before .before .args .d) (c .before .before .before .before .before .before .before .before .before .before .before .before .before .before .before .before .before .before .before .before .before .before .before .before .before .before .before .before .before .before .before .pre .1 .1) (c .before .before .before .before .before .before .before .before .before .before .before .before .before .before .before .before .before .before .before .before .before .before .before .before .before .before .before .before .before .before .before .pre .1 .2) (c .before .before .before .before .before .before .before .before .before .before .before .before .before .before .before .before .before .before .before .before .before .before .before .before .before .if1 .left) _ (c .before .before .before .before .before .before .before .before .before .before .before .before .before .before .before .before .before .before .before .before .before .before .before .before .before .before .before .before .before .before .before .pre .1 .0 .1) _ _ _ _ _ (done-reads _ _ _ _ _ _ _ _ _ (c .before .before .before .before .before .before .before .before .before .before .before .before .before .before .before .before .before .before .before .r .given .1) (c .before .before .before .before .before .before .before .before .before .before .before .before .before .before .before .before .before .before .before .before .before .before .before .expression .ensures)) _ _ _ _ (done-block _ _ _ _ _ _ _ _ _ (c .before .before .before .before .before .before .before .before .before .before .before .before .q .given .1) (c .before .before .before .before .before .before .before .before .before .before .before .before .before .before .before .before .block .ensures)) (c .before .before .before .before .before .before .before .before .before .if2 .left) (c .before .before .before .before .before .before .before .before .next .result) (c .before .before .before .before .before .before .before .before .next .ensures) _ _ _ _ (done-block _ _ _ _ _ _ _ _ _ (c .before .before .p .given .1) (c .before .before .before .before .before .before .block2 .ensures)), if-numbers (wordsIn (c .before .before .before .before .before .before .before .before .before .before .before .before .before .before .before .before .before .before .before .before .before .before .before .before .before .before .before .before .before .before .before .args .reserved .now) (c .before .before .before .before .before .before .before .before .before .before .before .before .before .before .before .before .before .before .before .before .before .before .before .before .before .before .before .before .before .before .before .args .currencies .now) (c .before .before .before .before .before .before .before .before .before .before .before .before .before .before .before .before .before .before .before .before .before .before .before .before .before .before .before .before .before .before .before .args .counters .now)) (c .before .before .before .before .before .before .before .before .before .before .before .before .before .before .before .before .before .before .before .before .before .before .before .before .before .before .before .before .before .before .before .args .depth) (c .before .before .before .before .before .before .before .before .before .before .before .before .before .before .before .before .before .before .before .before .before .before .before .before .before .before .before .before .before .before .before .args .s .now) (c .before .before .before .before .before .before .before .before .before .before .before .before .before .before .before .before .before .before .before .before .before .before .before .before .before .before .before .before .before .before .before .args .c) (c .before .before .before .before .before .before .before .before .before .before .before .before .before .before .before .before .before .before .before .before .before .before .before .before .before .before .before .before .before .before .before .args .d) (c .before .before .before .before .before .before .before .before .before .before .before .before .before .before .before .before .before .before .before .before .before .before .before .before .before .before .before .before .before .before .before .pre .1 .1) (c .before .before .before .before .before .before .before .before .before .before .before .before .before .before .before .before .before .before .before .before .before .before .before .before .before .before .before .before .before .before .before .pre .1 .2) (c .before .before .before .before .before .before .before .before .before .before .before .before .before .before .before .before .before .before .before .before .before .before .before .before .before .if1 .left) _ (c .before .before .before .before .before .before .before .before .before .before .before .before .before .before .before .before .before .before .before .before .before .before .before .before .before .before .before .before .before .before .before .pre .1 .0 .1) _ _ _ _ _ (done-reads _ _ _ _ _ _ _ _ _ (c .before .before .before .before .before .before .before .before .before .before .before .before .before .before .before .before .before .before .before .r .given .1) (c .before .before .before .before .before .before .before .before .before .before .before .before .before .before .before .before .before .before .before .before .before .before .before .expression .ensures)) _ _ _ _ (done-block _ _ _ _ _ _ _ _ _ (c .before .before .before .before .before .before .before .before .before .before .before .before .q .given .1) (c .before .before .before .before .before .before .before .before .before .before .before .before .before .before .before .before .block .ensures)))
+
+-- src/statements.rt:100:24
+conditional-add-branch-3 : (t : ℕ) → conditional-lts.Need-add-branch-3 (
+  expression-reads.Asked,
+  expression-reads.Learnt,
+  block-below t,
+  block.Post,
+  block-refusal-reads.Asked,
+  block-refusal-reads.Learnt,
+  branch-reads.Asked,
+  branch-reads.Learnt,
+  put-reads.Asked,
+  put-reads.Learnt,
+  next-reads.Asked,
+  next-reads.Learnt,
+) (conditional-at t) conditional.Post
+conditional-add-branch-3 t c = omega (arith, else-numbers (wordsIn (c .before .before .before .before .before .before .before .before .before .before .before .before .before .before .before .before .before .before .before .before .before .before .before .before .before .before .before .before .before .before .before .args .reserved .now) (c .before .before .before .before .before .before .before .before .before .before .before .before .before .before .before .before .before .before .before .before .before .before .before .before .before .before .before .before .before .before .before .args .currencies .now) (c .before .before .before .before .before .before .before .before .before .before .before .before .before .before .before .before .before .before .before .before .before .before .before .before .before .before .before .before .before .before .before .args .counters .now)) (c .before .before .before .before .before .before .before .before .before .before .before .before .before .before .before .before .before .before .before .before .before .before .before .before .before .before .before .before .before .before .before .args .depth) (c .before .before .before .before .before .before .before .before .before .before .before .before .before .before .before .before .before .before .before .before .before .before .before .before .before .before .before .before .before .before .before .args .s .now) (c .before .before .before .before .before .before .before .before .before .before .before .before .before .before .before .before .before .before .before .before .before .before .before .before .before .before .before .before .before .before .before .args .c) (c .before .before .before .before .before .before .before .before .before .before .before .before .before .before .before .before .before .before .before .before .before .before .before .before .before .before .before .before .before .before .before .args .d) (c .before .before .before .before .before .before .before .before .before .before .before .before .before .before .before .before .before .before .before .before .before .before .before .before .before .before .before .before .before .before .before .pre .1 .1) (c .before .before .before .before .before .before .before .before .before .before .before .before .before .before .before .before .before .before .before .before .before .before .before .before .before .before .before .before .before .before .before .pre .1 .2) (c .before .before .before .before .before .before .before .before .before .before .before .before .before .before .before .before .before .before .before .before .before .before .before .before .before .if1 .left) _ (c .before .before .before .before .before .before .before .before .before .before .before .before .before .before .before .before .before .before .before .before .before .before .before .before .before .before .before .before .before .before .before .pre .1 .0 .1) _ _ _ _ _ (done-reads _ _ _ _ _ _ _ _ _ (c .before .before .before .before .before .before .before .before .before .before .before .before .before .before .before .before .before .before .before .r .given .1) (c .before .before .before .before .before .before .before .before .before .before .before .before .before .before .before .before .before .before .before .before .before .before .before .expression .ensures)) _ _ _ _ (done-block _ _ _ _ _ _ _ _ _ (c .before .before .before .before .before .before .before .before .before .before .before .before .q .given .1) (c .before .before .before .before .before .before .before .before .before .before .before .before .before .before .before .before .block .ensures)) (c .before .before .before .before .before .before .before .before .before .if2 .left) (c .before .before .before .before .before .before .before .before .next .result) (c .before .before .before .before .before .before .before .before .next .ensures) _ _ _ _ (done-block _ _ _ _ _ _ _ _ _ (c .before .before .p .given .1) (c .before .before .before .before .before .before .block2 .ensures)), if-numbers (wordsIn (c .before .before .before .before .before .before .before .before .before .before .before .before .before .before .before .before .before .before .before .before .before .before .before .before .before .before .before .before .before .before .before .args .reserved .now) (c .before .before .before .before .before .before .before .before .before .before .before .before .before .before .before .before .before .before .before .before .before .before .before .before .before .before .before .before .before .before .before .args .currencies .now) (c .before .before .before .before .before .before .before .before .before .before .before .before .before .before .before .before .before .before .before .before .before .before .before .before .before .before .before .before .before .before .before .args .counters .now)) (c .before .before .before .before .before .before .before .before .before .before .before .before .before .before .before .before .before .before .before .before .before .before .before .before .before .before .before .before .before .before .before .args .depth) (c .before .before .before .before .before .before .before .before .before .before .before .before .before .before .before .before .before .before .before .before .before .before .before .before .before .before .before .before .before .before .before .args .s .now) (c .before .before .before .before .before .before .before .before .before .before .before .before .before .before .before .before .before .before .before .before .before .before .before .before .before .before .before .before .before .before .before .args .c) (c .before .before .before .before .before .before .before .before .before .before .before .before .before .before .before .before .before .before .before .before .before .before .before .before .before .before .before .before .before .before .before .args .d) (c .before .before .before .before .before .before .before .before .before .before .before .before .before .before .before .before .before .before .before .before .before .before .before .before .before .before .before .before .before .before .before .pre .1 .1) (c .before .before .before .before .before .before .before .before .before .before .before .before .before .before .before .before .before .before .before .before .before .before .before .before .before .before .before .before .before .before .before .pre .1 .2) (c .before .before .before .before .before .before .before .before .before .before .before .before .before .before .before .before .before .before .before .before .before .before .before .before .before .if1 .left) _ (c .before .before .before .before .before .before .before .before .before .before .before .before .before .before .before .before .before .before .before .before .before .before .before .before .before .before .before .before .before .before .before .pre .1 .0 .1) _ _ _ _ _ (done-reads _ _ _ _ _ _ _ _ _ (c .before .before .before .before .before .before .before .before .before .before .before .before .before .before .before .before .before .before .before .r .given .1) (c .before .before .before .before .before .before .before .before .before .before .before .before .before .before .before .before .before .before .before .before .before .before .before .expression .ensures)) _ _ _ _ (done-block _ _ _ _ _ _ _ _ _ (c .before .before .before .before .before .before .before .before .before .before .before .before .q .given .1) (c .before .before .before .before .before .before .before .before .before .before .before .before .before .before .before .before .block .ensures)))
+
+-- src/statements.rt:100:35
+conditional-add-branch-4 : (t : ℕ) → conditional-lts.Need-add-branch-4 (
+  expression-reads.Asked,
+  expression-reads.Learnt,
+  block-below t,
+  block.Post,
+  block-refusal-reads.Asked,
+  block-refusal-reads.Learnt,
+  branch-reads.Asked,
+  branch-reads.Learnt,
+  put-reads.Asked,
+  put-reads.Learnt,
+  next-reads.Asked,
+  next-reads.Learnt,
+) (conditional-at t) conditional.Post
+conditional-add-branch-4 t c = omega (arith, else-numbers (wordsIn (c .before .before .before .before .before .before .before .before .before .before .before .before .before .before .before .before .before .before .before .before .before .before .before .before .before .before .before .before .before .before .before .args .reserved .now) (c .before .before .before .before .before .before .before .before .before .before .before .before .before .before .before .before .before .before .before .before .before .before .before .before .before .before .before .before .before .before .before .args .currencies .now) (c .before .before .before .before .before .before .before .before .before .before .before .before .before .before .before .before .before .before .before .before .before .before .before .before .before .before .before .before .before .before .before .args .counters .now)) (c .before .before .before .before .before .before .before .before .before .before .before .before .before .before .before .before .before .before .before .before .before .before .before .before .before .before .before .before .before .before .before .args .depth) (c .before .before .before .before .before .before .before .before .before .before .before .before .before .before .before .before .before .before .before .before .before .before .before .before .before .before .before .before .before .before .before .args .s .now) (c .before .before .before .before .before .before .before .before .before .before .before .before .before .before .before .before .before .before .before .before .before .before .before .before .before .before .before .before .before .before .before .args .c) (c .before .before .before .before .before .before .before .before .before .before .before .before .before .before .before .before .before .before .before .before .before .before .before .before .before .before .before .before .before .before .before .args .d) (c .before .before .before .before .before .before .before .before .before .before .before .before .before .before .before .before .before .before .before .before .before .before .before .before .before .before .before .before .before .before .before .pre .1 .1) (c .before .before .before .before .before .before .before .before .before .before .before .before .before .before .before .before .before .before .before .before .before .before .before .before .before .before .before .before .before .before .before .pre .1 .2) (c .before .before .before .before .before .before .before .before .before .before .before .before .before .before .before .before .before .before .before .before .before .before .before .before .before .if1 .left) _ (c .before .before .before .before .before .before .before .before .before .before .before .before .before .before .before .before .before .before .before .before .before .before .before .before .before .before .before .before .before .before .before .pre .1 .0 .1) _ _ _ _ _ (done-reads _ _ _ _ _ _ _ _ _ (c .before .before .before .before .before .before .before .before .before .before .before .before .before .before .before .before .before .before .before .r .given .1) (c .before .before .before .before .before .before .before .before .before .before .before .before .before .before .before .before .before .before .before .before .before .before .before .expression .ensures)) _ _ _ _ (done-block _ _ _ _ _ _ _ _ _ (c .before .before .before .before .before .before .before .before .before .before .before .before .q .given .1) (c .before .before .before .before .before .before .before .before .before .before .before .before .before .before .before .before .block .ensures)) (c .before .before .before .before .before .before .before .before .before .if2 .left) (c .before .before .before .before .before .before .before .before .next .result) (c .before .before .before .before .before .before .before .before .next .ensures) _ _ _ _ (done-block _ _ _ _ _ _ _ _ _ (c .before .before .p .given .1) (c .before .before .before .before .before .before .block2 .ensures)), if-numbers (wordsIn (c .before .before .before .before .before .before .before .before .before .before .before .before .before .before .before .before .before .before .before .before .before .before .before .before .before .before .before .before .before .before .before .args .reserved .now) (c .before .before .before .before .before .before .before .before .before .before .before .before .before .before .before .before .before .before .before .before .before .before .before .before .before .before .before .before .before .before .before .args .currencies .now) (c .before .before .before .before .before .before .before .before .before .before .before .before .before .before .before .before .before .before .before .before .before .before .before .before .before .before .before .before .before .before .before .args .counters .now)) (c .before .before .before .before .before .before .before .before .before .before .before .before .before .before .before .before .before .before .before .before .before .before .before .before .before .before .before .before .before .before .before .args .depth) (c .before .before .before .before .before .before .before .before .before .before .before .before .before .before .before .before .before .before .before .before .before .before .before .before .before .before .before .before .before .before .before .args .s .now) (c .before .before .before .before .before .before .before .before .before .before .before .before .before .before .before .before .before .before .before .before .before .before .before .before .before .before .before .before .before .before .before .args .c) (c .before .before .before .before .before .before .before .before .before .before .before .before .before .before .before .before .before .before .before .before .before .before .before .before .before .before .before .before .before .before .before .args .d) (c .before .before .before .before .before .before .before .before .before .before .before .before .before .before .before .before .before .before .before .before .before .before .before .before .before .before .before .before .before .before .before .pre .1 .1) (c .before .before .before .before .before .before .before .before .before .before .before .before .before .before .before .before .before .before .before .before .before .before .before .before .before .before .before .before .before .before .before .pre .1 .2) (c .before .before .before .before .before .before .before .before .before .before .before .before .before .before .before .before .before .before .before .before .before .before .before .before .before .if1 .left) _ (c .before .before .before .before .before .before .before .before .before .before .before .before .before .before .before .before .before .before .before .before .before .before .before .before .before .before .before .before .before .before .before .pre .1 .0 .1) _ _ _ _ _ (done-reads _ _ _ _ _ _ _ _ _ (c .before .before .before .before .before .before .before .before .before .before .before .before .before .before .before .before .before .before .before .r .given .1) (c .before .before .before .before .before .before .before .before .before .before .before .before .before .before .before .before .before .before .before .before .before .before .before .expression .ensures)) _ _ _ _ (done-block _ _ _ _ _ _ _ _ _ (c .before .before .before .before .before .before .before .before .before .before .before .before .q .given .1) (c .before .before .before .before .before .before .before .before .before .before .before .before .before .before .before .before .block .ensures)))
+
+-- src/statements.rt:100:35
+conditional-add-branch-5 : (t : ℕ) → conditional-lts.Need-add-branch-5 (
+  expression-reads.Asked,
+  expression-reads.Learnt,
+  block-below t,
+  block.Post,
+  block-refusal-reads.Asked,
+  block-refusal-reads.Learnt,
+  branch-reads.Asked,
+  branch-reads.Learnt,
+  put-reads.Asked,
+  put-reads.Learnt,
+  next-reads.Asked,
+  next-reads.Learnt,
+) (conditional-at t) conditional.Post
+conditional-add-branch-5 t c = omega (arith, else-numbers (wordsIn (c .before .before .before .before .before .before .before .before .before .before .before .before .before .before .before .before .before .before .before .before .before .before .before .before .before .before .before .before .before .before .before .args .reserved .now) (c .before .before .before .before .before .before .before .before .before .before .before .before .before .before .before .before .before .before .before .before .before .before .before .before .before .before .before .before .before .before .before .args .currencies .now) (c .before .before .before .before .before .before .before .before .before .before .before .before .before .before .before .before .before .before .before .before .before .before .before .before .before .before .before .before .before .before .before .args .counters .now)) (c .before .before .before .before .before .before .before .before .before .before .before .before .before .before .before .before .before .before .before .before .before .before .before .before .before .before .before .before .before .before .before .args .depth) (c .before .before .before .before .before .before .before .before .before .before .before .before .before .before .before .before .before .before .before .before .before .before .before .before .before .before .before .before .before .before .before .args .s .now) (c .before .before .before .before .before .before .before .before .before .before .before .before .before .before .before .before .before .before .before .before .before .before .before .before .before .before .before .before .before .before .before .args .c) (c .before .before .before .before .before .before .before .before .before .before .before .before .before .before .before .before .before .before .before .before .before .before .before .before .before .before .before .before .before .before .before .args .d) (c .before .before .before .before .before .before .before .before .before .before .before .before .before .before .before .before .before .before .before .before .before .before .before .before .before .before .before .before .before .before .before .pre .1 .1) (c .before .before .before .before .before .before .before .before .before .before .before .before .before .before .before .before .before .before .before .before .before .before .before .before .before .before .before .before .before .before .before .pre .1 .2) (c .before .before .before .before .before .before .before .before .before .before .before .before .before .before .before .before .before .before .before .before .before .before .before .before .before .if1 .left) _ (c .before .before .before .before .before .before .before .before .before .before .before .before .before .before .before .before .before .before .before .before .before .before .before .before .before .before .before .before .before .before .before .pre .1 .0 .1) _ _ _ _ _ (done-reads _ _ _ _ _ _ _ _ _ (c .before .before .before .before .before .before .before .before .before .before .before .before .before .before .before .before .before .before .before .r .given .1) (c .before .before .before .before .before .before .before .before .before .before .before .before .before .before .before .before .before .before .before .before .before .before .before .expression .ensures)) _ _ _ _ (done-block _ _ _ _ _ _ _ _ _ (c .before .before .before .before .before .before .before .before .before .before .before .before .q .given .1) (c .before .before .before .before .before .before .before .before .before .before .before .before .before .before .before .before .block .ensures)) (c .before .before .before .before .before .before .before .before .before .if2 .left) (c .before .before .before .before .before .before .before .before .next .result) (c .before .before .before .before .before .before .before .before .next .ensures) _ _ _ _ (done-block _ _ _ _ _ _ _ _ _ (c .before .before .p .given .1) (c .before .before .before .before .before .before .block2 .ensures)), if-numbers (wordsIn (c .before .before .before .before .before .before .before .before .before .before .before .before .before .before .before .before .before .before .before .before .before .before .before .before .before .before .before .before .before .before .before .args .reserved .now) (c .before .before .before .before .before .before .before .before .before .before .before .before .before .before .before .before .before .before .before .before .before .before .before .before .before .before .before .before .before .before .before .args .currencies .now) (c .before .before .before .before .before .before .before .before .before .before .before .before .before .before .before .before .before .before .before .before .before .before .before .before .before .before .before .before .before .before .before .args .counters .now)) (c .before .before .before .before .before .before .before .before .before .before .before .before .before .before .before .before .before .before .before .before .before .before .before .before .before .before .before .before .before .before .before .args .depth) (c .before .before .before .before .before .before .before .before .before .before .before .before .before .before .before .before .before .before .before .before .before .before .before .before .before .before .before .before .before .before .before .args .s .now) (c .before .before .before .before .before .before .before .before .before .before .before .before .before .before .before .before .before .before .before .before .before .before .before .before .before .before .before .before .before .before .before .args .c) (c .before .before .before .before .before .before .before .before .before .before .before .before .before .before .before .before .before .before .before .before .before .before .before .before .before .before .before .before .before .before .before .args .d) (c .before .before .before .before .before .before .before .before .before .before .before .before .before .before .before .before .before .before .before .before .before .before .before .before .before .before .before .before .before .before .before .pre .1 .1) (c .before .before .before .before .before .before .before .before .before .before .before .before .before .before .before .before .before .before .before .before .before .before .before .before .before .before .before .before .before .before .before .pre .1 .2) (c .before .before .before .before .before .before .before .before .before .before .before .before .before .before .before .before .before .before .before .before .before .before .before .before .before .if1 .left) _ (c .before .before .before .before .before .before .before .before .before .before .before .before .before .before .before .before .before .before .before .before .before .before .before .before .before .before .before .before .before .before .before .pre .1 .0 .1) _ _ _ _ _ (done-reads _ _ _ _ _ _ _ _ _ (c .before .before .before .before .before .before .before .before .before .before .before .before .before .before .before .before .before .before .before .r .given .1) (c .before .before .before .before .before .before .before .before .before .before .before .before .before .before .before .before .before .before .before .before .before .before .before .expression .ensures)) _ _ _ _ (done-block _ _ _ _ _ _ _ _ _ (c .before .before .before .before .before .before .before .before .before .before .before .before .q .given .1) (c .before .before .before .before .before .before .before .before .before .before .before .before .before .before .before .before .block .ensures)))
+
+-- src/statements.rt:100:53
+conditional-add-branch-6 : (t : ℕ) → conditional-lts.Need-add-branch-6 (
+  expression-reads.Asked,
+  expression-reads.Learnt,
+  block-below t,
+  block.Post,
+  block-refusal-reads.Asked,
+  block-refusal-reads.Learnt,
+  branch-reads.Asked,
+  branch-reads.Learnt,
+  put-reads.Asked,
+  put-reads.Learnt,
+  next-reads.Asked,
+  next-reads.Learnt,
+) (conditional-at t) conditional.Post
+conditional-add-branch-6 t c = omega (arith, else-numbers (wordsIn (c .before .before .before .before .before .before .before .before .before .before .before .before .before .before .before .before .before .before .before .before .before .before .before .before .before .before .before .before .before .before .before .args .reserved .now) (c .before .before .before .before .before .before .before .before .before .before .before .before .before .before .before .before .before .before .before .before .before .before .before .before .before .before .before .before .before .before .before .args .currencies .now) (c .before .before .before .before .before .before .before .before .before .before .before .before .before .before .before .before .before .before .before .before .before .before .before .before .before .before .before .before .before .before .before .args .counters .now)) (c .before .before .before .before .before .before .before .before .before .before .before .before .before .before .before .before .before .before .before .before .before .before .before .before .before .before .before .before .before .before .before .args .depth) (c .before .before .before .before .before .before .before .before .before .before .before .before .before .before .before .before .before .before .before .before .before .before .before .before .before .before .before .before .before .before .before .args .s .now) (c .before .before .before .before .before .before .before .before .before .before .before .before .before .before .before .before .before .before .before .before .before .before .before .before .before .before .before .before .before .before .before .args .c) (c .before .before .before .before .before .before .before .before .before .before .before .before .before .before .before .before .before .before .before .before .before .before .before .before .before .before .before .before .before .before .before .args .d) (c .before .before .before .before .before .before .before .before .before .before .before .before .before .before .before .before .before .before .before .before .before .before .before .before .before .before .before .before .before .before .before .pre .1 .1) (c .before .before .before .before .before .before .before .before .before .before .before .before .before .before .before .before .before .before .before .before .before .before .before .before .before .before .before .before .before .before .before .pre .1 .2) (c .before .before .before .before .before .before .before .before .before .before .before .before .before .before .before .before .before .before .before .before .before .before .before .before .before .if1 .left) _ (c .before .before .before .before .before .before .before .before .before .before .before .before .before .before .before .before .before .before .before .before .before .before .before .before .before .before .before .before .before .before .before .pre .1 .0 .1) _ _ _ _ _ (done-reads _ _ _ _ _ _ _ _ _ (c .before .before .before .before .before .before .before .before .before .before .before .before .before .before .before .before .before .before .before .r .given .1) (c .before .before .before .before .before .before .before .before .before .before .before .before .before .before .before .before .before .before .before .before .before .before .before .expression .ensures)) _ _ _ _ (done-block _ _ _ _ _ _ _ _ _ (c .before .before .before .before .before .before .before .before .before .before .before .before .q .given .1) (c .before .before .before .before .before .before .before .before .before .before .before .before .before .before .before .before .block .ensures)) (c .before .before .before .before .before .before .before .before .before .if2 .left) (c .before .before .before .before .before .before .before .before .next .result) (c .before .before .before .before .before .before .before .before .next .ensures) _ _ _ _ (done-block _ _ _ _ _ _ _ _ _ (c .before .before .p .given .1) (c .before .before .before .before .before .before .block2 .ensures)), if-numbers (wordsIn (c .before .before .before .before .before .before .before .before .before .before .before .before .before .before .before .before .before .before .before .before .before .before .before .before .before .before .before .before .before .before .before .args .reserved .now) (c .before .before .before .before .before .before .before .before .before .before .before .before .before .before .before .before .before .before .before .before .before .before .before .before .before .before .before .before .before .before .before .args .currencies .now) (c .before .before .before .before .before .before .before .before .before .before .before .before .before .before .before .before .before .before .before .before .before .before .before .before .before .before .before .before .before .before .before .args .counters .now)) (c .before .before .before .before .before .before .before .before .before .before .before .before .before .before .before .before .before .before .before .before .before .before .before .before .before .before .before .before .before .before .before .args .depth) (c .before .before .before .before .before .before .before .before .before .before .before .before .before .before .before .before .before .before .before .before .before .before .before .before .before .before .before .before .before .before .before .args .s .now) (c .before .before .before .before .before .before .before .before .before .before .before .before .before .before .before .before .before .before .before .before .before .before .before .before .before .before .before .before .before .before .before .args .c) (c .before .before .before .before .before .before .before .before .before .before .before .before .before .before .before .before .before .before .before .before .before .before .before .before .before .before .before .before .before .before .before .args .d) (c .before .before .before .before .before .before .before .before .before .before .before .before .before .before .before .before .before .before .before .before .before .before .before .before .before .before .before .before .before .before .before .pre .1 .1) (c .before .before .before .before .before .before .before .before .before .before .before .before .before .before .before .before .before .before .before .before .before .before .before .before .before .before .before .before .before .before .before .pre .1 .2) (c .before .before .before .before .before .before .before .before .before .before .before .before .before .before .before .before .before .before .before .before .before .before .before .before .before .if1 .left) _ (c .before .before .before .before .before .before .before .before .before .before .before .before .before .before .before .before .before .before .before .before .before .before .before .before .before .before .before .before .before .before .before .pre .1 .0 .1) _ _ _ _ _ (done-reads _ _ _ _ _ _ _ _ _ (c .before .before .before .before .before .before .before .before .before .before .before .before .before .before .before .before .before .before .before .r .given .1) (c .before .before .before .before .before .before .before .before .before .before .before .before .before .before .before .before .before .before .before .before .before .before .before .expression .ensures)) _ _ _ _ (done-block _ _ _ _ _ _ _ _ _ (c .before .before .before .before .before .before .before .before .before .before .before .before .q .given .1) (c .before .before .before .before .before .before .before .before .before .before .before .before .before .before .before .before .block .ensures)))
+
+-- src/statements.rt:100:17
+conditional-branch-requires-2 : (t : ℕ) → conditional-lts.Need-branch-requires-2 (
+  expression-reads.Asked,
+  expression-reads.Learnt,
+  block-below t,
+  block.Post,
+  block-refusal-reads.Asked,
+  block-refusal-reads.Learnt,
+  branch-reads.Asked,
+  branch-reads.Learnt,
+  put-reads.Asked,
+  put-reads.Learnt,
+  next-reads.Asked,
+  next-reads.Learnt,
+) (conditional-at t) conditional.Post
+conditional-branch-requires-2 t c κs = search needs
+
+-- src/statements.rt:100:5
+conditional-put-requires-2 : (t : ℕ) → conditional-lts.Need-put-requires-2 (
+  expression-reads.Asked,
+  expression-reads.Learnt,
+  block-below t,
+  block.Post,
+  block-refusal-reads.Asked,
+  block-refusal-reads.Learnt,
+  branch-reads.Asked,
+  branch-reads.Learnt,
+  put-reads.Asked,
+  put-reads.Learnt,
+  next-reads.Asked,
+  next-reads.Learnt,
+) (conditional-at t) conditional.Post
+conditional-put-requires-2 t c κs = search needs
+
+-- src/statements.rt:101:19
+conditional-add-t22 : (t : ℕ) → conditional-lts.Need-add-t22 (
+  expression-reads.Asked,
+  expression-reads.Learnt,
+  block-below t,
+  block.Post,
+  block-refusal-reads.Asked,
+  block-refusal-reads.Learnt,
+  branch-reads.Asked,
+  branch-reads.Learnt,
+  put-reads.Asked,
+  put-reads.Learnt,
+  next-reads.Asked,
+  next-reads.Learnt,
+) (conditional-at t) conditional.Post
+conditional-add-t22 t c = omega (arith, else-numbers (wordsIn (c .before .before .before .before .before .before .before .before .before .before .before .before .before .before .before .before .before .before .before .before .before .before .before .before .before .before .before .before .before .before .before .before .before .before .before .args .reserved .now) (c .before .before .before .before .before .before .before .before .before .before .before .before .before .before .before .before .before .before .before .before .before .before .before .before .before .before .before .before .before .before .before .before .before .before .before .args .currencies .now) (c .before .before .before .before .before .before .before .before .before .before .before .before .before .before .before .before .before .before .before .before .before .before .before .before .before .before .before .before .before .before .before .before .before .before .before .args .counters .now)) (c .before .before .before .before .before .before .before .before .before .before .before .before .before .before .before .before .before .before .before .before .before .before .before .before .before .before .before .before .before .before .before .before .before .before .before .args .depth) (c .before .before .before .before .before .before .before .before .before .before .before .before .before .before .before .before .before .before .before .before .before .before .before .before .before .before .before .before .before .before .before .before .before .before .before .args .s .now) (c .before .before .before .before .before .before .before .before .before .before .before .before .before .before .before .before .before .before .before .before .before .before .before .before .before .before .before .before .before .before .before .before .before .before .before .args .c) (c .before .before .before .before .before .before .before .before .before .before .before .before .before .before .before .before .before .before .before .before .before .before .before .before .before .before .before .before .before .before .before .before .before .before .before .args .d) (c .before .before .before .before .before .before .before .before .before .before .before .before .before .before .before .before .before .before .before .before .before .before .before .before .before .before .before .before .before .before .before .before .before .before .before .pre .1 .1) (c .before .before .before .before .before .before .before .before .before .before .before .before .before .before .before .before .before .before .before .before .before .before .before .before .before .before .before .before .before .before .before .before .before .before .before .pre .1 .2) (c .before .before .before .before .before .before .before .before .before .before .before .before .before .before .before .before .before .before .before .before .before .before .before .before .before .before .before .before .before .if1 .left) _ (c .before .before .before .before .before .before .before .before .before .before .before .before .before .before .before .before .before .before .before .before .before .before .before .before .before .before .before .before .before .before .before .before .before .before .before .pre .1 .0 .1) _ _ _ _ _ (done-reads _ _ _ _ _ _ _ _ _ (c .before .before .before .before .before .before .before .before .before .before .before .before .before .before .before .before .before .before .before .before .before .before .before .r .given .1) (c .before .before .before .before .before .before .before .before .before .before .before .before .before .before .before .before .before .before .before .before .before .before .before .before .before .before .before .expression .ensures)) _ _ _ _ (done-block _ _ _ _ _ _ _ _ _ (c .before .before .before .before .before .before .before .before .before .before .before .before .before .before .before .before .q .given .1) (c .before .before .before .before .before .before .before .before .before .before .before .before .before .before .before .before .before .before .before .before .block .ensures)) (c .before .before .before .before .before .before .before .before .before .before .before .before .before .if2 .left) (c .before .before .before .before .before .before .before .before .before .before .before .before .next .result) (c .before .before .before .before .before .before .before .before .before .before .before .before .next .ensures) _ _ _ _ (done-block _ _ _ _ _ _ _ _ _ (c .before .before .before .before .before .before .p .given .1) (c .before .before .before .before .before .before .before .before .before .before .block2 .ensures)), if-numbers (wordsIn (c .before .before .before .before .before .before .before .before .before .before .before .before .before .before .before .before .before .before .before .before .before .before .before .before .before .before .before .before .before .before .before .before .before .before .before .args .reserved .now) (c .before .before .before .before .before .before .before .before .before .before .before .before .before .before .before .before .before .before .before .before .before .before .before .before .before .before .before .before .before .before .before .before .before .before .before .args .currencies .now) (c .before .before .before .before .before .before .before .before .before .before .before .before .before .before .before .before .before .before .before .before .before .before .before .before .before .before .before .before .before .before .before .before .before .before .before .args .counters .now)) (c .before .before .before .before .before .before .before .before .before .before .before .before .before .before .before .before .before .before .before .before .before .before .before .before .before .before .before .before .before .before .before .before .before .before .before .args .depth) (c .before .before .before .before .before .before .before .before .before .before .before .before .before .before .before .before .before .before .before .before .before .before .before .before .before .before .before .before .before .before .before .before .before .before .before .args .s .now) (c .before .before .before .before .before .before .before .before .before .before .before .before .before .before .before .before .before .before .before .before .before .before .before .before .before .before .before .before .before .before .before .before .before .before .before .args .c) (c .before .before .before .before .before .before .before .before .before .before .before .before .before .before .before .before .before .before .before .before .before .before .before .before .before .before .before .before .before .before .before .before .before .before .before .args .d) (c .before .before .before .before .before .before .before .before .before .before .before .before .before .before .before .before .before .before .before .before .before .before .before .before .before .before .before .before .before .before .before .before .before .before .before .pre .1 .1) (c .before .before .before .before .before .before .before .before .before .before .before .before .before .before .before .before .before .before .before .before .before .before .before .before .before .before .before .before .before .before .before .before .before .before .before .pre .1 .2) (c .before .before .before .before .before .before .before .before .before .before .before .before .before .before .before .before .before .before .before .before .before .before .before .before .before .before .before .before .before .if1 .left) _ (c .before .before .before .before .before .before .before .before .before .before .before .before .before .before .before .before .before .before .before .before .before .before .before .before .before .before .before .before .before .before .before .before .before .before .before .pre .1 .0 .1) _ _ _ _ _ (done-reads _ _ _ _ _ _ _ _ _ (c .before .before .before .before .before .before .before .before .before .before .before .before .before .before .before .before .before .before .before .before .before .before .before .r .given .1) (c .before .before .before .before .before .before .before .before .before .before .before .before .before .before .before .before .before .before .before .before .before .before .before .before .before .before .before .expression .ensures)) _ _ _ _ (done-block _ _ _ _ _ _ _ _ _ (c .before .before .before .before .before .before .before .before .before .before .before .before .before .before .before .before .q .given .1) (c .before .before .before .before .before .before .before .before .before .before .before .before .before .before .before .before .before .before .before .before .block .ensures)))
+
+-- src/statements.rt:58:1
+conditional-same-length-5 : (t : ℕ) → conditional-lts.Need-same-length-5 (
+  expression-reads.Asked,
+  expression-reads.Learnt,
+  block-below t,
+  block.Post,
+  block-refusal-reads.Asked,
+  block-refusal-reads.Learnt,
+  branch-reads.Asked,
+  branch-reads.Learnt,
+  put-reads.Asked,
+  put-reads.Learnt,
+  next-reads.Asked,
+  next-reads.Learnt,
+) (conditional-at t) conditional.Post
+conditional-same-length-5 t c = c .before .before .put2 .kept .0 ∙ (c .before .before .before .before .before .before .before .before .before .before .block2 .kept .1 .1 .1 .1 .1 .1 .0 ∙ (c .before .before .before .before .before .before .before .before .before .before .before .before .before .before .before .before .before .before .before .before .block .kept .1 .1 .1 .1 .1 .1 .0 ∙ c .before .before .before .before .before .before .before .before .before .before .before .before .before .before .before .before .before .before .before .before .before .before .before .before .before .before .before .expression .kept .1 .1 .1 .1 .1 .1 .0))
+
+-- src/statements.rt:58:1
+conditional-returns-6 : (t : ℕ) → conditional-lts.Need-returns-6 (
+  expression-reads.Asked,
+  expression-reads.Learnt,
+  block-below t,
+  block.Post,
+  block-refusal-reads.Asked,
+  block-refusal-reads.Learnt,
+  branch-reads.Asked,
+  branch-reads.Learnt,
+  put-reads.Asked,
+  put-reads.Learnt,
+  next-reads.Asked,
+  next-reads.Learnt,
+) (conditional-at t) conditional.Post
+conditional-returns-6 t c = else-done (wordsIn (c .before .before .before .before .before .before .before .before .before .before .before .before .before .before .before .before .before .before .before .before .before .before .before .before .before .before .before .before .before .before .before .before .before .before .before .args .reserved .now) (c .before .before .before .before .before .before .before .before .before .before .before .before .before .before .before .before .before .before .before .before .before .before .before .before .before .before .before .before .before .before .before .before .before .before .before .args .currencies .now) (c .before .before .before .before .before .before .before .before .before .before .before .before .before .before .before .before .before .before .before .before .before .before .before .before .before .before .before .before .before .before .before .before .before .before .before .args .counters .now)) (c .before .before .before .before .before .before .before .before .before .before .before .before .before .before .before .before .before .before .before .before .before .before .before .before .before .before .before .before .before .before .before .before .before .before .before .args .depth) (c .before .before .before .before .before .before .before .before .before .before .before .before .before .before .before .before .before .before .before .before .before .before .before .before .before .before .before .before .before .before .before .before .before .before .before .args .s .now) (c .before .before .before .before .before .before .before .before .before .before .before .before .before .before .before .before .before .before .before .before .before .before .before .before .before .before .before .before .before .before .before .before .before .before .before .args .c) (c .before .before .before .before .before .before .before .before .before .before .before .before .before .before .before .before .before .before .before .before .before .before .before .before .before .before .before .before .before .before .before .before .before .before .before .args .d) (c .before .before .before .before .before .before .before .before .before .before .before .before .before .before .before .before .before .before .before .before .before .before .before .before .before .before .before .before .before .before .before .before .before .before .before .pre .1 .1) (c .before .before .before .before .before .before .before .before .before .before .before .before .before .before .before .before .before .before .before .before .before .before .before .before .before .before .before .before .before .before .before .before .before .before .before .pre .1 .2) (c .before .before .before .before .before .before .before .before .before .before .before .before .before .before .before .before .before .before .before .before .before .before .before .before .before .before .before .before .before .if1 .left) _ (c .before .before .before .before .before .before .before .before .before .before .before .before .before .before .before .before .before .before .before .before .before .before .before .before .before .before .before .before .before .before .before .before .before .before .before .pre .1 .0 .1) _ _ _ _ _ (done-reads _ _ _ _ _ _ _ _ _ (c .before .before .before .before .before .before .before .before .before .before .before .before .before .before .before .before .before .before .before .before .before .before .before .r .given .1) (c .before .before .before .before .before .before .before .before .before .before .before .before .before .before .before .before .before .before .before .before .before .before .before .before .before .before .before .expression .ensures)) _ _ _ _ (done-block _ _ _ _ _ _ _ _ _ (c .before .before .before .before .before .before .before .before .before .before .before .before .before .before .before .before .q .given .1) (c .before .before .before .before .before .before .before .before .before .before .before .before .before .before .before .before .before .before .before .before .block .ensures)) (c .before .before .before .before .before .before .before .before .before .before .before .before .before .if2 .left) (c .before .before .before .before .before .before .before .before .before .before .before .before .next .result) (c .before .before .before .before .before .before .before .before .before .before .before .before .next .ensures) _ _ _ _ (done-block _ _ _ _ _ _ _ _ _ (c .before .before .before .before .before .before .p .given .1) (c .before .before .before .before .before .before .before .before .before .before .block2 .ensures)) _ (put-fields _ _ _ _ _ _ _ _ _ (c .before .before .before .branch2 .ensures) (c .before .before .put2 .ensures))
+
+-- src/statements.rt:120:9
+repetition-returns : (t : ℕ) → repetition-lts.Need-returns (
+  loop-head-reads.Asked,
+  loop-head-reads.Learnt,
+  number-refusal-reads.Asked,
+  number-refusal-reads.Learnt,
+  expression-reads.Asked,
+  expression-reads.Learnt,
+  block-below t,
+  block.Post,
+  block-refusal-reads.Asked,
+  block-refusal-reads.Learnt,
+  each-reads.Asked,
+  each-reads.Learnt,
+  put-reads.Asked,
+  put-reads.Learnt,
+) (repetition-at t) repetition.Post
+repetition-returns t c = for-0 (c .before .before .before .before .before .before .args .reserved .now) (c .before .before .before .before .before .before .args .currencies .now) (c .before .before .before .before .before .before .args .counters .now) (c .before .before .before .before .before .before .args .depth) (c .before .before .before .before .before .before .args .s .now) (c .before .before .before .before .before .before .args .c) (c .before .before .before .before .before .before .args .d) (c .before .before .before .before .before .before .pre .1 .1) (c .before .before .before .before .before .before .pre .1 .2) (c .if1 .taken)
+
+-- src/statements.rt:122:9
+repetition-loop-head-requires : (t : ℕ) → repetition-lts.Need-loop-head-requires (
+  loop-head-reads.Asked,
+  loop-head-reads.Learnt,
+  number-refusal-reads.Asked,
+  number-refusal-reads.Learnt,
+  expression-reads.Asked,
+  expression-reads.Learnt,
+  block-below t,
+  block.Post,
+  block-refusal-reads.Asked,
+  block-refusal-reads.Learnt,
+  each-reads.Asked,
+  each-reads.Learnt,
+  put-reads.Asked,
+  put-reads.Learnt,
+) (repetition-at t) repetition.Post
+repetition-loop-head-requires t c κs = c .before .before .before .before .before .before .pre .1 .1 .holds
+
+-- src/statements.rt:123:20
+repetition-enum-known-v : (t : ℕ) → repetition-lts.Need-enum-known-v (
+  loop-head-reads.Asked,
+  loop-head-reads.Learnt,
+  number-refusal-reads.Asked,
+  number-refusal-reads.Learnt,
+  expression-reads.Asked,
+  expression-reads.Learnt,
+  block-below t,
+  block.Post,
+  block-refusal-reads.Asked,
+  block-refusal-reads.Learnt,
+  each-reads.Asked,
+  each-reads.Learnt,
+  put-reads.Asked,
+  put-reads.Learnt,
+) (repetition-at t) repetition.Post
+repetition-enum-known-v t c = search needs
+
+-- src/statements.rt:124:9
+repetition-enum-told : (t : ℕ) → repetition-lts.Need-enum-told (
+  loop-head-reads.Asked,
+  loop-head-reads.Learnt,
+  number-refusal-reads.Asked,
+  number-refusal-reads.Learnt,
+  expression-reads.Asked,
+  expression-reads.Learnt,
+  block-below t,
+  block.Post,
+  block-refusal-reads.Asked,
+  block-refusal-reads.Learnt,
+  each-reads.Asked,
+  each-reads.Learnt,
+  put-reads.Asked,
+  put-reads.Learnt,
+) (repetition-at t) repetition.Post
+repetition-enum-told t c = search needs
+
+-- src/statements.rt:124:9
+repetition-number-refusal-requires : (t : ℕ) → repetition-lts.Need-number-refusal-requires (
+  loop-head-reads.Asked,
+  loop-head-reads.Learnt,
+  number-refusal-reads.Asked,
+  number-refusal-reads.Learnt,
+  expression-reads.Asked,
+  expression-reads.Learnt,
+  block-below t,
+  block.Post,
+  block-refusal-reads.Asked,
+  block-refusal-reads.Learnt,
+  each-reads.Asked,
+  each-reads.Learnt,
+  put-reads.Asked,
+  put-reads.Learnt,
+) (repetition-at t) repetition.Post
+repetition-number-refusal-requires t c κs = search needs
+
+-- src/statements.rt:124:9
+repetition-returns-2 : (t : ℕ) → repetition-lts.Need-returns-2 (
+  loop-head-reads.Asked,
+  loop-head-reads.Learnt,
+  number-refusal-reads.Asked,
+  number-refusal-reads.Learnt,
+  expression-reads.Asked,
+  expression-reads.Learnt,
+  block-below t,
+  block.Post,
+  block-refusal-reads.Asked,
+  block-refusal-reads.Learnt,
+  each-reads.Asked,
+  each-reads.Learnt,
+  put-reads.Asked,
+  put-reads.Learnt,
+) (repetition-at t) repetition.Post
+repetition-returns-2 t c = head-refusal-on _ _ _ _ (c .number-refusal .result) _ _ _ _ _ _ (c .before .enum-told .given .1) (c .before .before .before .loop-head .ensures) (c .number-refusal .ensures) (for-head-refused (c .before .before .before .before .before .before .before .before .before .before .args .reserved .now) (c .before .before .before .before .before .before .before .before .before .before .args .currencies .now) (c .before .before .before .before .before .before .before .before .before .before .args .counters .now) (c .before .before .before .before .before .before .before .before .before .before .args .depth) (c .before .before .before .before .before .before .before .before .before .before .args .s .now) (c .before .before .before .before .before .before .before .before .before .before .args .c) (c .before .before .before .before .before .before .before .before .before .before .args .d) (c .before .before .before .before .before .before .before .before .before .before .pre .1 .1) (c .before .before .before .before .before .before .before .before .before .before .pre .1 .2) (c .before .before .before .before .if1 .left) _ _)
+
+-- src/statements.rt:126:62
+repetition-sub-expression : (t : ℕ) → repetition-lts.Need-sub-expression (
+  loop-head-reads.Asked,
+  loop-head-reads.Learnt,
+  number-refusal-reads.Asked,
+  number-refusal-reads.Learnt,
+  expression-reads.Asked,
+  expression-reads.Learnt,
+  block-below t,
+  block.Post,
+  block-refusal-reads.Asked,
+  block-refusal-reads.Learnt,
+  each-reads.Asked,
+  each-reads.Learnt,
+  put-reads.Asked,
+  put-reads.Learnt,
+) (repetition-at t) repetition.Post
+repetition-sub-expression t c = omega (arith, c .before .before .before .before .if1 .left)
+
+-- src/statements.rt:126:9
+repetition-expression-requires : (t : ℕ) → repetition-lts.Need-expression-requires (
+  loop-head-reads.Asked,
+  loop-head-reads.Learnt,
+  number-refusal-reads.Asked,
+  number-refusal-reads.Learnt,
+  expression-reads.Asked,
+  expression-reads.Learnt,
+  block-below t,
+  block.Post,
+  block-refusal-reads.Asked,
+  block-refusal-reads.Learnt,
+  each-reads.Asked,
+  each-reads.Learnt,
+  put-reads.Asked,
+  put-reads.Learnt,
+) (repetition-at t) repetition.Post
+repetition-expression-requires t c κs = (for-ready (c .before .before .before .before .before .before .before .before .before .before .before .args .reserved .now) (c .before .before .before .before .before .before .before .before .before .before .before .args .currencies .now) (c .before .before .before .before .before .before .before .before .before .before .before .args .counters .now) (c .before .before .before .before .before .before .before .before .before .before .before .args .depth) (c .before .before .before .before .before .before .before .before .before .before .before .args .s .now) (c .before .before .before .before .before .before .before .before .before .before .before .args .c) (c .before .before .before .before .before .before .before .before .before .before .before .args .d) (c .before .before .before .before .before .before .before .before .before .before .before .pre .1 .1) (c .before .before .before .before .before .before .before .before .before .before .before .pre .1 .2) (c .before .before .before .before .before .if1 .left) _ (head-is _ _ _ _ _ _ (c .before .before .v .given .1) (c .before .before .before .before .loop-head .ensures)) _ (c .before .before .before .before .before .before .before .before .before .before .before .pre .1 .0 .1), c .before .before .before .before .before .before .before .before .before .before .before .pre .1 .3)
+
+-- src/statements.rt:127:20
+repetition-enum-known-r : (t : ℕ) → repetition-lts.Need-enum-known-r (
+  loop-head-reads.Asked,
+  loop-head-reads.Learnt,
+  number-refusal-reads.Asked,
+  number-refusal-reads.Learnt,
+  expression-reads.Asked,
+  expression-reads.Learnt,
+  block-below t,
+  block.Post,
+  block-refusal-reads.Asked,
+  block-refusal-reads.Learnt,
+  each-reads.Asked,
+  each-reads.Learnt,
+  put-reads.Asked,
+  put-reads.Learnt,
+) (repetition-at t) repetition.Post
+repetition-enum-known-r t c = search needs
+
+-- src/statements.rt:128:9
+repetition-enum-told-2 : (t : ℕ) → repetition-lts.Need-enum-told-2 (
+  loop-head-reads.Asked,
+  loop-head-reads.Learnt,
+  number-refusal-reads.Asked,
+  number-refusal-reads.Learnt,
+  expression-reads.Asked,
+  expression-reads.Learnt,
+  block-below t,
+  block.Post,
+  block-refusal-reads.Asked,
+  block-refusal-reads.Learnt,
+  each-reads.Asked,
+  each-reads.Learnt,
+  put-reads.Asked,
+  put-reads.Learnt,
+) (repetition-at t) repetition.Post
+repetition-enum-told-2 t c = search needs
+
+-- src/statements.rt:128:9
+repetition-same-length : (t : ℕ) → repetition-lts.Need-same-length (
+  loop-head-reads.Asked,
+  loop-head-reads.Learnt,
+  number-refusal-reads.Asked,
+  number-refusal-reads.Learnt,
+  expression-reads.Asked,
+  expression-reads.Learnt,
+  block-below t,
+  block.Post,
+  block-refusal-reads.Asked,
+  block-refusal-reads.Learnt,
+  each-reads.Asked,
+  each-reads.Learnt,
+  put-reads.Asked,
+  put-reads.Learnt,
+) (repetition-at t) repetition.Post
+repetition-same-length t c = c .before .before .before .before .expression .kept .1 .1 .1 .1 .1 .1 .0
+
+-- src/statements.rt:128:9
+repetition-returns-3 : (t : ℕ) → repetition-lts.Need-returns-3 (
+  loop-head-reads.Asked,
+  loop-head-reads.Learnt,
+  number-refusal-reads.Asked,
+  number-refusal-reads.Learnt,
+  expression-reads.Asked,
+  expression-reads.Learnt,
+  block-below t,
+  block.Post,
+  block-refusal-reads.Asked,
+  block-refusal-reads.Learnt,
+  each-reads.Asked,
+  each-reads.Learnt,
+  put-reads.Asked,
+  put-reads.Learnt,
+) (repetition-at t) repetition.Post
+repetition-returns-3 t c = refused-on _ _ _ _ _ _ _ _ _ _ _ _ (c .enum-told2 .given .1) (c .before .before .before .before .expression .ensures) (for-refused (c .before .before .before .before .before .before .before .before .before .before .before .before .before .before .before .before .args .reserved .now) (c .before .before .before .before .before .before .before .before .before .before .before .before .before .before .before .before .args .currencies .now) (c .before .before .before .before .before .before .before .before .before .before .before .before .before .before .before .before .args .counters .now) (c .before .before .before .before .before .before .before .before .before .before .before .before .before .before .before .before .args .depth) (c .before .before .before .before .before .before .before .before .before .before .before .before .before .before .before .before .args .s .now) (c .before .before .before .before .before .before .before .before .before .before .before .before .before .before .before .before .args .c) (c .before .before .before .before .before .before .before .before .before .before .before .before .before .before .before .before .args .d) (c .before .before .before .before .before .before .before .before .before .before .before .before .before .before .before .before .pre .1 .1) (c .before .before .before .before .before .before .before .before .before .before .before .before .before .before .before .before .pre .1 .2) (c .before .before .before .before .before .before .before .before .before .before .if1 .left) _ (head-is _ _ _ _ _ _ (c .before .before .before .before .before .before .before .v .given .1) (c .before .before .before .before .before .before .before .before .before .loop-head .ensures)) _ _)
+
+-- src/statements.rt:130:57
+repetition-sub-block : (t : ℕ) → repetition-lts.Need-sub-block (
+  loop-head-reads.Asked,
+  loop-head-reads.Learnt,
+  number-refusal-reads.Asked,
+  number-refusal-reads.Learnt,
+  expression-reads.Asked,
+  expression-reads.Learnt,
+  block-below t,
+  block.Post,
+  block-refusal-reads.Asked,
+  block-refusal-reads.Learnt,
+  each-reads.Asked,
+  each-reads.Learnt,
+  put-reads.Asked,
+  put-reads.Learnt,
+) (repetition-at t) repetition.Post
+repetition-sub-block t c = omega (arith, c .before .before .before .before .before .before .before .before .before .before .before .if1 .left)
+
+-- src/statements.rt:130:9
+repetition-block-requires : (t : ℕ) → repetition-lts.Need-block-requires (
+  loop-head-reads.Asked,
+  loop-head-reads.Learnt,
+  number-refusal-reads.Asked,
+  number-refusal-reads.Learnt,
+  expression-reads.Asked,
+  expression-reads.Learnt,
+  block-below t,
+  block.Post,
+  block-refusal-reads.Asked,
+  block-refusal-reads.Learnt,
+  each-reads.Asked,
+  each-reads.Learnt,
+  put-reads.Asked,
+  put-reads.Learnt,
+) (repetition-at t) repetition.Post
+repetition-block-requires t c κs = (omega (arith, c .before .before .before .before .before .before .before .before .before .before .before .before .before .before .before .before .before .before .pre .0, c .before .before .before .before .before .before .before .before .before .before .before .before .if1 .left), (for-body-ready (c .before .before .before .before .before .before .before .before .before .before .before .before .before .before .before .before .before .before .args .reserved .now) (c .before .before .before .before .before .before .before .before .before .before .before .before .before .before .before .before .before .before .args .currencies .now) (c .before .before .before .before .before .before .before .before .before .before .before .before .before .before .before .before .before .before .args .counters .now) (c .before .before .before .before .before .before .before .before .before .before .before .before .before .before .before .before .before .before .args .depth) (c .before .before .before .before .before .before .before .before .before .before .before .before .before .before .before .before .before .before .args .s .now) (c .before .before .before .before .before .before .before .before .before .before .before .before .before .before .before .before .before .before .args .c) (c .before .before .before .before .before .before .before .before .before .before .before .before .before .before .before .before .before .before .args .d) (c .before .before .before .before .before .before .before .before .before .before .before .before .before .before .before .before .before .before .pre .1 .1) (c .before .before .before .before .before .before .before .before .before .before .before .before .before .before .before .before .before .before .pre .1 .2) (c .before .before .before .before .before .before .before .before .before .before .before .before .if1 .left) _ (head-is _ _ _ _ _ _ (c .before .before .before .before .before .before .before .before .before .v .given .1) (c .before .before .before .before .before .before .before .before .before .before .before .loop-head .ensures)) _ (c .before .before .before .before .before .before .before .before .before .before .before .before .before .before .before .before .before .before .pre .1 .0 .1) _ _ _ _ _ (done-reads _ _ _ _ _ _ _ _ _ (c .before .before .r .given .1) (c .before .before .before .before .before .before .expression .ensures)), c .before .before .before .before .before .before .before .before .before .before .before .before .before .before .before .before .before .before .pre .1 .3))
+
+-- src/statements.rt:131:21
+repetition-enum-known-q : (t : ℕ) → repetition-lts.Need-enum-known-q (
+  loop-head-reads.Asked,
+  loop-head-reads.Learnt,
+  number-refusal-reads.Asked,
+  number-refusal-reads.Learnt,
+  expression-reads.Asked,
+  expression-reads.Learnt,
+  block-below t,
+  block.Post,
+  block-refusal-reads.Asked,
+  block-refusal-reads.Learnt,
+  each-reads.Asked,
+  each-reads.Learnt,
+  put-reads.Asked,
+  put-reads.Learnt,
+) (repetition-at t) repetition.Post
+repetition-enum-known-q t c = search needs
+
+-- src/statements.rt:132:9
+repetition-enum-told-3 : (t : ℕ) → repetition-lts.Need-enum-told-3 (
+  loop-head-reads.Asked,
+  loop-head-reads.Learnt,
+  number-refusal-reads.Asked,
+  number-refusal-reads.Learnt,
+  expression-reads.Asked,
+  expression-reads.Learnt,
+  block-below t,
+  block.Post,
+  block-refusal-reads.Asked,
+  block-refusal-reads.Learnt,
+  each-reads.Asked,
+  each-reads.Learnt,
+  put-reads.Asked,
+  put-reads.Learnt,
+) (repetition-at t) repetition.Post
+repetition-enum-told-3 t c = search needs
+
+-- src/statements.rt:132:9
+repetition-block-refusal-requires : (t : ℕ) → repetition-lts.Need-block-refusal-requires (
+  loop-head-reads.Asked,
+  loop-head-reads.Learnt,
+  number-refusal-reads.Asked,
+  number-refusal-reads.Learnt,
+  expression-reads.Asked,
+  expression-reads.Learnt,
+  block-below t,
+  block.Post,
+  block-refusal-reads.Asked,
+  block-refusal-reads.Learnt,
+  each-reads.Asked,
+  each-reads.Learnt,
+  put-reads.Asked,
+  put-reads.Learnt,
+) (repetition-at t) repetition.Post
+repetition-block-refusal-requires t c κs = search needs
+
+-- src/statements.rt:132:9
+repetition-same-length-2 : (t : ℕ) → repetition-lts.Need-same-length-2 (
+  loop-head-reads.Asked,
+  loop-head-reads.Learnt,
+  number-refusal-reads.Asked,
+  number-refusal-reads.Learnt,
+  expression-reads.Asked,
+  expression-reads.Learnt,
+  block-below t,
+  block.Post,
+  block-refusal-reads.Asked,
+  block-refusal-reads.Learnt,
+  each-reads.Asked,
+  each-reads.Learnt,
+  put-reads.Asked,
+  put-reads.Learnt,
+) (repetition-at t) repetition.Post
+repetition-same-length-2 t c = c .before .before .before .before .before .block .kept .1 .1 .1 .1 .1 .1 .0 ∙ c .before .before .before .before .before .before .before .before .before .before .before .before .expression .kept .1 .1 .1 .1 .1 .1 .0
+
+-- src/statements.rt:132:9
+repetition-returns-4 : (t : ℕ) → repetition-lts.Need-returns-4 (
+  loop-head-reads.Asked,
+  loop-head-reads.Learnt,
+  number-refusal-reads.Asked,
+  number-refusal-reads.Learnt,
+  expression-reads.Asked,
+  expression-reads.Learnt,
+  block-below t,
+  block.Post,
+  block-refusal-reads.Asked,
+  block-refusal-reads.Learnt,
+  each-reads.Asked,
+  each-reads.Learnt,
+  put-reads.Asked,
+  put-reads.Learnt,
+) (repetition-at t) repetition.Post
+repetition-returns-4 t c = block-refusal-on _ _ _ _ _ _ (c .block-refusal .result) _ _ _ _ _ _ (c .before .enum-told3 .given .1) (c .before .before .before .before .before .block .ensures) (c .block-refusal .ensures) (for-body-refused (c .before .before .before .before .before .before .before .before .before .before .before .before .before .before .before .before .before .before .before .before .before .before .before .before .args .reserved .now) (c .before .before .before .before .before .before .before .before .before .before .before .before .before .before .before .before .before .before .before .before .before .before .before .before .args .currencies .now) (c .before .before .before .before .before .before .before .before .before .before .before .before .before .before .before .before .before .before .before .before .before .before .before .before .args .counters .now) (c .before .before .before .before .before .before .before .before .before .before .before .before .before .before .before .before .before .before .before .before .before .before .before .before .args .depth) (c .before .before .before .before .before .before .before .before .before .before .before .before .before .before .before .before .before .before .before .before .before .before .before .before .args .s .now) (c .before .before .before .before .before .before .before .before .before .before .before .before .before .before .before .before .before .before .before .before .before .before .before .before .args .c) (c .before .before .before .before .before .before .before .before .before .before .before .before .before .before .before .before .before .before .before .before .before .before .before .before .args .d) (c .before .before .before .before .before .before .before .before .before .before .before .before .before .before .before .before .before .before .before .before .before .before .before .before .pre .1 .1) (c .before .before .before .before .before .before .before .before .before .before .before .before .before .before .before .before .before .before .before .before .before .before .before .before .pre .1 .2) (c .before .before .before .before .before .before .before .before .before .before .before .before .before .before .before .before .before .before .if1 .left) _ (head-is _ _ _ _ _ _ (c .before .before .before .before .before .before .before .before .before .before .before .before .before .before .before .v .given .1) (c .before .before .before .before .before .before .before .before .before .before .before .before .before .before .before .before .before .loop-head .ensures)) _ (c .before .before .before .before .before .before .before .before .before .before .before .before .before .before .before .before .before .before .before .before .before .before .before .before .pre .1 .0 .1) _ _ _ _ _ (done-reads _ _ _ _ _ _ _ _ _ (c .before .before .before .before .before .before .before .before .r .given .1) (c .before .before .before .before .before .before .before .before .before .before .before .before .expression .ensures)) _ _)
+
+-- src/statements.rt:134:25
+repetition-sub-each : (t : ℕ) → repetition-lts.Need-sub-each (
+  loop-head-reads.Asked,
+  loop-head-reads.Learnt,
+  number-refusal-reads.Asked,
+  number-refusal-reads.Learnt,
+  expression-reads.Asked,
+  expression-reads.Learnt,
+  block-below t,
+  block.Post,
+  block-refusal-reads.Asked,
+  block-refusal-reads.Learnt,
+  each-reads.Asked,
+  each-reads.Learnt,
+  put-reads.Asked,
+  put-reads.Learnt,
+) (repetition-at t) repetition.Post
+repetition-sub-each t c = omega (arith, for-numbers (c .before .before .before .before .before .before .before .before .before .before .before .before .before .before .before .before .before .before .before .before .before .before .before .before .before .args .reserved .now) (c .before .before .before .before .before .before .before .before .before .before .before .before .before .before .before .before .before .before .before .before .before .before .before .before .before .args .currencies .now) (c .before .before .before .before .before .before .before .before .before .before .before .before .before .before .before .before .before .before .before .before .before .before .before .before .before .args .counters .now) (c .before .before .before .before .before .before .before .before .before .before .before .before .before .before .before .before .before .before .before .before .before .before .before .before .before .args .depth) (c .before .before .before .before .before .before .before .before .before .before .before .before .before .before .before .before .before .before .before .before .before .before .before .before .before .args .s .now) (c .before .before .before .before .before .before .before .before .before .before .before .before .before .before .before .before .before .before .before .before .before .before .before .before .before .args .c) (c .before .before .before .before .before .before .before .before .before .before .before .before .before .before .before .before .before .before .before .before .before .before .before .before .before .args .d) (c .before .before .before .before .before .before .before .before .before .before .before .before .before .before .before .before .before .before .before .before .before .before .before .before .before .pre .1 .1) (c .before .before .before .before .before .before .before .before .before .before .before .before .before .before .before .before .before .before .before .before .before .before .before .before .before .pre .1 .2) (c .before .before .before .before .before .before .before .before .before .before .before .before .before .before .before .before .before .before .before .if1 .left) _ (head-is _ _ _ _ _ _ (c .before .before .before .before .before .before .before .before .before .before .before .before .before .before .before .before .v .given .1) (c .before .before .before .before .before .before .before .before .before .before .before .before .before .before .before .before .before .before .loop-head .ensures)) _ (c .before .before .before .before .before .before .before .before .before .before .before .before .before .before .before .before .before .before .before .before .before .before .before .before .before .pre .1 .0 .1) _ _ _ _ _ (done-reads _ _ _ _ _ _ _ _ _ (c .before .before .before .before .before .before .before .before .before .r .given .1) (c .before .before .before .before .before .before .before .before .before .before .before .before .before .expression .ensures)) _ _ _ _ (done-block _ _ _ _ _ _ _ _ _ (c .before .before .q .given .1) (c .before .before .before .before .before .before .block .ensures)))
+
+-- src/statements.rt:134:25
+repetition-add-each : (t : ℕ) → repetition-lts.Need-add-each (
+  loop-head-reads.Asked,
+  loop-head-reads.Learnt,
+  number-refusal-reads.Asked,
+  number-refusal-reads.Learnt,
+  expression-reads.Asked,
+  expression-reads.Learnt,
+  block-below t,
+  block.Post,
+  block-refusal-reads.Asked,
+  block-refusal-reads.Learnt,
+  each-reads.Asked,
+  each-reads.Learnt,
+  put-reads.Asked,
+  put-reads.Learnt,
+) (repetition-at t) repetition.Post
+repetition-add-each t c = omega (arith, for-numbers (c .before .before .before .before .before .before .before .before .before .before .before .before .before .before .before .before .before .before .before .before .before .before .before .before .before .args .reserved .now) (c .before .before .before .before .before .before .before .before .before .before .before .before .before .before .before .before .before .before .before .before .before .before .before .before .before .args .currencies .now) (c .before .before .before .before .before .before .before .before .before .before .before .before .before .before .before .before .before .before .before .before .before .before .before .before .before .args .counters .now) (c .before .before .before .before .before .before .before .before .before .before .before .before .before .before .before .before .before .before .before .before .before .before .before .before .before .args .depth) (c .before .before .before .before .before .before .before .before .before .before .before .before .before .before .before .before .before .before .before .before .before .before .before .before .before .args .s .now) (c .before .before .before .before .before .before .before .before .before .before .before .before .before .before .before .before .before .before .before .before .before .before .before .before .before .args .c) (c .before .before .before .before .before .before .before .before .before .before .before .before .before .before .before .before .before .before .before .before .before .before .before .before .before .args .d) (c .before .before .before .before .before .before .before .before .before .before .before .before .before .before .before .before .before .before .before .before .before .before .before .before .before .pre .1 .1) (c .before .before .before .before .before .before .before .before .before .before .before .before .before .before .before .before .before .before .before .before .before .before .before .before .before .pre .1 .2) (c .before .before .before .before .before .before .before .before .before .before .before .before .before .before .before .before .before .before .before .if1 .left) _ (head-is _ _ _ _ _ _ (c .before .before .before .before .before .before .before .before .before .before .before .before .before .before .before .before .v .given .1) (c .before .before .before .before .before .before .before .before .before .before .before .before .before .before .before .before .before .before .loop-head .ensures)) _ (c .before .before .before .before .before .before .before .before .before .before .before .before .before .before .before .before .before .before .before .before .before .before .before .before .before .pre .1 .0 .1) _ _ _ _ _ (done-reads _ _ _ _ _ _ _ _ _ (c .before .before .before .before .before .before .before .before .before .r .given .1) (c .before .before .before .before .before .before .before .before .before .before .before .before .before .expression .ensures)) _ _ _ _ (done-block _ _ _ _ _ _ _ _ _ (c .before .before .q .given .1) (c .before .before .before .before .before .before .block .ensures)))
+
+-- src/statements.rt:134:36
+repetition-add-each-2 : (t : ℕ) → repetition-lts.Need-add-each-2 (
+  loop-head-reads.Asked,
+  loop-head-reads.Learnt,
+  number-refusal-reads.Asked,
+  number-refusal-reads.Learnt,
+  expression-reads.Asked,
+  expression-reads.Learnt,
+  block-below t,
+  block.Post,
+  block-refusal-reads.Asked,
+  block-refusal-reads.Learnt,
+  each-reads.Asked,
+  each-reads.Learnt,
+  put-reads.Asked,
+  put-reads.Learnt,
+) (repetition-at t) repetition.Post
+repetition-add-each-2 t c = omega (arith, for-numbers (c .before .before .before .before .before .before .before .before .before .before .before .before .before .before .before .before .before .before .before .before .before .before .before .before .before .args .reserved .now) (c .before .before .before .before .before .before .before .before .before .before .before .before .before .before .before .before .before .before .before .before .before .before .before .before .before .args .currencies .now) (c .before .before .before .before .before .before .before .before .before .before .before .before .before .before .before .before .before .before .before .before .before .before .before .before .before .args .counters .now) (c .before .before .before .before .before .before .before .before .before .before .before .before .before .before .before .before .before .before .before .before .before .before .before .before .before .args .depth) (c .before .before .before .before .before .before .before .before .before .before .before .before .before .before .before .before .before .before .before .before .before .before .before .before .before .args .s .now) (c .before .before .before .before .before .before .before .before .before .before .before .before .before .before .before .before .before .before .before .before .before .before .before .before .before .args .c) (c .before .before .before .before .before .before .before .before .before .before .before .before .before .before .before .before .before .before .before .before .before .before .before .before .before .args .d) (c .before .before .before .before .before .before .before .before .before .before .before .before .before .before .before .before .before .before .before .before .before .before .before .before .before .pre .1 .1) (c .before .before .before .before .before .before .before .before .before .before .before .before .before .before .before .before .before .before .before .before .before .before .before .before .before .pre .1 .2) (c .before .before .before .before .before .before .before .before .before .before .before .before .before .before .before .before .before .before .before .if1 .left) _ (head-is _ _ _ _ _ _ (c .before .before .before .before .before .before .before .before .before .before .before .before .before .before .before .before .v .given .1) (c .before .before .before .before .before .before .before .before .before .before .before .before .before .before .before .before .before .before .loop-head .ensures)) _ (c .before .before .before .before .before .before .before .before .before .before .before .before .before .before .before .before .before .before .before .before .before .before .before .before .before .pre .1 .0 .1) _ _ _ _ _ (done-reads _ _ _ _ _ _ _ _ _ (c .before .before .before .before .before .before .before .before .before .r .given .1) (c .before .before .before .before .before .before .before .before .before .before .before .before .before .expression .ensures)) _ _ _ _ (done-block _ _ _ _ _ _ _ _ _ (c .before .before .q .given .1) (c .before .before .before .before .before .before .block .ensures)))
+
+-- src/statements.rt:134:17
+repetition-each-requires : (t : ℕ) → repetition-lts.Need-each-requires (
+  loop-head-reads.Asked,
+  loop-head-reads.Learnt,
+  number-refusal-reads.Asked,
+  number-refusal-reads.Learnt,
+  expression-reads.Asked,
+  expression-reads.Learnt,
+  block-below t,
+  block.Post,
+  block-refusal-reads.Asked,
+  block-refusal-reads.Learnt,
+  each-reads.Asked,
+  each-reads.Learnt,
+  put-reads.Asked,
+  put-reads.Learnt,
+) (repetition-at t) repetition.Post
+repetition-each-requires t c κs = start-in (c .before .before .before .before .before .before .before .before .before .before .before .before .before .before .before .before .before .before .before .before .before .before .before .before .before .pre .1 .1 .holds)
+
+-- src/statements.rt:134:5
+repetition-put-requires : (t : ℕ) → repetition-lts.Need-put-requires (
+  loop-head-reads.Asked,
+  loop-head-reads.Learnt,
+  number-refusal-reads.Asked,
+  number-refusal-reads.Learnt,
+  expression-reads.Asked,
+  expression-reads.Learnt,
+  block-below t,
+  block.Post,
+  block-refusal-reads.Asked,
+  block-refusal-reads.Learnt,
+  each-reads.Asked,
+  each-reads.Learnt,
+  put-reads.Asked,
+  put-reads.Learnt,
+) (repetition-at t) repetition.Post
+repetition-put-requires t c κs = search needs
+
+-- src/statements.rt:135:19
+repetition-add-t20 : (t : ℕ) → repetition-lts.Need-add-t20 (
+  loop-head-reads.Asked,
+  loop-head-reads.Learnt,
+  number-refusal-reads.Asked,
+  number-refusal-reads.Learnt,
+  expression-reads.Asked,
+  expression-reads.Learnt,
+  block-below t,
+  block.Post,
+  block-refusal-reads.Asked,
+  block-refusal-reads.Learnt,
+  each-reads.Asked,
+  each-reads.Learnt,
+  put-reads.Asked,
+  put-reads.Learnt,
+) (repetition-at t) repetition.Post
+repetition-add-t20 t c = omega (arith, for-numbers (c .before .before .before .before .before .before .before .before .before .before .before .before .before .before .before .before .before .before .before .before .before .before .before .before .before .before .before .before .before .args .reserved .now) (c .before .before .before .before .before .before .before .before .before .before .before .before .before .before .before .before .before .before .before .before .before .before .before .before .before .before .before .before .before .args .currencies .now) (c .before .before .before .before .before .before .before .before .before .before .before .before .before .before .before .before .before .before .before .before .before .before .before .before .before .before .before .before .before .args .counters .now) (c .before .before .before .before .before .before .before .before .before .before .before .before .before .before .before .before .before .before .before .before .before .before .before .before .before .before .before .before .before .args .depth) (c .before .before .before .before .before .before .before .before .before .before .before .before .before .before .before .before .before .before .before .before .before .before .before .before .before .before .before .before .before .args .s .now) (c .before .before .before .before .before .before .before .before .before .before .before .before .before .before .before .before .before .before .before .before .before .before .before .before .before .before .before .before .before .args .c) (c .before .before .before .before .before .before .before .before .before .before .before .before .before .before .before .before .before .before .before .before .before .before .before .before .before .before .before .before .before .args .d) (c .before .before .before .before .before .before .before .before .before .before .before .before .before .before .before .before .before .before .before .before .before .before .before .before .before .before .before .before .before .pre .1 .1) (c .before .before .before .before .before .before .before .before .before .before .before .before .before .before .before .before .before .before .before .before .before .before .before .before .before .before .before .before .before .pre .1 .2) (c .before .before .before .before .before .before .before .before .before .before .before .before .before .before .before .before .before .before .before .before .before .before .before .if1 .left) _ (head-is _ _ _ _ _ _ (c .before .before .before .before .before .before .before .before .before .before .before .before .before .before .before .before .before .before .before .before .v .given .1) (c .before .before .before .before .before .before .before .before .before .before .before .before .before .before .before .before .before .before .before .before .before .before .loop-head .ensures)) _ (c .before .before .before .before .before .before .before .before .before .before .before .before .before .before .before .before .before .before .before .before .before .before .before .before .before .before .before .before .before .pre .1 .0 .1) _ _ _ _ _ (done-reads _ _ _ _ _ _ _ _ _ (c .before .before .before .before .before .before .before .before .before .before .before .before .before .r .given .1) (c .before .before .before .before .before .before .before .before .before .before .before .before .before .before .before .before .before .expression .ensures)) _ _ _ _ (done-block _ _ _ _ _ _ _ _ _ (c .before .before .before .before .before .before .q .given .1) (c .before .before .before .before .before .before .before .before .before .before .block .ensures)))
+
+-- src/statements.rt:105:1
+repetition-same-length-3 : (t : ℕ) → repetition-lts.Need-same-length-3 (
+  loop-head-reads.Asked,
+  loop-head-reads.Learnt,
+  number-refusal-reads.Asked,
+  number-refusal-reads.Learnt,
+  expression-reads.Asked,
+  expression-reads.Learnt,
+  block-below t,
+  block.Post,
+  block-refusal-reads.Asked,
+  block-refusal-reads.Learnt,
+  each-reads.Asked,
+  each-reads.Learnt,
+  put-reads.Asked,
+  put-reads.Learnt,
+) (repetition-at t) repetition.Post
+repetition-same-length-3 t c = c .before .before .put .kept .0 ∙ (c .before .before .before .before .before .before .before .before .before .before .block .kept .1 .1 .1 .1 .1 .1 .0 ∙ c .before .before .before .before .before .before .before .before .before .before .before .before .before .before .before .before .before .expression .kept .1 .1 .1 .1 .1 .1 .0)
+
+-- src/statements.rt:105:1
+repetition-returns-5 : (t : ℕ) → repetition-lts.Need-returns-5 (
+  loop-head-reads.Asked,
+  loop-head-reads.Learnt,
+  number-refusal-reads.Asked,
+  number-refusal-reads.Learnt,
+  expression-reads.Asked,
+  expression-reads.Learnt,
+  block-below t,
+  block.Post,
+  block-refusal-reads.Asked,
+  block-refusal-reads.Learnt,
+  each-reads.Asked,
+  each-reads.Learnt,
+  put-reads.Asked,
+  put-reads.Learnt,
+) (repetition-at t) repetition.Post
+repetition-returns-5 t c = for-done (c .before .before .before .before .before .before .before .before .before .before .before .before .before .before .before .before .before .before .before .before .before .before .before .before .before .before .before .before .before .args .reserved .now) (c .before .before .before .before .before .before .before .before .before .before .before .before .before .before .before .before .before .before .before .before .before .before .before .before .before .before .before .before .before .args .currencies .now) (c .before .before .before .before .before .before .before .before .before .before .before .before .before .before .before .before .before .before .before .before .before .before .before .before .before .before .before .before .before .args .counters .now) (c .before .before .before .before .before .before .before .before .before .before .before .before .before .before .before .before .before .before .before .before .before .before .before .before .before .before .before .before .before .args .depth) (c .before .before .before .before .before .before .before .before .before .before .before .before .before .before .before .before .before .before .before .before .before .before .before .before .before .before .before .before .before .args .s .now) (c .before .before .before .before .before .before .before .before .before .before .before .before .before .before .before .before .before .before .before .before .before .before .before .before .before .before .before .before .before .args .c) (c .before .before .before .before .before .before .before .before .before .before .before .before .before .before .before .before .before .before .before .before .before .before .before .before .before .before .before .before .before .args .d) (c .before .before .before .before .before .before .before .before .before .before .before .before .before .before .before .before .before .before .before .before .before .before .before .before .before .before .before .before .before .pre .1 .1) (c .before .before .before .before .before .before .before .before .before .before .before .before .before .before .before .before .before .before .before .before .before .before .before .before .before .before .before .before .before .pre .1 .2) (c .before .before .before .before .before .before .before .before .before .before .before .before .before .before .before .before .before .before .before .before .before .before .before .if1 .left) _ (head-is _ _ _ _ _ _ (c .before .before .before .before .before .before .before .before .before .before .before .before .before .before .before .before .before .before .before .before .v .given .1) (c .before .before .before .before .before .before .before .before .before .before .before .before .before .before .before .before .before .before .before .before .before .before .loop-head .ensures)) _ (c .before .before .before .before .before .before .before .before .before .before .before .before .before .before .before .before .before .before .before .before .before .before .before .before .before .before .before .before .before .pre .1 .0 .1) _ _ _ _ _ (done-reads _ _ _ _ _ _ _ _ _ (c .before .before .before .before .before .before .before .before .before .before .before .before .before .r .given .1) (c .before .before .before .before .before .before .before .before .before .before .before .before .before .before .before .before .before .expression .ensures)) _ _ _ _ (done-block _ _ _ _ _ _ _ _ _ (c .before .before .before .before .before .before .q .given .1) (c .before .before .before .before .before .before .before .before .before .before .block .ensures)) _ (put-fields _ _ _ _ _ _ _ _ _ (c .before .before .before .each .ensures) (c .before .before .put .ensures))
+
+-- src/statements.rt:46:9
+statement-next-requires : (t : ℕ) → statement-lts.Need-next-requires (
+  next-reads.Asked,
+  next-reads.Learnt,
+  begun-reads.Asked,
+  begun-reads.Learnt,
+  conditional-below t,
+  conditional.Post,
+  repetition-below t,
+  repetition.Post,
+  paid-reads.Asked,
+  paid-reads.Learnt,
+  ended-reads.Asked,
+  ended-reads.Learnt,
+) (statement-at t) statement′.Post
+statement-next-requires t c κs = c .before .before .before .before .before .pre .1 .0 .0
+
+-- src/statements.rt:49:17
+statement-begun-requires : (t : ℕ) → statement-lts.Need-begun-requires (
+  next-reads.Asked,
+  next-reads.Learnt,
+  begun-reads.Asked,
+  begun-reads.Learnt,
+  conditional-below t,
+  conditional.Post,
+  repetition-below t,
+  repetition.Post,
+  paid-reads.Asked,
+  paid-reads.Learnt,
+  ended-reads.Asked,
+  ended-reads.Learnt,
+) (statement-at t) statement′.Post
+statement-begun-requires t c κs = (c .before .before .before .before .before .before .before .before .pre .1 .0, c .before .before .next .ensures, c .before .match .keys1, c .before .before .before .before .before .before .before .before .pre .1 .1)
+
+-- src/statements.rt:50:15
+statement-conditional-requires : (t : ℕ) → statement-lts.Need-conditional-requires (
+  next-reads.Asked,
+  next-reads.Learnt,
+  begun-reads.Asked,
+  begun-reads.Learnt,
+  conditional-below t,
+  conditional.Post,
+  repetition-below t,
+  repetition.Post,
+  paid-reads.Asked,
+  paid-reads.Learnt,
+  ended-reads.Asked,
+  ended-reads.Learnt,
+) (statement-at t) statement′.Post
+statement-conditional-requires t c κs = (omega (arith, c .before .before .before .before .before .before .before .before .pre .0), (c .before .before .before .before .before .before .before .before .pre .1 .0, c .before .before .next .ensures, c .before .match .keys2, c .before .before .before .before .before .before .before .before .pre .1 .1))
+
+-- src/statements.rt:51:16
+statement-repetition-requires : (t : ℕ) → statement-lts.Need-repetition-requires (
+  next-reads.Asked,
+  next-reads.Learnt,
+  begun-reads.Asked,
+  begun-reads.Learnt,
+  conditional-below t,
+  conditional.Post,
+  repetition-below t,
+  repetition.Post,
+  paid-reads.Asked,
+  paid-reads.Learnt,
+  ended-reads.Asked,
+  ended-reads.Learnt,
+) (statement-at t) statement′.Post
+statement-repetition-requires t c κs = (omega (arith, c .before .before .before .before .before .before .before .before .pre .0), (c .before .before .before .before .before .before .before .before .pre .1 .0, c .before .before .next .ensures, c .before .match .keys3, c .before .before .before .before .before .before .before .before .pre .1 .1))
+
+-- src/statements.rt:52:17
+statement-paid-requires : (t : ℕ) → statement-lts.Need-paid-requires (
+  next-reads.Asked,
+  next-reads.Learnt,
+  begun-reads.Asked,
+  begun-reads.Learnt,
+  conditional-below t,
+  conditional.Post,
+  repetition-below t,
+  repetition.Post,
+  paid-reads.Asked,
+  paid-reads.Learnt,
+  ended-reads.Asked,
+  ended-reads.Learnt,
+) (statement-at t) statement′.Post
+statement-paid-requires t c κs = (c .before .before .before .before .before .before .before .before .pre .1 .0, c .before .before .next .ensures, c .before .match .keys4, c .before .before .before .before .before .before .before .before .pre .1 .1)
+
+-- src/statements.rt:53:14
+statement-ended-requires : (t : ℕ) → statement-lts.Need-ended-requires (
+  next-reads.Asked,
+  next-reads.Learnt,
+  begun-reads.Asked,
+  begun-reads.Learnt,
+  conditional-below t,
+  conditional.Post,
+  repetition-below t,
+  repetition.Post,
+  paid-reads.Asked,
+  paid-reads.Learnt,
+  ended-reads.Asked,
+  ended-reads.Learnt,
+) (statement-at t) statement′.Post
+statement-ended-requires t c κs = (c .before .before .before .before .before .before .before .before .pre .1 .0, c .before .before .before .before .before .before .before .before .pre .1 .1)
+
+-- src/statements.rt:33:1
+statement-same-length : (t : ℕ) → statement-lts.Need-same-length (
+  next-reads.Asked,
+  next-reads.Learnt,
+  begun-reads.Asked,
+  begun-reads.Learnt,
+  conditional-below t,
+  conditional.Post,
+  repetition-below t,
+  repetition.Post,
+  paid-reads.Asked,
+  paid-reads.Learnt,
+  ended-reads.Asked,
+  ended-reads.Learnt,
+) (statement-at t) statement′.Post
+statement-same-length t c = search needs
+
+-- src/statements.rt:33:1
+statement-returns : (t : ℕ) → statement-lts.Need-returns (
+  next-reads.Asked,
+  next-reads.Learnt,
+  begun-reads.Asked,
+  begun-reads.Learnt,
+  conditional-below t,
+  conditional.Post,
+  repetition-below t,
+  repetition.Post,
+  paid-reads.Asked,
+  paid-reads.Learnt,
+  ended-reads.Asked,
+  ended-reads.Learnt,
+) (statement-at t) statement′.Post
+statement-returns t c = meets-as _ _ _ _ _ (c .before .before .begun .result) _ (stat-name (wordsIn (c .before .before .before .before .before .before .before .before .before .before .before .args .reserved .now) (c .before .before .before .before .before .before .before .before .before .before .before .args .currencies .now) (c .before .before .before .before .before .before .before .before .before .before .before .args .counters .now)) (c .before .before .before .before .before .before .before .before .before .before .before .args .s .now) (c .before .before .before .before .before .before .before .before .before .before .before .args .c) (c .before .before .before .before .before .before .before .before .before .before .before .pre .1 .0 .0) (c .before .before .before .before .before .before .before .before .before .before .before .args .depth) (c .before .before .before .before .match .keys1)) (c .before .before .begun .ensures)
+
+-- src/statements.rt:33:1
+statement-same-length-2 : (t : ℕ) → statement-lts.Need-same-length-2 (
+  next-reads.Asked,
+  next-reads.Learnt,
+  begun-reads.Asked,
+  begun-reads.Learnt,
+  conditional-below t,
+  conditional.Post,
+  repetition-below t,
+  repetition.Post,
+  paid-reads.Asked,
+  paid-reads.Learnt,
+  ended-reads.Asked,
+  ended-reads.Learnt,
+) (statement-at t) statement′.Post
+statement-same-length-2 t c = search needs
+
+-- src/statements.rt:33:1
+statement-returns-2 : (t : ℕ) → statement-lts.Need-returns-2 (
+  next-reads.Asked,
+  next-reads.Learnt,
+  begun-reads.Asked,
+  begun-reads.Learnt,
+  conditional-below t,
+  conditional.Post,
+  repetition-below t,
+  repetition.Post,
+  paid-reads.Asked,
+  paid-reads.Learnt,
+  ended-reads.Asked,
+  ended-reads.Learnt,
+) (statement-at t) statement′.Post
+statement-returns-2 t c = meets-as _ _ _ _ _ (c .before .before .conditional .result) _ (stat-if (wordsIn (c .before .before .before .before .before .before .before .before .before .before .before .args .reserved .now) (c .before .before .before .before .before .before .before .before .before .before .before .args .currencies .now) (c .before .before .before .before .before .before .before .before .before .before .before .args .counters .now)) (c .before .before .before .before .before .before .before .before .before .before .before .args .s .now) (c .before .before .before .before .before .before .before .before .before .before .before .args .c) (c .before .before .before .before .before .before .before .before .before .before .before .pre .1 .0 .0) (c .before .before .before .before .before .before .before .before .before .before .before .args .depth) (c .before .before .before .before .match .keys2)) (c .before .before .conditional .ensures)
+
+-- src/statements.rt:33:1
+statement-same-length-3 : (t : ℕ) → statement-lts.Need-same-length-3 (
+  next-reads.Asked,
+  next-reads.Learnt,
+  begun-reads.Asked,
+  begun-reads.Learnt,
+  conditional-below t,
+  conditional.Post,
+  repetition-below t,
+  repetition.Post,
+  paid-reads.Asked,
+  paid-reads.Learnt,
+  ended-reads.Asked,
+  ended-reads.Learnt,
+) (statement-at t) statement′.Post
+statement-same-length-3 t c = search needs
+
+-- src/statements.rt:33:1
+statement-returns-3 : (t : ℕ) → statement-lts.Need-returns-3 (
+  next-reads.Asked,
+  next-reads.Learnt,
+  begun-reads.Asked,
+  begun-reads.Learnt,
+  conditional-below t,
+  conditional.Post,
+  repetition-below t,
+  repetition.Post,
+  paid-reads.Asked,
+  paid-reads.Learnt,
+  ended-reads.Asked,
+  ended-reads.Learnt,
+) (statement-at t) statement′.Post
+statement-returns-3 t c = meets-as _ _ _ _ _ (c .before .before .repetition .result) _ (stat-for (wordsIn (c .before .before .before .before .before .before .before .before .before .before .before .args .reserved .now) (c .before .before .before .before .before .before .before .before .before .before .before .args .currencies .now) (c .before .before .before .before .before .before .before .before .before .before .before .args .counters .now)) (c .before .before .before .before .before .before .before .before .before .before .before .args .s .now) (c .before .before .before .before .before .before .before .before .before .before .before .args .c) (c .before .before .before .before .before .before .before .before .before .before .before .pre .1 .0 .0) (c .before .before .before .before .before .before .before .before .before .before .before .args .depth) (c .before .before .before .before .match .keys3)) (c .before .before .repetition .ensures)
+
+-- src/statements.rt:33:1
+statement-same-length-4 : (t : ℕ) → statement-lts.Need-same-length-4 (
+  next-reads.Asked,
+  next-reads.Learnt,
+  begun-reads.Asked,
+  begun-reads.Learnt,
+  conditional-below t,
+  conditional.Post,
+  repetition-below t,
+  repetition.Post,
+  paid-reads.Asked,
+  paid-reads.Learnt,
+  ended-reads.Asked,
+  ended-reads.Learnt,
+) (statement-at t) statement′.Post
+statement-same-length-4 t c = search needs
+
+-- src/statements.rt:33:1
+statement-returns-4 : (t : ℕ) → statement-lts.Need-returns-4 (
+  next-reads.Asked,
+  next-reads.Learnt,
+  begun-reads.Asked,
+  begun-reads.Learnt,
+  conditional-below t,
+  conditional.Post,
+  repetition-below t,
+  repetition.Post,
+  paid-reads.Asked,
+  paid-reads.Learnt,
+  ended-reads.Asked,
+  ended-reads.Learnt,
+) (statement-at t) statement′.Post
+statement-returns-4 t c = meets-as _ _ _ _ _ (c .before .before .paid .result) _ (stat-pays (wordsIn (c .before .before .before .before .before .before .before .before .before .before .before .args .reserved .now) (c .before .before .before .before .before .before .before .before .before .before .before .args .currencies .now) (c .before .before .before .before .before .before .before .before .before .before .before .args .counters .now)) (c .before .before .before .before .before .before .before .before .before .before .before .args .s .now) (c .before .before .before .before .before .before .before .before .before .before .before .args .c) (c .before .before .before .before .before .before .before .before .before .before .before .pre .1 .0 .0) (c .before .before .before .before .before .before .before .before .before .before .before .args .depth) (c .before .before .before .before .match .keys4)) (c .before .before .paid .ensures)
+
+-- src/statements.rt:33:1
+statement-same-length-5 : (t : ℕ) → statement-lts.Need-same-length-5 (
+  next-reads.Asked,
+  next-reads.Learnt,
+  begun-reads.Asked,
+  begun-reads.Learnt,
+  conditional-below t,
+  conditional.Post,
+  repetition-below t,
+  repetition.Post,
+  paid-reads.Asked,
+  paid-reads.Learnt,
+  ended-reads.Asked,
+  ended-reads.Learnt,
+) (statement-at t) statement′.Post
+statement-same-length-5 t c = search needs
+
+-- src/statements.rt:33:1
+statement-returns-5 : (t : ℕ) → statement-lts.Need-returns-5 (
+  next-reads.Asked,
+  next-reads.Learnt,
+  begun-reads.Asked,
+  begun-reads.Learnt,
+  conditional-below t,
+  conditional.Post,
+  repetition-below t,
+  repetition.Post,
+  paid-reads.Asked,
+  paid-reads.Learnt,
+  ended-reads.Asked,
+  ended-reads.Learnt,
+) (statement-at t) statement′.Post
+statement-returns-5 t c =
+    let r = c .before .before .before .before .match .rest in
+    meets-as _ _ _ _ _ (c .before .before .ended .result) _ (stat-ended (wordsIn (c .before .before .before .before .before .before .before .before .before .before .before .args .reserved .now) (c .before .before .before .before .before .before .before .before .before .before .before .args .currencies .now) (c .before .before .before .before .before .before .before .before .before .before .before .args .counters .now)) (c .before .before .before .before .before .before .before .before .before .before .before .args .s .now) (c .before .before .before .before .before .before .before .before .before .before .before .args .c) (c .before .before .before .before .before .before .before .before .before .before .before .pre .1 .0 .0) (c .before .before .before .before .before .before .before .before .before .before .before .args .depth) (r .0 .0 .0 .1) (r .0 .0 .1) (r .0 .1) (r .1)) (c .before .before .ended .ensures)
+
+pub +block+conditional+repetition+statement-spec : {M : Type 1} → statement M
++block+conditional+repetition+statement-spec =
+    close μ-block μ-conditional μ-repetition μ-statement (λ t. block-lts.spec (
+      take-reads.Asked,
+      take-reads.Learnt,
+      next-reads.Asked,
+      next-reads.Learnt,
+      statement-below t,
+      statement′.Post,
+      block-refused-reads.Asked,
+      block-refused-reads.Learnt,
+    )
+    (block-at t)
+    block.Post
+    block-Inv-loop
+    block-μ-loop
+    (block-take-requires t)
+    (block-enum-known-d t)
+    (block-enum-told t)
+    (block-returns t)
+    (block-loop-holds t)
+    (block-next-requires t)
+    (block-same-length t)
+    (block-returns-2 t)
+    (block-statement-requires t)
+    (block-enum-known-r t)
+    (block-enum-told-2 t)
+    (block-block-refused-requires t)
+    (block-same-length-2 t)
+    (block-returns-3 t)
+    (block-add-count t)
+    (block-loop-less t)
+    (block-loop-again t))
+    (λ t. conditional-lts.spec (
+      expression-reads.Asked,
+      expression-reads.Learnt,
+      block-below t,
+      block.Post,
+      block-refusal-reads.Asked,
+      block-refusal-reads.Learnt,
+      branch-reads.Asked,
+      branch-reads.Learnt,
+      put-reads.Asked,
+      put-reads.Learnt,
+      next-reads.Asked,
+      next-reads.Learnt,
+    )
+    (conditional-at t)
+    conditional.Post
+    (conditional-returns t)
+    (conditional-sub-expression t)
+    (conditional-expression-requires t)
+    (conditional-enum-known-r t)
+    (conditional-enum-told t)
+    (conditional-same-length t)
+    (conditional-returns-2 t)
+    (conditional-sub-block t)
+    (conditional-block-requires t)
+    (conditional-enum-known-q t)
+    (conditional-enum-told-2 t)
+    (conditional-block-refusal-requires t)
+    (conditional-same-length-2 t)
+    (conditional-returns-3 t)
+    (conditional-sub-branch t)
+    (conditional-add-branch t)
+    (conditional-add-branch-2 t)
+    (conditional-branch-requires t)
+    (conditional-put-requires t)
+    (conditional-add-t31 t)
+    (conditional-same-length-3 t)
+    (conditional-returns-4 t)
+    (conditional-next-requires t)
+    (conditional-sub-block-2 t)
+    (conditional-block-requires-2 t)
+    (conditional-enum-known-p t)
+    (conditional-enum-told-3 t)
+    (conditional-block-refusal-requires-2 t)
+    (conditional-same-length-4 t)
+    (conditional-returns-5 t)
+    (conditional-sub-branch-2 t)
+    (conditional-add-branch-3 t)
+    (conditional-add-branch-4 t)
+    (conditional-add-branch-5 t)
+    (conditional-add-branch-6 t)
+    (conditional-branch-requires-2 t)
+    (conditional-put-requires-2 t)
+    (conditional-add-t22 t)
+    (conditional-same-length-5 t)
+    (conditional-returns-6 t))
+    (λ t. repetition-lts.spec (
+      loop-head-reads.Asked,
+      loop-head-reads.Learnt,
+      number-refusal-reads.Asked,
+      number-refusal-reads.Learnt,
+      expression-reads.Asked,
+      expression-reads.Learnt,
+      block-below t,
+      block.Post,
+      block-refusal-reads.Asked,
+      block-refusal-reads.Learnt,
+      each-reads.Asked,
+      each-reads.Learnt,
+      put-reads.Asked,
+      put-reads.Learnt,
+    )
+    (repetition-at t)
+    repetition.Post
+    (repetition-returns t)
+    (repetition-loop-head-requires t)
+    (repetition-enum-known-v t)
+    (repetition-enum-told t)
+    (repetition-number-refusal-requires t)
+    (repetition-returns-2 t)
+    (repetition-sub-expression t)
+    (repetition-expression-requires t)
+    (repetition-enum-known-r t)
+    (repetition-enum-told-2 t)
+    (repetition-same-length t)
+    (repetition-returns-3 t)
+    (repetition-sub-block t)
+    (repetition-block-requires t)
+    (repetition-enum-known-q t)
+    (repetition-enum-told-3 t)
+    (repetition-block-refusal-requires t)
+    (repetition-same-length-2 t)
+    (repetition-returns-4 t)
+    (repetition-sub-each t)
+    (repetition-add-each t)
+    (repetition-add-each-2 t)
+    (repetition-each-requires t)
+    (repetition-put-requires t)
+    (repetition-add-t20 t)
+    (repetition-same-length-3 t)
+    (repetition-returns-5 t))
+    λ t. statement-lts.spec (
+      next-reads.Asked,
+      next-reads.Learnt,
+      begun-reads.Asked,
+      begun-reads.Learnt,
+      conditional-below t,
+      conditional.Post,
+      repetition-below t,
+      repetition.Post,
+      paid-reads.Asked,
+      paid-reads.Learnt,
+      ended-reads.Asked,
+      ended-reads.Learnt,
+    )
+    (statement-at t)
+    statement′.Post
+    (statement-next-requires t)
+    (statement-begun-requires t)
+    (statement-conditional-requires t)
+    (statement-repetition-requires t)
+    (statement-paid-requires t)
+    (statement-ended-requires t)
+    (statement-same-length t)
+    (statement-returns t)
+    (statement-same-length-2 t)
+    (statement-returns-2 t)
+    (statement-same-length-3 t)
+    (statement-returns-3 t)
+    (statement-same-length-4 t)
+    (statement-returns-4 t)
+    (statement-same-length-5 t)
+    (statement-returns-5 t)
