@@ -26,6 +26,7 @@ use Rattle.reading.specs.Grammar.{nextKind}
 use Rattle.reading.specs.Script.{back}
 use Rattle.reading.specs.Meets.{listed, toksAt, tokenAt, Holds, Follows, theBy, Takes}
 use Rattle.reading.specs.declared.answers.Took.the-variants as took
+use Rattle.reading.specs.Scripts.{rebase}
 use Rattle.reading.proofs.Laws.{Quiet, skip-clear}
 use Rattle.reading.proofs.ScriptLaws.{quiet-nil, quiet-end, end-append, count-append, map-append}
 
@@ -501,9 +502,6 @@ mark-further d zero i (b ∷ bs) = go (λ n. ap (λ (x : ℕ). markFrom (n - 1) 
 forth-back : (d : ℕ) (ts : List Token) → map (back d) (map (forth d) ts) ≡ ts
 forth-back d [] = refl
 forth-back d (t ∷ ts) = let p : t .from + d - d ≡ t .from = omega arith in λ i. record { kind = t .kind; from = p i; text = t .text } ∷ forth-back d ts i
-
-abbrev pub rebase : Cursor → Cursor
-rebase c = record { start = 0; end = c .end - c .start; taken = 0; last = 0; code = c .code; broken = false }
 
 module _ {t : List ℕ} {c : Cursor} (h : Holds t c) where
   abbrev D : ℕ

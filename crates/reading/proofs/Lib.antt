@@ -27,3 +27,4 @@ pub mod ItemLaws
 pub mod PostfixLaws
 pub mod AssignLaws
 pub mod BodyLaws
+pub mod WholeLaws

@@ -352,3 +352,11 @@ put-seven o i a b c d e f g =
     let i₅ : i + 4 + 1 ≡ i + 5 = omega arith in
     let i₆ : i + 5 + 1 ≡ i + 6 = omega arith in
     rw (i₂, i₃, i₄, i₅, i₆)
+
+-- the four words of an entry
+pub put-four : (o : List ℕ) (i a b c d : ℕ) → putWords o i (a ∷ b ∷ c ∷ d ∷ []) ≡ set (set (set (set o i a) (i + 1) b) (i + 2) c) (i + 3) d
+unfolding putWords
+put-four o i a b c d =
+    let i₂ : i + 1 + 1 ≡ i + 2 = omega arith in
+    let i₃ : i + 2 + 1 ≡ i + 3 = omega arith in
+    rw (i₂, i₃)

@@ -11,4 +11,6 @@ pub mod Meets
 pub mod Calls
 pub mod Turns
 pub mod Bodies
+pub mod Entries
+pub mod Scripts
 pub mod Computing

@@ -45,3 +45,9 @@ pub enum Block {
     Done(Cursor, u32, u32),
     Refused(u8, u16),
 }
+
+// All statements were read: how many, and how many records. Or a refusal: its number and its byte in the script.
+pub enum All {
+    Done(u32, u32),
+    Refused(u8, u32),
+}

@@ -7,5 +7,6 @@ mod calling;
 mod calls;
 mod expressions;
 mod records;
+mod scripts;
 mod signs;
 mod statements;

@@ -1,5 +1,6 @@
 // Records in lent memory.
 ghost use mathlib.Core.Path.{_≡_};
+ghost use Rattle.reading.specs.Entries.{entryRow, putEntry};
 ghost use Rattle.reading.specs.Rows.{nodeRow, putRow};
 
 // The words of a record: kind, nodes in subtree, direct parts, f1 to f4.
@@ -46,5 +47,31 @@ pub fn put(out: &mut [u32], n: u32, node: Node)
         out[at + 4] = node.f2;
         out[at + 5] = node.f3;
         out[at + 6] = node.f4;
+    }
+}
+
+// The words of a directory entry: start byte, end byte, records, tokens.
+pub struct Entry {
+    pub start: u32,
+    pub end: u32,
+    pub records: u32,
+    pub tokens: u32,
+}
+
+impl Entry {
+    pub const WIDTH: usize = 4;
+}
+
+// Writes the entry k, where it fits whole.
+pub fn put_entry(directory: &mut [u32], k: u32, entry: Entry)
+    ensures { λ _. ⌜ now (directory .exit) ≡ putEntry (now (directory .entry)) k (entryRow entry) ⌝ }
+{
+    let i = k as usize;
+    if i < directory.len() / Entry::WIDTH {
+        let at = Entry::WIDTH * i;
+        directory[at] = entry.start;
+        directory[at + 1] = entry.end;
+        directory[at + 2] = entry.records;
+        directory[at + 3] = entry.tokens;
     }
 }

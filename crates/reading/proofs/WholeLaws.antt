@@ -1,0 +1,240 @@
+-- Laws of the loop over a script's statements: what was read so far, and what is left.
+use mathlib.Core.Path.{_≡_, refl, sym, ap, _∙_, subst}
+use mathlib.Core.Bool.{false}
+use mathlib.Core.List.{List, [], _∷_, _++_, append-nil, append-assoc}
+use Prim.Native.Nat.{ℕ, suc, _+_, _-_, _*_, _≤_, _<_}
+use Prim.Native.String.{String}
+use native.Mathlib.Omega.{arith}
+use native.Mathlib.Nat.{add-zero, zero-add}
+use lib.ListN.{length, take, drop, length-append, length-map, length-drop}
+use lib.Seq.{drop-drop, take-append-seam, take-all}
+use borrow.Author.Tests.{ne-eqb}
+use Rattle.tokens.specs.Limits.{mostBytes, mostDepth}
+use Rattle.tokens.specs.Text.{count}
+use Rattle.tokens.specs.Tokens.{Token, Lexed, final, code, counts, endOf}
+use Rattle.tokens.specs.Lexing.{cursorAt}
+use Rattle.tokens.specs.declared.cursor.Cursor.{Cursor}
+use Rattle.reading.specs.Trees.{Tree, size}
+use Rattle.reading.specs.Readers.{Out, ok, refused as wrong, first, is, skip}
+use Rattle.reading.specs.Grammar.{Words, statement}
+use Rattle.reading.specs.Script.{Entry, Outcome, accepted, refused, front, back, entryOf, onward, turn, from, statements, nodes}
+use Rattle.reading.specs.Words.{rowOf, rowWords}
+use Rattle.reading.specs.Rows.{rows, putRows}
+use Rattle.reading.specs.Entries.{putEntry, putEntries}
+use Rattle.reading.specs.Meets.{listed, toksAt, Holds, Room, Ready, Reads, Meets}
+use Rattle.reading.specs.Scripts.{Clean, rebase, refusedAt, rowsIn, entriesIn, ReadsAll, MeetsAll}
+use Rattle.reading.specs.declared.answers.Read.{Read}
+use Rattle.reading.specs.declared.answers.Read.the-variants as answer
+use Rattle.reading.specs.declared.answers.All.{All}
+use Rattle.reading.specs.declared.answers.All.the-variants as all
+use Rattle.reading.proofs.Laws.{skip-clear}
+use Rattle.reading.proofs.ScriptLaws.{prepend, from-eq}
+use Rattle.reading.proofs.SizeLaws.{statement-size, statement-less}
+use Rattle.reading.proofs.HoldLaws.{toks-few, toks-are, first-kind, first-from, at-end, start-holds, rebased-holds, rebased-toks}
+use Rattle.reading.proofs.RowLaws.{size-some, rows-size, putRows-append, put-rows-same}
+
+-- ---- what the tokens at a cursor are read as
+
+is-not : (x : String) (t : Token) (k : ℕ) → t .kind ≡ k → (k ≡ code x → ⊥) → is x t ≡ false
+is-not x t k e n = ne-eqb (code x) (t .kind) (λ z. n (sym e ∙ sym z))
+
+module _ {t : List ℕ} {c : Cursor} (h : Holds t c) where
+  pub skip-held : skip (toksAt t (c .start)) ≡ toksAt t (c .start)
+  unfolding code
+  skip-held = skip-clear (toksAt t (c .start)) (is-not "Newline" (first (toksAt t (c .start))) (c .code) (first-kind h) (h .no-line))
+
+  module _ (W : Words) (b : ℕ) where
+    pub from-end : c .code ≡ 0 → from W b (toksAt t (c .start)) ≡ accepted []
+    unfolding turn code
+    from-end z = from-eq W b (toksAt t (c .start)) ∙ ap (turn W (from W) b) (skip-held ∙ at-end h z .1)
+
+    pub from-held : (c .code ≡ 0 → ⊥)
+        → from W b (toksAt t (c .start)) ≡ onward (from W) (b + c .start) (toksAt (drop (c .start) t) 0) (statement W mostDepth (toksAt (drop (c .start) t) 0))
+    unfolding turn code
+    from-held z =
+        from-eq W b (toksAt t (c .start)) ∙ ap (turn W (from W) b) skip-held
+        ∙ rw (is-not "End" (first (toksAt t (c .start))) (c .code) (first-kind h) z, first-from h, rebased-toks h)
+
+-- ---- lists of statements
+
+prepend-accepted : (es fs : List Entry) → prepend es (accepted fs) ≡ accepted (es ++ fs)
+prepend-accepted [] fs = refl
+prepend-accepted (e ∷ es) fs = ap (front e) (prepend-accepted es fs)
+
+prepend-refused : (es : List Entry) (k p : ℕ) → prepend es (refused k p) ≡ refused k p
+prepend-refused [] k p = refl
+prepend-refused (e ∷ es) k p = ap (front e) (prepend-refused es k p)
+
+prepend-snoc : (es : List Entry) (e : Entry) (x : Outcome) → prepend es (front e x) ≡ prepend (es ++ (e ∷ [])) x
+prepend-snoc [] e x = refl
+prepend-snoc (f ∷ es) e x = ap (front f) (prepend-snoc es e x)
+
+nodes-snoc : (es : List Entry) (e : Entry) → nodes (es ++ (e ∷ [])) ≡ nodes es + size (e .tree)
+nodes-snoc [] e = omega arith
+nodes-snoc (f ∷ es) e = omega (arith, nodes-snoc es e)
+
+rowsIn-snoc : (es : List Entry) (e : Entry) → rowsIn (es ++ (e ∷ [])) ≡ rowsIn es ++ rows (e .tree)
+rowsIn-snoc [] e = append-nil (rows (e .tree))
+rowsIn-snoc (f ∷ es) e = ap (λ (l : List (List ℕ)). rows (f .tree) ++ l) (rowsIn-snoc es e) ∙ sym (append-assoc (rows (f .tree)) (rowsIn es) (rows (e .tree)))
+
+rowsIn-size : (es : List Entry) → length (rowsIn es) ≡ nodes es
+rowsIn-size [] = refl
+rowsIn-size (e ∷ es) = length-append (rows (e .tree)) (rowsIn es) ∙ omega (arith, rows-size (e .tree), rowsIn-size es)
+
+putEntries-snoc : (d : List ℕ) (k : ℕ) (es : List Entry) (e : Entry)
+    → putEntries d k (entriesIn (es ++ (e ∷ []))) ≡ putEntry (putEntries d k (entriesIn es)) (k + length es) (rowWords (rowOf e))
+unfolding putEntries
+putEntries-snoc d k [] e = rw add-zero
+putEntries-snoc d k (f ∷ es) e =
+    putEntries-snoc (putEntry d k (rowWords (rowOf f))) (k + 1) es e
+    ∙ (let q : k + 1 + length es ≡ k + suc (length es) = omega arith in rw q)
+
+-- ---- the loop
+
+-- the statements read so far make n records and k entries, and the cursor stands behind them
+pub record Chain (W : Words) (t o d : List ℕ) (b : ℕ) (c : Cursor) (n k : ℕ) (o₁ d₁ : List ℕ) : Type 0 where
+  pub entries : List Entry
+  pub goes : statements W (toksAt t 0) ≡ prepend entries (from W b (toksAt (drop b t) (c .start)))
+  pub short : length t ≤ mostBytes
+  pub inside : b ≤ length t
+  pub holds : Holds (drop b t) c
+  pub room : Room (drop b t) c n
+  pub fewer : k ≤ n
+  pub statements-are : k ≡ length entries
+  pub records-are : n ≡ nodes entries
+  pub records : o₁ ≡ putRows o 0 (rowsIn entries)
+  pub directory : d₁ ≡ putEntries d 0 (entriesIn entries)
+
+module _ (W : Words) (t o d : List ℕ) where
+  pub chain-start : Clean t → (c : Cursor) → c ≡ cursorAt (take mostBytes t) 0 0 0 → Chain W t o d 0 c 0 0 o d
+  unfolding statements putRows putEntries
+  chain-start C c e =
+      let S : Holds t c × (toksAt t (c .start) ≡ skip (toksAt t 0)) = start-holds t (C .tokens) c (C .short) (C .scanned) e in
+      record {
+        entries = [];
+        goes = from-eq W 0 (toksAt t 0) ∙ ap (turn W (from W) 0) (sym (S .1) ∙ sym (skip-held (S .0))) ∙ sym (from-eq W 0 (toksAt t (c .start)));
+        short = C .short;
+        inside = omega arith;
+        holds = S .0;
+        room = omega (arith, toks-few t (c .start), C .short);
+        fewer = omega arith;
+        statements-are = refl;
+        records-are = refl;
+        records = refl;
+        directory = refl;
+      }
+
+  module _ {b : ℕ} {c : Cursor} {n k : ℕ} {o₁ d₁ : List ℕ} (C : Chain W t o d b c n k o₁ d₁) where
+    pub chain-exit : c .code ≡ 0 → ReadsAll (statements W (toksAt t 0)) o d k n o₁ d₁
+    chain-exit z = record {
+      entries = C .entries;
+      is = C .goes ∙ ap (prepend (C .entries)) (from-end (C .holds) W b z) ∙ prepend-accepted (C .entries) [] ∙ ap accepted (append-nil (C .entries));
+      statements-are = C .statements-are;
+      records-are = C .records-are;
+      records = C .records;
+      directory = C .directory;
+    }
+
+    abbrev P : List ℕ
+    P = drop (b + c .start) t
+
+    part-is : drop (c .start) (drop b t) ≡ P
+    part-is = drop-drop (c .start) b t
+
+    pub part-in : b + c .start ≤ length t
+    part-in = omega (arith, C .inside, C .holds .inside, length-drop b t)
+
+    pub part-ready : Ready P (rebase c) n
+    part-ready = (
+      subst (λ (x : List ℕ). Holds x (rebase c)) part-is (rebased-holds (C .holds)),
+      omega (arith, C .room, ap length (sym (ap (λ (x : List ℕ). toksAt x 0) part-is) ∙ rebased-toks (C .holds)), length-map (toksAt (drop b t) (c .start)) (back (c .start))),
+    )
+
+    -- the part that the code lends: as many bytes as there are
+    abbrev S : List ℕ
+    S = take (length t - (b + c .start)) P
+
+    all-is : S ≡ P
+    all-is = take-all (length t - (b + c .start)) P (omega (arith, length-drop (b + c .start) t))
+
+    pub ready-at : {r : Cursor} → r ≡ rebase c → Ready S r n
+    ready-at {r} e = subst (λ (x : List ℕ). Ready x r n) (sym all-is) (subst (λ (x : Cursor). Ready P x n) (sym e) part-ready)
+
+    pub meets-at : {r : Cursor} → r ≡ rebase c → (x : Read) (o₂ : List ℕ) → Meets S (statement W mostDepth (toksAt S (r .start))) n o₁ x o₂
+        → Meets P (statement W mostDepth (toksAt P 0)) n o₁ x o₂
+    meets-at e x o₂ h =
+        subst (λ (s : List ℕ). Meets s (statement W mostDepth (toksAt s 0)) n o₁ x o₂) all-is
+        (subst (λ (y : Cursor). Meets S (statement W mostDepth (toksAt S (y .start))) n o₁ x o₂) e h)
+
+    onward-is : (c .code ≡ 0 → ⊥) → statements W (toksAt t 0) ≡ prepend (C .entries) (onward (from W) (b + c .start) (toksAt P 0) (statement W mostDepth (toksAt P 0)))
+    onward-is z =
+        C .goes
+        ∙ ap (prepend (C .entries)) (from-held (C .holds) W b z ∙ ap (λ (x : List ℕ). onward (from W) (b + c .start) (toksAt x 0) (statement W mostDepth (toksAt x 0))) part-is)
+
+    pub chain-refused : (c .code ≡ 0 → ⊥) → {j p : ℕ} → statement W mostDepth (toksAt P 0) ≡ wrong j p → statements W (toksAt t 0) ≡ refused j (b + c .start + p)
+    unfolding onward
+    chain-refused z {j} {p} e =
+        onward-is z ∙ ap (λ (x : Out Tree). prepend (C .entries) (onward (from W) (b + c .start) (toksAt P 0) x)) e ∙ prepend-refused (C .entries) j (b + c .start + p)
+
+    pub all-refused : (c .code ≡ 0 → ⊥) → (x : Read) (y : All) (o₂ o₃ d₃ : List ℕ) (j p : ℕ) → x ≡ answer.Refused j p
+        → Meets P (statement W mostDepth (toksAt P 0)) n o₁ x o₂ → y ≡ refusedAt x (b + c .start) → MeetsAll (statements W (toksAt t 0)) o d y o₃ d₃
+    all-refused z x y o₂ o₃ d₃ j p e h q =
+        let w : y ≡ all.Refused j (b + c .start + p) = q ∙ ap (λ (r : Read). refusedAt r (b + c .start)) e in
+        rw w (chain-refused z (rw e at h))
+
+    module _ (z : c .code ≡ 0 → ⊥) {e : Cursor} {m p : ℕ} {o₂ : List ℕ} (R : Reads P (statement W mostDepth (toksAt P 0)) n o₁ e m p o₂) where
+      -- the tokens that the statement has
+      used : take (length (toksAt P 0) - length (toksAt P (e .start))) (toksAt P 0) ≡ R .holds .past
+      unfolding toksAt
+      used =
+          let w : toksAt P 0 ≡ R .holds .past ++ toksAt P (e .start) =
+          ap (λ (x : Lexed). listed x ++ (final (length P) ∷ [])) (R .holds .whole)
+          ∙ append-assoc (R .holds .past) (R .holds .left) (final (length P) ∷ []) ∙ ap (λ (x : List Token). R .holds .past ++ x) (sym (toks-are (R .holds))) in
+          let l : length (R .holds .past ++ toksAt P (e .start)) - length (toksAt P (e .start)) ≡ length (R .holds .past) =
+          omega (arith, length-append (R .holds .past) (toksAt P (e .start))) in
+          ap (λ (x : List Token). take (length x - length (toksAt P (e .start))) x) w
+          ∙ ap (λ (i : ℕ). take i (R .holds .past ++ toksAt P (e .start))) l ∙ take-append-seam (R .holds .past) (toksAt P (e .start))
+
+      abbrev E : Entry
+      E = entryOf (b + c .start) (toksAt P 0) (R .tree) (toksAt P (e .start))
+
+      entry-tree : E .tree ≡ R .tree
+      unfolding entryOf
+      entry-tree = refl
+
+      entry-row : rowWords (rowOf E) ≡ (b + c .start) ∷ (b + c .start + e .last) ∷ (m - n) ∷ e .taken ∷ []
+      unfolding entryOf
+      entry-row =
+          let w : size (R .tree) ≡ m - n = omega (arith, R .counts) in
+          let l : endOf 0 (take (length (toksAt P 0) - length (toksAt P (e .start))) (toksAt P 0)) ≡ e .last = ap (endOf 0) used ∙ sym (R .holds .last-is) in
+          let v : count counts (take (length (toksAt P 0) - length (toksAt P (e .start))) (toksAt P 0)) ≡ e .taken = ap (count counts) used ∙ sym (R .holds .taken-is) in
+          λ i. (b + c .start) ∷ (b + c .start + l i) ∷ w i ∷ v i ∷ []
+
+      pub chain-numbers : (m + 3 * length (toksAt P (e .start)) ≤ 50000) × (n < m)
+      chain-numbers = (omega (arith, part-ready .1, R .counts, statement-size W mostDepth (toksAt P 0) (R .tree) (toksAt P (e .start)) (R .is)), omega (arith, R .counts, size-some (R .tree)))
+
+      pub chain-less : length (toksAt P (e .start)) < length (toksAt (drop b t) (c .start))
+      chain-less =
+          omega (arith, statement-less W mostDepth (toksAt P 0) (R .tree) (toksAt P (e .start)) (R .is), ap length (sym (ap (λ (x : List ℕ). toksAt x 0) part-is) ∙ rebased-toks (C .holds)), length-map (toksAt (drop b t) (c .start)) (back (c .start)))
+
+      pub chain-next : {d₂ : List ℕ} → d₂ ≡ putEntry d₁ k ((b + c .start) ∷ (b + c .start + e .last) ∷ (m - n) ∷ e .taken ∷ []) → Chain W t o d (b + c .start) e m (k + 1) o₂ d₂
+      unfolding onward
+      chain-next q = record {
+        entries = C .entries ++ (E ∷ []);
+        goes =
+            onward-is z ∙ ap (λ (x : Out Tree). prepend (C .entries) (onward (from W) (b + c .start) (toksAt P 0) x)) (R .is)
+            ∙ prepend-snoc (C .entries) E (from W (b + c .start) (toksAt P (e .start)));
+        short = C .short;
+        inside = part-in;
+        holds = R .holds;
+        room = chain-numbers .0;
+        fewer = omega (arith, C .fewer, chain-numbers .1);
+        statements-are = omega (arith, C .statements-are, length-append (C .entries) (E ∷ []));
+        records-are = omega (arith, R .counts, C .records-are, nodes-snoc (C .entries) E, ap size entry-tree);
+        records =
+            R .writes
+            ∙ put-rows-same (C .records) (C .records-are ∙ sym (rowsIn-size (C .entries)) ∙ sym (zero-add (length (rowsIn (C .entries))))) (ap rows (sym entry-tree))
+            ∙ sym (putRows-append o 0 (rowsIn (C .entries)) (rows (E .tree))) ∙ ap (putRows o 0) (sym (rowsIn-snoc (C .entries) E));
+        directory =
+            q ∙ rw (C .directory, C .statements-are, sym entry-row) (sym (rw zero-add at (putEntries-snoc d 0 (C .entries) E)));
+      }
