@@ -28,3 +28,4 @@ pub mod PostfixLaws
 pub mod AssignLaws
 pub mod BodyLaws
 pub mod WholeLaws
+pub mod JudgeLaws

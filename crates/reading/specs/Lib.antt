@@ -13,4 +13,5 @@ pub mod Turns
 pub mod Bodies
 pub mod Entries
 pub mod Scripts
+pub mod Judging
 pub mod Computing

@@ -6,6 +6,7 @@ mod bodies;
 mod calling;
 mod calls;
 mod expressions;
+pub mod judging;
 mod records;
 mod scripts;
 mod signs;
