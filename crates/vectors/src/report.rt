@@ -42,6 +42,10 @@ pub fn say_verdict(v: Verdict) {
     say_number(v.column);
     say(b" bytes ");
     say_number(v.bytes);
+    say(b" statements ");
+    say_number(v.statements);
+    say(b" records ");
+    say_number(v.records);
     say(b" tokens ");
     say_number(v.tokens);
     say(b" for ");
