@@ -41,7 +41,7 @@ module _ (bs : List ℕ) where
   pub script-in : length (script bs) ≤ length bs
   script-in = omega (arith, script-length, leading-le (other 0) bs)
 
-  script-take : take (length (script bs)) bs ≡ script bs
+  pub script-take : take (length (script bs)) bs ≡ script bs
   unfolding script
   script-take = ap (λ (n : ℕ). take n bs) script-length
 
@@ -108,6 +108,11 @@ passed s {c} {e} h = go (scan 0 0 s) refl h
     go (lexed ts) p h = go₁ ts p (ltb mostTokens (count counts ts)) refl (rw zero-add at h)
     go (faulty f q) p h = absurd (let z : _≡_ {A = ℕ} 0 1 = cc in omega arith)
 
+-- the tokens from the first byte on, and the end
+pub toks-all : (s : List ℕ) {ts : List Token} → scan 0 0 s ≡ lexed ts → toksAt s 0 ≡ ts ++ (final (length s) ∷ [])
+unfolding toksAt
+toks-all s h = rw h
+
 -- End is counted too
 end-counted : (ts : List Token) (n : ℕ) → count counts (ts ++ (final n ∷ [])) - 1 ≡ count counts ts
 unfolding count code
@@ -138,13 +143,9 @@ module _ (l : Lists) (s : List ℕ) where
     pub text-clean : length s ≤ mostBytes → Clean s
     text-clean h = record { short = h; tokens = P .toks; scanned = P .scanned }
 
-    toks-all : toksAt s 0 ≡ P .toks ++ (final (length s) ∷ [])
-    unfolding toksAt
-    toks-all = rw (P .scanned)
-
     passed-is : ofTokens l (length s) (tokens s) ≡ statements (words l) (toksAt s 0)
     unfolding tokens ofTokens
-    passed-is = rw (P .scanned, toks-all, end-counted (P .toks) (length s), P .few)
+    passed-is = rw (P .scanned, toks-all s (P .scanned), end-counted (P .toks) (length s), P .few)
 
     pub text-not : {k p : ℕ} → statements (words l) (toksAt s 0) ≡ refused k p → textJudgement l s ≡ judged.Refused k p
     unfolding textJudgement
@@ -154,7 +155,7 @@ module _ (l : Lists) (s : List ℕ) where
         → textJudgement l s ≡ judged.Good (record { bytes = length s; statements = k; records = n; tokens = c; last = e })
     unfolding textJudgement statements
     text-good {k = k} {n = n} R =
-        let X : Text (words l) s (R .entries) = record { toks = P .toks; scanned = P .scanned; reads = ap (from (words l) 0) (sym toks-all) ∙ R .is } in
+        let X : Text (words l) s (R .entries) = record { toks = P .toks; scanned = P .scanned; reads = ap (from (words l) 0) (sym (toks-all s (P .scanned))) ∙ R .is } in
         let v : tokensOf (R .entries) ≡ c = sym (text-tokens (words l) X) ∙ sym (P .count-is) in
         let w : lastEnd s ≡ e = ap (λ (x : Lexed). endOf 0 (listed x)) (P .scanned) ∙ sym (P .end-is) in
         ap (judgedOf (length s) (lastEnd s)) (passed-is ∙ R .is)

@@ -29,3 +29,4 @@ pub mod AssignLaws
 pub mod BodyLaws
 pub mod WholeLaws
 pub mod JudgeLaws
+pub mod ReadLaws

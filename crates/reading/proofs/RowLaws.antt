@@ -3,7 +3,7 @@ use mathlib.Core.Path.{_≡_, refl, sym, ap, _∙_}
 use mathlib.Core.Bool.{Bool, true, false}
 use mathlib.Core.List.{List, [], _∷_, _++_, append-assoc, append-nil}
 use Prim.Native.Nat.{ℕ, suc, _+_, _*_, _/_, _≤_, _<_}
-use native.Mathlib.Nat.{add-zero}
+use native.Mathlib.Nat.{add-zero, zero-add, mul-zero, mul-add, mul-comm, le-trans, le-div-iff-mul-le}
 use native.Mathlib.Numerals.{add-one}
 use native.Mathlib.Omega.{arith}
 use lib.Dec.{ltb}
@@ -13,7 +13,7 @@ use borrow.Author.Tests.{lt-ltb, le-ltb}
 use Rattle.tokens.specs.Text.{if_then_else_}
 use Rattle.reading.specs.Sizes.{recordWidth}
 use Rattle.reading.specs.Trees.{Tree, Trees, node, nil, _▹_, Fields, fields, snoc, join, parts, size, sizes, row, records, recordsOf}
-use Rattle.reading.specs.Rows.{rows, rowsOf, putWords, putRow, putRows}
+use Rattle.reading.specs.Rows.{rows, rowsOf, putWords, putAt, putAll, putRow, putRows}
 use Rattle.reading.specs.Meets.{Before}
 
 -- ---- how many
@@ -110,31 +110,32 @@ either-length : (b : Bool) (o o′ : List ℕ) → length o′ ≡ length o → 
 either-length true o o′ e = e
 either-length false o o′ e = refl
 
-pub putRow-length : (o : List ℕ) (n : ℕ) (r : List ℕ) → length (putRow o n r) ≡ length o
-unfolding putRow
-putRow-length o n r = either-length (ltb n (length o / recordWidth)) o (putWords o (recordWidth * n) r) (putWords-length o (recordWidth * n) r)
+module _ (w : ℕ) where
+  pub putAt-length : (o : List ℕ) (n : ℕ) (r : List ℕ) → length (putAt w o n r) ≡ length o
+  unfolding putAt
+  putAt-length o n r = either-length (ltb n (length o / w)) o (putWords o (w * n) r) (putWords-length o (w * n) r)
 
-pub putRows-length : (o : List ℕ) (n : ℕ) (rs : List (List ℕ)) → length (putRows o n rs) ≡ length o
-unfolding putRows
-putRows-length o n [] = refl
-putRows-length o n (r ∷ rs) = putRows-length (putRow o n r) (n + 1) rs ∙ putRow-length o n r
+  pub putAll-length : (o : List ℕ) (n : ℕ) (rs : List (List ℕ)) → length (putAll w o n rs) ≡ length o
+  unfolding putAll
+  putAll-length o n [] = refl
+  putAll-length o n (r ∷ rs) = putAll-length (putAt w o n r) (n + 1) rs ∙ putAt-length o n r
 
--- ---- the memory, by the rows
+  -- ---- the memory, by the rows
 
-pub putRows-nil : (o : List ℕ) (n : ℕ) → putRows o n [] ≡ o
-unfolding putRows
-putRows-nil o n = refl
+  pub putAll-nil : (o : List ℕ) (n : ℕ) → putAll w o n [] ≡ o
+  unfolding putAll
+  putAll-nil o n = refl
 
-pub putRows-one : (o : List ℕ) (n : ℕ) (r : List ℕ) → putRows o n (r ∷ []) ≡ putRow o n r
-unfolding putRows
-putRows-one o n r = refl
+  pub putAll-one : (o : List ℕ) (n : ℕ) (r : List ℕ) → putAll w o n (r ∷ []) ≡ putAt w o n r
+  unfolding putAll
+  putAll-one o n r = refl
 
-pub putRows-append : (o : List ℕ) (n : ℕ) (xs ys : List (List ℕ)) → putRows o n (xs ++ ys) ≡ putRows (putRows o n xs) (n + length xs) ys
-unfolding putRows
-putRows-append o n [] ys = rw add-zero
-putRows-append o n (x ∷ xs) ys =
-    putRows-append (putRow o n x) (n + 1) xs ys
-    ∙ (let q : n + 1 + length xs ≡ n + suc (length xs) = omega arith in rw q)
+  pub putAll-append : (o : List ℕ) (n : ℕ) (xs ys : List (List ℕ)) → putAll w o n (xs ++ ys) ≡ putAll w (putAll w o n xs) (n + length xs) ys
+  unfolding putAll
+  putAll-append o n [] ys = rw add-zero
+  putAll-append o n (x ∷ xs) ys =
+      putAll-append (putAt w o n x) (n + 1) xs ys
+      ∙ (let q : n + 1 + length xs ≡ n + suc (length xs) = omega arith in rw q)
 
 -- equal arguments, equal memory
 pub put-same : {o₁ o₂ : List ℕ} {n₁ n₂ : ℕ} {r₁ r₂ : List ℕ} → o₁ ≡ o₂ → n₁ ≡ n₂ → r₁ ≡ r₂ → putRow o₁ n₁ r₁ ≡ putRow o₂ n₂ r₂
@@ -149,17 +150,17 @@ put-rows-same p q r = cc
 -- ---- the memory, by the parts of a tree
 
 pub put-nil : (o : List ℕ) (n : ℕ) → putRows o n (rowsOf nil) ≡ o
-unfolding rows putRows
+unfolding rows putAll
 put-nil o n = refl
 
 pub put-front : (o : List ℕ) (n : ℕ) (a : Tree) (ts : Trees) → putRows o n (rowsOf (a ▹ ts)) ≡ putRows (putRows o n (rows a)) (n + size a) (rowsOf ts)
-put-front o n a ts = rw (rowsOf-front a ts, putRows-append o n (rows a) (rowsOf ts), rows-size a)
+put-front o n a ts = rw (rowsOf-front a ts, putAll-append recordWidth o n (rows a) (rowsOf ts), rows-size a)
 
 pub put-snoc : (o : List ℕ) (n : ℕ) (ts : Trees) (t : Tree) → putRows o n (rowsOf (snoc ts t)) ≡ putRows (putRows o n (rowsOf ts)) (n + sizes ts) (rows t)
-put-snoc o n ts t = rw (rowsOf-snoc ts t, putRows-append o n (rowsOf ts) (rows t), rowsOf-size ts)
+put-snoc o n ts t = rw (rowsOf-snoc ts t, putAll-append recordWidth o n (rowsOf ts) (rows t), rowsOf-size ts)
 
 pub put-join : (o : List ℕ) (n : ℕ) (ts us : Trees) → putRows o n (rowsOf (join ts us)) ≡ putRows (putRows o n (rowsOf ts)) (n + sizes ts) (rowsOf us)
-put-join o n ts us = rw (rowsOf-join ts us, putRows-append o n (rowsOf ts) (rowsOf us), rowsOf-size ts)
+put-join o n ts us = rw (rowsOf-join ts us, putAll-append recordWidth o n (rowsOf ts) (rowsOf us), rowsOf-size ts)
 
 pub put-single : (o : List ℕ) (n : ℕ) (a : Tree) → putRows o n (rowsOf (a ▹ nil)) ≡ putRows o n (rows a)
 unfolding rows
@@ -171,7 +172,7 @@ put-pair o n a b = put-front o n a (b ▹ nil) ∙ put-single (putRows o n (rows
 pub put-node : (o : List ℕ) (n k : ℕ) (x : List ℕ) (f : Fields) (ts : Trees)
     → putRows o n (rows (node k x f ts)) ≡ putRow (putRows o n (rowsOf ts)) (n + sizes ts) (row k (suc (sizes ts)) (parts ts) f)
 put-node o n k x f ts =
-    rw (rows-node k x f ts, putRows-append o n (rowsOf ts) (row k (suc (sizes ts)) (parts ts) f ∷ []), putRows-one, rowsOf-size ts)
+    rw (rows-node k x f ts, putAll-append recordWidth o n (rowsOf ts) (row k (suc (sizes ts)) (parts ts) f ∷ []), putAll-one, rowsOf-size ts)
 
 pub put-leaf : (o : List ℕ) (n k : ℕ) (x : List ℕ) (f : Fields) → putRows o n (rows (node k x f nil)) ≡ putRow o n (row k 1 0 f)
 put-leaf o n k x f = put-node o n k x f nil ∙ rw (put-nil, sizes-nil, add-zero)
@@ -252,25 +253,25 @@ mutual
   rowsOf-flat (t ▹ ts) =
       flat-append (rows t) (rowsOf ts) ∙ ap (λ l. l ++ flat (rowsOf ts)) (rows-flat t) ∙ ap (λ l. records t ++ l) (rowsOf-flat ts)
 
--- each row has the words of a record
-pub data Wide : List (List ℕ) → Type 0 where
-  none : Wide []
-  more : {r : List ℕ} {rs : List (List ℕ)} → length r ≡ recordWidth → Wide rs → Wide (r ∷ rs)
+-- each row has as many words as are its width
+pub data Wide (w : ℕ) : List (List ℕ) → Type 0 where
+  none : Wide w []
+  more : {r : List ℕ} {rs : List (List ℕ)} → length r ≡ w → Wide w rs → Wide w (r ∷ rs)
 
 pub row-length : (k n m : ℕ) (f : Fields) → length (row k n m f) ≡ recordWidth
 row-length k n m (fields a b c d) = refl
 
-pub wide-append : {rs ss : List (List ℕ)} → Wide rs → Wide ss → Wide (rs ++ ss)
-wide-append none w = w
-wide-append (more e v) w = more e (wide-append v w)
+pub wide-append : {w : ℕ} {rs ss : List (List ℕ)} → Wide w rs → Wide w ss → Wide w (rs ++ ss)
+wide-append none v = v
+wide-append (more e u) v = more e (wide-append u v)
 
 mutual
   unfolding rows
 
-  pub rows-wide : (t : Tree) → Wide (rows t)
+  pub rows-wide : (t : Tree) → Wide recordWidth (rows t)
   rows-wide (node k x f ts) = wide-append (rowsOf-wide ts) (more (row-length k (suc (sizes ts)) (parts ts) f) none)
 
-  pub rowsOf-wide : (ts : Trees) → Wide (rowsOf ts)
+  pub rowsOf-wide : (ts : Trees) → Wide recordWidth (rowsOf ts)
   rowsOf-wide nil = none
   rowsOf-wide (t ▹ ts) = wide-append (rows-wide t) (rowsOf-wide ts)
 
@@ -281,65 +282,52 @@ unfolding putWords
 putWords-sets o i [] = refl
 putWords-sets o i (w ∷ ws) = putWords-sets (set o i w) (i + 1) ws ∙ rw add-one
 
--- a record that fits
-pub put-row : (o : List ℕ) (n : ℕ) (r : List ℕ) → recordWidth * (n + 1) ≤ length o → length r ≡ recordWidth
-    → putRow o n r ≡ take (recordWidth * n) o ++ r ++ drop (recordWidth * (n + 1)) o
-unfolding putRow
-put-row o n r h e =
-    let fits : n < length o / recordWidth = omega arith in
-    let room : recordWidth * n + length r ≤ length o = omega arith in
-    let q : recordWidth * n + length r ≡ recordWidth * (n + 1) = omega arith in
-    rw (lt-ltb n (length o / recordWidth) fits) (putWords-sets o (recordWidth * n) r ∙ sets-eq r o (recordWidth * n) room ∙ rw q)
-
--- a record that does not fit
-pub put-no-row : (o : List ℕ) (n : ℕ) (r : List ℕ) → length o / recordWidth ≤ n → putRow o n r ≡ o
-unfolding putRow
-put-no-row o n r h = rw (le-ltb n (length o / recordWidth) h)
+-- one that does not fit
+put-not : (w : ℕ) (o : List ℕ) (n : ℕ) (r : List ℕ) → length o / w ≤ n → putAt w o n r ≡ o
+unfolding putAt
+put-not w o n r h = rw (le-ltb n (length o / w) h)
 
 -- nothing is written where nothing fits
-pub put-none : (o : List ℕ) (n : ℕ) (rs : List (List ℕ)) → length o / recordWidth ≤ n → putRows o n rs ≡ o
-unfolding putRows
-put-none o n [] h = refl
-put-none o n (r ∷ rs) h =
-    let l : length o / recordWidth ≤ n + 1 = omega arith in
-    rw (put-no-row o n r h) (put-none o (n + 1) rs l)
+pub put-none : (w : ℕ) (o : List ℕ) (n : ℕ) (rs : List (List ℕ)) → length o / w ≤ n → putAll w o n rs ≡ o
+unfolding putAll
+put-none w o n [] h = refl
+put-none w o n (r ∷ rs) h =
+    let l : length o / w ≤ n + 1 = le-trans h (omega arith) in
+    rw (put-not w o n r h) (put-none w o (n + 1) rs l)
 
-pub put-empty : (n : ℕ) (rs : List (List ℕ)) → putRows [] n rs ≡ []
-put-empty n rs = put-none [] n rs (omega arith)
+module _ (w : ℕ) (some : 0 < w) where
+  -- one that fits
+  put-fits : (o : List ℕ) (n : ℕ) (r : List ℕ) → w * n + w ≤ length o → length r ≡ w → putAt w o n r ≡ take (w * n) o ++ r ++ drop (w * n + w) o
+  unfolding putAt
+  put-fits o n r h e =
+      let fits : n < length o / w = le-div-iff-mul-le some .1 (omega (arith, mul-comm (suc n) w)) in
+      let room : w * n + length r ≤ length o = rw e h in
+      rw (lt-ltb n (length o / w) fits) (putWords-sets o (w * n) r ∙ sets-eq r o (w * n) room ∙ rw e)
 
-pub put-all : (o : List ℕ) (n : ℕ) (rs : List (List ℕ)) → recordWidth * (n + length rs) ≤ length o → Wide rs
-    → putRows o n rs ≡ take (recordWidth * n) o ++ (flat rs ++ drop (recordWidth * (n + length rs)) o)
-unfolding putRows
-put-all o n [] h w = sym (rw add-zero (take-append-drop (recordWidth * n) o))
-put-all o n (r ∷ rs) h (more e w) =
-    let room : recordWidth * (n + 1) ≤ length o = omega arith in
-    let front : length (take (recordWidth * n) o ++ r) ≡ recordWidth * (n + 1) =
-    length-append (take (recordWidth * n) o) r ∙ omega (arith, length-take-le (recordWidth * n) o (omega arith)) in
-    let is : putRow o n r ≡ take (recordWidth * n) o ++ r ++ drop (recordWidth * (n + 1)) o = put-row o n r room e in
-    let more-room : recordWidth * (n + 1 + length rs) ≤ length (putRow o n r) = omega (arith, putRow-length o n r) in
-    let before : take (recordWidth * (n + 1)) (putRow o n r) ≡ take (recordWidth * n) o ++ r =
-    rw is (take-at (take (recordWidth * n) o ++ r) (drop (recordWidth * (n + 1)) o) (recordWidth * (n + 1)) front) in
-    let past : recordWidth * (n + 1 + length rs) ≡ length (take (recordWidth * n) o ++ r) + recordWidth * length rs = omega arith in
-    let sum : recordWidth * (n + 1) + recordWidth * length rs ≡ recordWidth * (n + suc (length rs)) = omega arith in
-    let behind : drop (recordWidth * (n + 1 + length rs)) (putRow o n r) ≡ drop (recordWidth * (n + suc (length rs))) o =
-    rw (is, past)
-    (drop-append-add (take (recordWidth * n) o ++ r) (drop (recordWidth * (n + 1)) o) (recordWidth * length rs)
-    ∙ drop-drop (recordWidth * length rs) (recordWidth * (n + 1)) o ∙ ap (λ i. drop i o) sum) in
-    put-all (putRow o n r) (n + 1) rs more-room w
-    ∙ rw (before, behind) (append-assoc (take (recordWidth * n) o) r _ ∙ ap (λ l. take (recordWidth * n) o ++ l) (sym (append-assoc r _ _)))
+  pub put-all : (o : List ℕ) (n : ℕ) (rs : List (List ℕ)) → w * n + w * length rs ≤ length o → Wide w rs
+      → putAll w o n rs ≡ take (w * n) o ++ (flat rs ++ drop (w * n + w * length rs) o)
+  unfolding putAll
+  put-all o n [] h v = sym (rw (mul-zero, add-zero) (take-append-drop (w * n) o))
+  put-all o n (r ∷ rs) h (more e v) =
+      let next : w * (n + 1) ≡ w * n + w = mul-add w n 1 ∙ omega arith in
+      let room : w * n + w ≤ length o = omega arith in
+      let front : length (take (w * n) o ++ r) ≡ w * n + w = length-append (take (w * n) o) r ∙ omega (arith, length-take-le (w * n) o (omega arith)) in
+      let is : putAt w o n r ≡ take (w * n) o ++ r ++ drop (w * n + w) o = put-fits o n r room e in
+      let more-room : w * (n + 1) + w * length rs ≤ length (putAt w o n r) = omega (arith, putAt-length w o n r) in
+      let before : take (w * (n + 1)) (putAt w o n r) ≡ take (w * n) o ++ r =
+      rw (next, is) (take-at (take (w * n) o ++ r) (drop (w * n + w) o) (w * n + w) front) in
+      let past : w * (n + 1) + w * length rs ≡ length (take (w * n) o ++ r) + w * length rs = omega arith in
+      let sum : w * n + w + w * length rs ≡ w * n + w * suc (length rs) = omega arith in
+      let behind : drop (w * (n + 1) + w * length rs) (putAt w o n r) ≡ drop (w * n + w * suc (length rs)) o =
+      rw (is, past)
+      (drop-append-add (take (w * n) o ++ r) (drop (w * n + w) o) (w * length rs)
+      ∙ drop-drop (w * length rs) (w * n + w) o ∙ ap (λ i. drop i o) sum) in
+      put-all (putAt w o n r) (n + 1) rs more-room v
+      ∙ rw (before, behind) (append-assoc (take (w * n) o) r _ ∙ ap (λ l. take (w * n) o ++ l) (sym (append-assoc r _ _)))
 
--- the words of a tree, and of trees, that fit
-pub put-tree : (o : List ℕ) (n : ℕ) (t : Tree) → recordWidth * (n + size t) ≤ length o
-    → putRows o n (rows t) ≡ take (recordWidth * n) o ++ (records t ++ drop (recordWidth * (n + size t)) o)
-put-tree o n t h =
-    let fits : recordWidth * (n + length (rows t)) ≤ length o = omega (arith, rows-size t) in
-    put-all o n (rows t) fits (rows-wide t) ∙ rw (rows-flat t, rows-size t)
-
-pub put-trees : (o : List ℕ) (n : ℕ) (ts : Trees) → recordWidth * (n + sizes ts) ≤ length o
-    → putRows o n (rowsOf ts) ≡ take (recordWidth * n) o ++ (recordsOf ts ++ drop (recordWidth * (n + sizes ts)) o)
-put-trees o n ts h =
-    let fits : recordWidth * (n + length (rowsOf ts)) ≤ length o = omega (arith, rowsOf-size ts) in
-    put-all o n (rowsOf ts) fits (rowsOf-wide ts) ∙ rw (rowsOf-flat ts, rowsOf-size ts)
+  -- from the front of the memory
+  pub put-first : (o : List ℕ) (rs : List (List ℕ)) → w * length rs ≤ length o → Wide w rs → putAll w o 0 rs ≡ flat rs ++ drop (w * length rs) o
+  put-first o rs h v = put-all o 0 rs (omega arith) v ∙ rw (mul-zero, zero-add)
 
 -- the seven words of a row, one store each
 pub put-seven : (o : List ℕ) (i a b c d e f g : ℕ)

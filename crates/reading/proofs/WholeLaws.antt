@@ -1,7 +1,7 @@
 -- Laws of the loop over a script's statements: what was read so far, and what is left.
 use mathlib.Core.Path.{_≡_, refl, sym, ap, _∙_, subst}
 use mathlib.Core.Bool.{false}
-use mathlib.Core.List.{List, [], _∷_, _++_, append-nil, append-assoc}
+use mathlib.Core.List.{List, [], _∷_, _++_, append-nil, append-assoc, map-append}
 use Prim.Native.Nat.{ℕ, suc, _+_, _-_, _*_, _≤_, _<_}
 use Prim.Native.String.{String}
 use native.Mathlib.Omega.{arith}
@@ -14,13 +14,13 @@ use Rattle.tokens.specs.Text.{count}
 use Rattle.tokens.specs.Tokens.{Token, Lexed, final, code, counts, endOf}
 use Rattle.tokens.specs.Lexing.{cursorAt}
 use Rattle.tokens.specs.declared.cursor.Cursor.{Cursor}
+use Rattle.reading.specs.Sizes.{recordWidth, entryWidth}
 use Rattle.reading.specs.Trees.{Tree, size}
 use Rattle.reading.specs.Readers.{Out, ok, refused as wrong, first, is, skip}
 use Rattle.reading.specs.Grammar.{Words, statement}
 use Rattle.reading.specs.Script.{Entry, Outcome, accepted, refused, front, back, entryOf, onward, turn, from, statements, nodes}
 use Rattle.reading.specs.Words.{rowOf, rowWords}
-use Rattle.reading.specs.Rows.{rows, putRows}
-use Rattle.reading.specs.Entries.{putEntry, putEntries}
+use Rattle.reading.specs.Rows.{rows, putAll, putRows, putEntry, putEntries}
 use Rattle.reading.specs.Meets.{listed, toksAt, Holds, Room, Ready, Reads, Meets}
 use Rattle.reading.specs.Scripts.{Clean, rebase, refusedAt, rowsIn, entriesIn, ReadsAll, MeetsAll}
 use Rattle.reading.specs.declared.answers.Read.{Read}
@@ -31,7 +31,7 @@ use Rattle.reading.proofs.Laws.{skip-clear}
 use Rattle.reading.proofs.ScriptLaws.{prepend, from-eq}
 use Rattle.reading.proofs.SizeLaws.{statement-size, statement-less}
 use Rattle.reading.proofs.HoldLaws.{toks-few, toks-are, first-kind, first-from, at-end, start-holds, rebased-holds, rebased-toks}
-use Rattle.reading.proofs.RowLaws.{size-some, rows-size, putRows-append, put-rows-same}
+use Rattle.reading.proofs.RowLaws.{size-some, rows-size, putAll-one, putAll-append, put-rows-same}
 
 -- ---- what the tokens at a cursor are read as
 
@@ -77,17 +77,15 @@ rowsIn-snoc : (es : List Entry) (e : Entry) → rowsIn (es ++ (e ∷ [])) ≡ ro
 rowsIn-snoc [] e = append-nil (rows (e .tree))
 rowsIn-snoc (f ∷ es) e = ap (λ (l : List (List ℕ)). rows (f .tree) ++ l) (rowsIn-snoc es e) ∙ sym (append-assoc (rows (f .tree)) (rowsIn es) (rows (e .tree)))
 
-rowsIn-size : (es : List Entry) → length (rowsIn es) ≡ nodes es
+pub rowsIn-size : (es : List Entry) → length (rowsIn es) ≡ nodes es
 rowsIn-size [] = refl
 rowsIn-size (e ∷ es) = length-append (rows (e .tree)) (rowsIn es) ∙ omega (arith, rows-size (e .tree), rowsIn-size es)
 
 putEntries-snoc : (d : List ℕ) (k : ℕ) (es : List Entry) (e : Entry)
     → putEntries d k (entriesIn (es ++ (e ∷ []))) ≡ putEntry (putEntries d k (entriesIn es)) (k + length es) (rowWords (rowOf e))
-unfolding putEntries
-putEntries-snoc d k [] e = rw add-zero
-putEntries-snoc d k (f ∷ es) e =
-    putEntries-snoc (putEntry d k (rowWords (rowOf f))) (k + 1) es e
-    ∙ (let q : k + 1 + length es ≡ k + suc (length es) = omega arith in rw q)
+putEntries-snoc d k es e =
+    rw (map-append (λ (x : Entry). rowWords (rowOf x)) es (e ∷ []), putAll-append entryWidth d k (entriesIn es) (rowWords (rowOf e) ∷ []), putAll-one)
+    (rw (length-map es (λ (x : Entry). rowWords (rowOf x))))
 
 -- ---- the loop
 
@@ -107,7 +105,7 @@ pub record Chain (W : Words) (t o d : List ℕ) (b : ℕ) (c : Cursor) (n k : �
 
 module _ (W : Words) (t o d : List ℕ) where
   pub chain-start : Clean t → (c : Cursor) → c ≡ cursorAt (take mostBytes t) 0 0 0 → Chain W t o d 0 c 0 0 o d
-  unfolding statements putRows putEntries
+  unfolding statements putAll
   chain-start C c e =
       let S : Holds t c × (toksAt t (c .start) ≡ skip (toksAt t 0)) = start-holds t (C .tokens) c (C .short) (C .scanned) e in
       record {
@@ -234,7 +232,7 @@ module _ (W : Words) (t o d : List ℕ) where
         records =
             R .writes
             ∙ put-rows-same (C .records) (C .records-are ∙ sym (rowsIn-size (C .entries)) ∙ sym (zero-add (length (rowsIn (C .entries))))) (ap rows (sym entry-tree))
-            ∙ sym (putRows-append o 0 (rowsIn (C .entries)) (rows (E .tree))) ∙ ap (putRows o 0) (sym (rowsIn-snoc (C .entries) E));
+            ∙ sym (putAll-append recordWidth o 0 (rowsIn (C .entries)) (rows (E .tree))) ∙ ap (putRows o 0) (sym (rowsIn-snoc (C .entries) E));
         directory =
             q ∙ rw (C .directory, C .statements-are, sym entry-row) (sym (rw zero-add at (putEntries-snoc d 0 (C .entries) E)));
       }

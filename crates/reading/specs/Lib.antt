@@ -11,7 +11,7 @@ pub mod Meets
 pub mod Calls
 pub mod Turns
 pub mod Bodies
-pub mod Entries
 pub mod Scripts
 pub mod Judging
+pub mod Reading
 pub mod Computing

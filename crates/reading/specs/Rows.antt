@@ -1,12 +1,13 @@
--- Records one after the other in lent memory: each is written where it fits whole.
+-- Records and entries one after the other in lent memory: each is written where it fits whole.
 use mathlib.Core.List.{List, [], _∷_, _++_}
 use Prim.Native.Nat.{ℕ, suc, _+_, _*_, _/_}
 use lib.Dec.{ltb}
 use lib.ListN.{length, set}
 use Rattle.tokens.specs.Text.{if_then_else_}
-use Rattle.reading.specs.Sizes.{recordWidth}
+use Rattle.reading.specs.Sizes.{recordWidth, entryWidth}
 use Rattle.reading.specs.Trees.{Tree, Trees, node, nil, _▹_, Fields, fields, parts, sizes, row}
 use Rattle.reading.specs.declared.records.Node.{Node}
+use Rattle.reading.specs.declared.records.Entry.{Entry}
 
 -- the records of a tree, in order
 unfoldable mutual
@@ -21,15 +22,33 @@ unfoldable mutual
 abbrev pub nodeRow : Node → List ℕ
 nodeRow x = row (x .kind) (x .nodes) (x .parts) (fields (x .f1) (x .f2) (x .f3) (x .f4))
 
+-- the words of an entry as the code has it
+abbrev pub entryRow : Entry → List ℕ
+entryRow e = e .start ∷ e .end ∷ e .records ∷ e .tokens ∷ []
+
 -- words from the place i on
 unfoldable pub putWords : List ℕ → ℕ → List ℕ → List ℕ
 putWords o i [] = o
 putWords o i (w ∷ ws) = putWords (set o i w) (i + 1) ws
 
--- the record n, where the memory holds it whole
-unfoldable pub putRow : List ℕ → ℕ → List ℕ → List ℕ
-putRow o n r = if ltb n (length o / recordWidth) then putWords o (recordWidth * n) r else o
+-- the n-th of a width, where the memory holds it whole
+unfoldable pub putAt : ℕ → List ℕ → ℕ → List ℕ → List ℕ
+putAt w o n r = if ltb n (length o / w) then putWords o (w * n) r else o
 
-unfoldable pub putRows : List ℕ → ℕ → List (List ℕ) → List ℕ
-putRows o n [] = o
-putRows o n (r ∷ rs) = putRows (putRow o n r) (n + 1) rs
+unfoldable pub putAll : ℕ → List ℕ → ℕ → List (List ℕ) → List ℕ
+putAll w o n [] = o
+putAll w o n (r ∷ rs) = putAll w (putAt w o n r) (n + 1) rs
+
+-- records
+abbrev pub putRow : List ℕ → ℕ → List ℕ → List ℕ
+putRow o n r = putAt recordWidth o n r
+
+abbrev pub putRows : List ℕ → ℕ → List (List ℕ) → List ℕ
+putRows o n rs = putAll recordWidth o n rs
+
+-- entries of the directory
+abbrev pub putEntry : List ℕ → ℕ → List ℕ → List ℕ
+putEntry o k r = putAt entryWidth o k r
+
+abbrev pub putEntries : List ℕ → ℕ → List (List ℕ) → List ℕ
+putEntries o k rs = putAll entryWidth o k rs

@@ -9,8 +9,7 @@ use Rattle.tokens.specs.Tokens.{Token, lexed, scan}
 use Rattle.tokens.specs.declared.cursor.Cursor.{Cursor}
 use Rattle.reading.specs.Script.{Entry, Outcome, accepted, refused, nodes}
 use Rattle.reading.specs.Words.{rowOf, rowWords}
-use Rattle.reading.specs.Rows.{rows, putRows}
-use Rattle.reading.specs.Entries.{putEntries}
+use Rattle.reading.specs.Rows.{rows, putRows, putEntries}
 use Rattle.reading.specs.declared.answers.Read.{Read}
 use Rattle.reading.specs.declared.answers.Read.the-variants as answer
 use Rattle.reading.specs.declared.answers.All.{All}

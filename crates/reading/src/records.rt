@@ -1,7 +1,6 @@
 // Records in lent memory.
 ghost use mathlib.Core.Path.{_≡_};
-ghost use Rattle.reading.specs.Entries.{entryRow, putEntry};
-ghost use Rattle.reading.specs.Rows.{nodeRow, putRow};
+ghost use Rattle.reading.specs.Rows.{nodeRow, putRow, entryRow, putEntry};
 
 // The words of a record: kind, nodes in subtree, direct parts, f1 to f4.
 pub struct Node {
@@ -16,6 +15,8 @@ pub struct Node {
 
 impl Node {
     pub const WIDTH: usize = 7;
+
+    pub const MOST: usize = 2048;
 }
 
 // A node without fields.
@@ -60,6 +61,8 @@ pub struct Entry {
 
 impl Entry {
     pub const WIDTH: usize = 4;
+
+    pub const MOST: usize = 512;
 }
 
 // Writes the entry k, where it fits whole.

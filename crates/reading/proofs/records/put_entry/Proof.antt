@@ -2,7 +2,7 @@ use native.Mathlib.Omega.{arith}
 use lib.ListN.{length-set}
 use borrow.Author.Tests.{lt-ltb, le-ltb}
 use mathlib.Core.Path.{sym}
-use Rattle.reading.specs.Entries.{putEntry}
+use Rattle.reading.specs.Rows.{putAt}
 use Rattle.reading.proofs.RowLaws.{put-four}
 use borrow.Author.Needs.{needs}
 use Rattle.reading.proofs.records.put_entry.Statement.{statement}
@@ -50,11 +50,11 @@ same-length : tie.Need-same-length
 same-length c = search needs
 
 returns : tie.Need-returns
-unfolding putEntry
+unfolding putAt
 returns c = rw (lt-ltb _ _ (c .if1 .taken)) (sym (put-four _ _ _ _ _ _))
 
 returns-2 : tie.Need-returns-2
-unfolding putEntry
+unfolding putAt
 returns-2 c = rw (le-ltb _ _ (c .if1 .left))
 
 pub put-entry-spec : {M : Type 1} → statement M

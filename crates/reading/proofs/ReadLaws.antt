@@ -1,0 +1,183 @@
+-- Laws of reading into lent memory: what a judgement, the room and the reader of all statements leave there.
+use mathlib.Core.Path.{_≡_, refl, sym, ap, _∙_, subst}
+use mathlib.Core.Bool.{Bool, true, false}
+use mathlib.Core.List.{List, [], _∷_, _++_}
+use Prim.Native.Nat.{ℕ, _+_, _*_, _/_, _≤_, _<_}
+use native.Mathlib.Omega.{arith}
+use lib.Dec.{ltb}
+use lib.ListN.{length, length-map, take, drop}
+use borrow.Author.Tests.{lt-ltb, le-ltb, ltb-true}
+use Rattle.tokens.specs.Text.{if_then_else_, script}
+use Rattle.tokens.specs.Names.{Lists}
+use Rattle.reading.specs.Sizes.{recordWidth, entryWidth, mostRecords, mostStatements, recordRoom, statementRoom}
+use Rattle.reading.specs.Script.{Entry, Outcome, accepted, refused, fitting, readScript, reading, statements, words, nodes, tokensOf}
+use Rattle.reading.specs.Words.{wordsOf, rowOf, rowWords, directoryOf}
+use Rattle.reading.specs.Rows.{rows, putRows, putEntries}
+use Rattle.reading.specs.Meets.{toksAt, Few}
+use Rattle.reading.specs.Scripts.{Clean, rowsIn, entriesIn, ReadsAll, MeetsAll}
+use Rattle.reading.specs.declared.answers.All.{All}
+use Rattle.reading.specs.declared.answers.All.the-variants as all
+use Rattle.reading.specs.declared.judging.Counts.{Counts}
+use Rattle.reading.specs.declared.judging.Judged.{Judged}
+use Rattle.reading.specs.declared.judging.Judged.the-variants as judged
+use Rattle.reading.specs.declared.reading.Answer.{Answer}
+use Rattle.reading.specs.Judging.{judgedOf, lastEnd, judgement}
+use Rattle.reading.specs.Reading.{acceptedWith, refusedAt, answerOf, over, leftBy, readInto, Leaves}
+use Rattle.reading.proofs.AmendBytes.{Accepted, read-accepted, script-noZero, read-script}
+use Rattle.reading.proofs.WordLaws.{words-length, directory-length}
+use Rattle.reading.proofs.RowLaws.{flat, flat-append, rows-flat, rows-wide, Wide, none, more, wide-append, put-first}
+use Rattle.reading.proofs.WholeLaws.{rowsIn-size}
+use Rattle.reading.proofs.JudgeLaws.{script-in, script-take, toks-all, lists-few}
+
+-- ---- two outcomes of one call coincide
+
+pub leaves-same : {l : Lists} {bs o d : List ℕ} {r₁ r₂ : Answer} {o₁ o₂ d₁ d₂ : List ℕ} → Leaves l bs o d r₁ o₁ d₁ → Leaves l bs o d r₂ o₂ d₂
+    → (r₁ ≡ r₂) × (o₁ ≡ o₂) × (d₁ ≡ d₂)
+leaves-same x y = (x .answer ∙ sym (y .answer), x .records ∙ sym (y .records), x .directory ∙ sym (y .directory))
+
+-- ---- rows as words
+
+rowsIn-flat : (es : List Entry) → flat (rowsIn es) ≡ wordsOf es
+rowsIn-flat [] = refl
+rowsIn-flat (e ∷ es) = flat-append (rows (e .tree)) (rowsIn es) ∙ rw (rows-flat (e .tree), rowsIn-flat es)
+
+rowsIn-wide : (es : List Entry) → Wide recordWidth (rowsIn es)
+rowsIn-wide [] = none
+rowsIn-wide (e ∷ es) = wide-append (rows-wide (e .tree)) (rowsIn-wide es)
+
+entriesIn-flat : (es : List Entry) → flat (entriesIn es) ≡ directoryOf es
+entriesIn-flat [] = refl
+entriesIn-flat (e ∷ es) = ap (λ (l : List ℕ). rowWords (rowOf e) ++ l) (entriesIn-flat es)
+
+entriesIn-wide : (es : List Entry) → Wide entryWidth (entriesIn es)
+entriesIn-wide [] = none
+entriesIn-wide (e ∷ es) = more refl (entriesIn-wide es)
+
+-- what fits stands at the front, and the words past it are as they were
+put-records : (o : List ℕ) (es : List Entry) → recordWidth * nodes es ≤ length o → putRows o 0 (rowsIn es) ≡ over (wordsOf es) o
+put-records o es h =
+    let fits : recordWidth * length (rowsIn es) ≤ length o = omega (arith, rowsIn-size es) in
+    let past : recordWidth * length (rowsIn es) ≡ length (wordsOf es) = omega (arith, rowsIn-size es, words-length es) in
+    put-first recordWidth (omega arith) o (rowsIn es) fits (rowsIn-wide es) ∙ rw (rowsIn-flat es, past)
+
+put-directory : (d : List ℕ) (es : List Entry) → entryWidth * length es ≤ length d → putEntries d 0 (entriesIn es) ≡ over (directoryOf es) d
+put-directory d es h =
+    let size : length (entriesIn es) ≡ length es = length-map es (λ (e : Entry). rowWords (rowOf e)) in
+    let fits : entryWidth * length (entriesIn es) ≤ length d = omega arith in
+    let past : entryWidth * length (entriesIn es) ≡ length (directoryOf es) = omega (arith, directory-length es) in
+    put-first entryWidth (omega arith) d (entriesIn es) fits (entriesIn-wide es) ∙ rw (entriesIn-flat es, past)
+
+-- ---- room
+
+room-in : (most n : ℕ) → (if ltb most n then most else n) ≤ n
+room-in most n = go (ltb most n) refl
+  where
+    go : (b : Bool) → ltb most n ≡ b → (if b then most else n) ≤ n
+    go true e = omega (arith, ltb-true most n e)
+    go false e = omega arith
+
+-- ---- what the reader of all statements wrote, where they can be read
+
+all-wrote : {R : Outcome} (o d : List ℕ) (r : All) {o′ d′ : List ℕ} (es : List Entry) → R ≡ accepted es → MeetsAll R o d r o′ d′
+    → (o′ ≡ putRows o 0 (rowsIn es)) × (d′ ≡ putEntries d 0 (entriesIn es))
+all-wrote o d (all.Done k n) es e X =
+    let same : X .entries ≡ es = cc in
+    (X .records ∙ ap (λ fs. putRows o 0 (rowsIn fs)) same, X .directory ∙ ap (λ fs. putEntries d 0 (entriesIn fs)) same)
+all-wrote o d (all.Refused k b) es e X = absurd (let z : _≡_ {A = ℕ} 0 1 = cc in omega arith)
+
+module _ (l : Lists) (bs : List ℕ) where
+  -- ---- what a judgement says of the script
+
+  judged-not : {k p : ℕ} → judgement l bs ≡ judged.Refused k p → readScript l bs ≡ refused k p
+  unfolding judgement
+  judged-not {k} {p} h = go (readScript l bs) refl h
+    where
+      go : (x : Outcome) → readScript l bs ≡ x → judgedOf (length (script bs)) (lastEnd (script bs)) x ≡ judged.Refused k p → readScript l bs ≡ refused k p
+      go (accepted es) e h = absurd (let z : _≡_ {A = ℕ} 0 1 = cc in omega arith)
+      go (refused j q) e h =
+          let x : j ≡ k = cc in
+          let y : q ≡ p = cc in
+          e ∙ (λ i. refused (x i) (y i))
+
+  pub record Good (c : Counts) : Type 0 where
+    pub entries : List Entry
+    pub reads : readScript l bs ≡ accepted entries
+    pub counts-are : judged.Good c ≡ judgedOf (length (script bs)) (lastEnd (script bs)) (accepted entries)
+    pub bytes-are : c .bytes ≡ length (script bs)
+    pub statements-are : c .statements ≡ length entries
+    pub records-are : c .records ≡ nodes entries
+
+  pub judged-good : {c : Counts} → judgement l bs ≡ judged.Good c → Good c
+  unfolding judgement
+  judged-good {c} h = go (readScript l bs) refl h
+    where
+      go : (x : Outcome) → readScript l bs ≡ x → judgedOf (length (script bs)) (lastEnd (script bs)) x ≡ judged.Good c → Good c
+      go (accepted es) e h = record { entries = es; reads = e; counts-are = sym h; bytes-are = cc; statements-are = cc; records-are = cc }
+      go (refused j q) e h = absurd (let z : _≡_ {A = ℕ} 0 1 = cc in omega arith)
+
+  module _ {c : Counts} (G : Good c) where
+    admits : Accepted l (script bs) (G .entries)
+    admits = read-accepted l (script bs) (G .entries) (script-noZero bs) (read-script l bs ∙ G .reads)
+
+    pub text-is : take (c .bytes) bs ≡ script bs
+    text-is = ap (λ (n : ℕ). take n bs) (G .bytes-are) ∙ script-take bs
+
+    pub bytes-in : c .bytes ≤ length bs
+    bytes-in = omega (arith, G .bytes-are, script-in bs)
+
+    pub text-ready : Clean (take (c .bytes) bs) × Few (l .currencies)
+    text-ready = (
+      subst Clean (sym text-is) (record { short = admits .short; tokens = admits .text .toks; scanned = admits .text .scanned }),
+      lists-few l (admits .lists),
+    )
+
+    reads-are : statements (words l) (toksAt (take (c .bytes) bs) 0) ≡ accepted (G .entries)
+    unfolding statements
+    reads-are = ap (λ (s : List ℕ). statements (words l) (toksAt s 0)) text-is ∙ ap (statements (words l)) (toks-all (script bs) (admits .text .scanned)) ∙ admits .text .reads
+
+  module _ (o d : List ℕ) where
+    leaves-refused : {r : Answer} {k p : ℕ} → r ≡ refusedAt bs k p → readInto l bs o d ≡ refused k p → Leaves l bs o d r o d
+    leaves-refused e h = record {
+      answer = e ∙ sym (ap (λ (x : Outcome). answerOf bs (judgedOf (length (script bs)) (lastEnd (script bs)) x)) h);
+      records = sym (ap (leftBy wordsOf o) h);
+      directory = sym (ap (leftBy directoryOf d) h);
+    }
+
+    -- 1 to 15
+    pub leaves-not : {r : Answer} {k p : ℕ} → r ≡ refusedAt bs k p → judgement l bs ≡ judged.Refused k p → Leaves l bs o d r o d
+    unfolding reading
+    leaves-not e h = leaves-refused e (ap (fitting (length (script bs)) (recordRoom (length o)) (statementRoom (length d))) (judged-not h))
+
+    module _ {c : Counts} (G : Good c) where
+      into : readInto l bs o d ≡ fitting (c .bytes) (recordRoom (length o)) (statementRoom (length d)) (accepted (G .entries))
+      unfolding reading
+      into = rw (G .reads, G .bytes-are)
+
+      -- 16
+      pub leaves-wide : {r : Answer} {m : ℕ} → r ≡ refusedAt bs 16 (c .bytes) → m ≡ recordRoom (length o) → m < c .records → Leaves l bs o d r o d
+      leaves-wide e p h =
+          let full : ltb (recordRoom (length o)) (nodes (G .entries)) ≡ true = lt-ltb (recordRoom (length o)) (nodes (G .entries)) (omega (arith, p, h, G .records-are)) in
+          leaves-refused e (into ∙ rw full)
+
+      pub leaves-many : {r : Answer} {m n : ℕ} → r ≡ refusedAt bs 16 (c .bytes) → m ≡ recordRoom (length o) → c .records ≤ m → n ≡ statementRoom (length d) → n < c .statements
+          → Leaves l bs o d r o d
+      leaves-many e p h q g =
+          let fits : ltb (recordRoom (length o)) (nodes (G .entries)) ≡ false = le-ltb (recordRoom (length o)) (nodes (G .entries)) (omega (arith, p, h, G .records-are)) in
+          let full : ltb (statementRoom (length d)) (length (G .entries)) ≡ true = lt-ltb (statementRoom (length d)) (length (G .entries)) (omega (arith, q, g, G .statements-are)) in
+          leaves-refused e (into ∙ rw (fits, full))
+
+      -- accepted
+      pub leaves-read : {r : Answer} {m n : ℕ} → r ≡ acceptedWith c → m ≡ recordRoom (length o) → c .records ≤ m → n ≡ statementRoom (length d) → c .statements ≤ n
+          → (a : All) {o′ d′ : List ℕ} → MeetsAll (statements (words l) (toksAt (take (c .bytes) bs) 0)) o d a o′ d′ → Leaves l bs o d r o′ d′
+      leaves-read e p h q g a M =
+          let fits : ltb (recordRoom (length o)) (nodes (G .entries)) ≡ false = le-ltb (recordRoom (length o)) (nodes (G .entries)) (omega (arith, p, h, G .records-are)) in
+          let few : ltb (statementRoom (length d)) (length (G .entries)) ≡ false = le-ltb (statementRoom (length d)) (length (G .entries)) (omega (arith, q, g, G .statements-are)) in
+          let is : readInto l bs o d ≡ accepted (G .entries) = into ∙ rw (fits, few) in
+          let W = all-wrote o d a (G .entries) (reads-are G) M in
+          let record-fits : recordWidth * nodes (G .entries) ≤ length o = omega (arith, room-in mostRecords (length o / recordWidth), p, h, G .records-are) in
+          let entry-fits : entryWidth * length (G .entries) ≤ length d = omega (arith, room-in mostStatements (length d / entryWidth), q, g, G .statements-are) in
+          record {
+            answer = e ∙ ap (answerOf bs) (G .counts-are) ∙ sym (ap (λ (x : Outcome). answerOf bs (judgedOf (length (script bs)) (lastEnd (script bs)) x)) is);
+            records = W .0 ∙ put-records o (G .entries) record-fits ∙ sym (ap (leftBy wordsOf o) is);
+            directory = W .1 ∙ put-directory d (G .entries) entry-fits ∙ sym (ap (leftBy directoryOf d) is);
+          }

@@ -1,0 +1,66 @@
+-- What reading a script into lent memory answers, and what it leaves there.
+use mathlib.Core.Path.{_≡_}
+use mathlib.Core.List.{List, _++_}
+use Prim.Native.Nat.{ℕ}
+use lib.ListN.{length, drop}
+use Rattle.tokens.specs.Text.{script}
+use Rattle.tokens.specs.Names.{Lists}
+use Rattle.tokens.specs.Places.{line, column}
+use Rattle.reading.specs.Sizes.{recordRoom, statementRoom}
+use Rattle.reading.specs.Script.{Entry, Outcome, accepted, refused, reading}
+use Rattle.reading.specs.Words.{wordsOf, directoryOf}
+use Rattle.reading.specs.Judging.{judgedOf, lastEnd}
+use Rattle.reading.specs.declared.judging.Counts.{Counts}
+use Rattle.reading.specs.declared.judging.Judged.{Judged}
+use Rattle.reading.specs.declared.judging.Judged.the-variants as judged
+use Rattle.reading.specs.declared.reading.Answer.{Answer}
+
+-- Accepted: 0, 0, 1, 1, and the counts
+abbrev pub acceptedWith : Counts → Answer
+acceptedWith c = record {
+  number = 0;
+  byte = 0;
+  line = 1;
+  column = 1;
+  bytes = c .bytes;
+  statements = c .statements;
+  records = c .records;
+  tokens = c .tokens;
+}
+
+-- a refusal: number, byte, line, column; the counts are 0
+abbrev pub refusedAt : List ℕ → ℕ → ℕ → Answer
+refusedAt bs k p = record {
+  number = k;
+  byte = p;
+  line = line bs p;
+  column = column bs p;
+  bytes = 0;
+  statements = 0;
+  records = 0;
+  tokens = 0;
+}
+
+-- the numbers of a judgement
+abbrev pub answerOf : List ℕ → Judged → Answer
+answerOf bs (judged.Good c) = acceptedWith c
+answerOf bs (judged.Refused k p) = refusedAt bs k p
+
+-- words at the front of lent memory: those past them are unchanged
+abbrev pub over : List ℕ → List ℕ → List ℕ
+over ws o = ws ++ drop (length ws) o
+
+-- lent memory after a reading: a refusal changes none of it
+abbrev pub leftBy : (List Entry → List ℕ) → List ℕ → Outcome → List ℕ
+leftBy words o (accepted es) = over (words es) o
+leftBy words o (refused k p) = o
+
+-- a script read with room for what the lent words hold
+abbrev pub readInto : Lists → List ℕ → List ℕ → List ℕ → Outcome
+readInto l bs o d = reading l (recordRoom (length o)) (statementRoom (length d)) bs
+
+-- the answer, the records and the directory after reading the script bs into the records o and the directory d
+pub record Leaves (l : Lists) (bs o d : List ℕ) (r : Answer) (o′ d′ : List ℕ) : Type 0 where
+  pub answer : r ≡ answerOf bs (judgedOf (length (script bs)) (lastEnd (script bs)) (readInto l bs o d))
+  pub records : o′ ≡ leftBy wordsOf o (readInto l bs o d)
+  pub directory : d′ ≡ leftBy directoryOf d (readInto l bs o d)

@@ -1,0 +1,87 @@
+// A script read into lent memory.
+use crate::judging::Counts;
+use crate::judging::Judged;
+use crate::judging::judge;
+use crate::rooms::record_room;
+use crate::rooms::statement_room;
+use crate::scripts::all;
+use tokens::places::place_of;
+ghost use mathlib.Core.Path.{_≡_};
+ghost use Rattle.reading.specs.Judging.{listsIn};
+ghost use Rattle.reading.specs.Reading.{acceptedWith, refusedAt, Leaves};
+
+// What a call answers: the number of its refusal, or 0; where; and what the memory holds then.
+pub struct Answer {
+    pub number: u32,
+    pub byte: usize,
+    pub line: usize,
+    pub column: usize,
+    pub bytes: usize,
+    pub statements: usize,
+    pub records: usize,
+    pub tokens: usize,
+}
+
+// Reads a script: its records and its directory are written once nothing can refuse it any more.
+pub fn read(
+    script: &[u8],
+    reserved: &[u8],
+    currencies: &[u8],
+    counters: &[u8],
+    records: &mut [u32],
+    directory: &mut [u32],
+) -> Answer
+    ensures { λ r. ⌜ Leaves (listsIn (now (reserved .entry)) (now (currencies .entry)) (now (counters .entry))) (now (script .entry)) (now (records .entry)) (now (directory .entry)) r (now (records .exit)) (now (directory .exit)) ⌝ }
+{
+    match judge(script, reserved, currencies, counters) {
+        Judged::Refused(k, b) => refusal(script, k, b),
+        Judged::Good(c) => {
+            if c.records > record_room(records.len()) {
+                return refusal(script, 16, c.bytes);
+            }
+            if c.statements > statement_room(directory.len()) {
+                return refusal(script, 16, c.bytes);
+            }
+            all(
+                &script[..c.bytes],
+                reserved,
+                currencies,
+                counters,
+                records,
+                directory,
+            );
+            acceptance(c)
+        }
+    }
+}
+
+fn acceptance(c: Counts) -> Answer
+    ensures { λ r. ⌜ r ≡ acceptedWith c ⌝ }
+{
+    Answer {
+        number: 0,
+        byte: 0,
+        line: 1,
+        column: 1,
+        bytes: c.bytes,
+        statements: c.statements,
+        records: c.records,
+        tokens: c.tokens,
+    }
+}
+
+fn refusal(script: &[u8], number: u32, byte: usize) -> Answer
+    ensures { λ r. ⌜ r ≡ refusedAt (now (script .entry)) number byte ⌝ }
+{
+    let place = place_of(script, byte);
+    Answer {
+        number,
+        byte,
+        line: place.line,
+        column: place.column,
+        bytes: 0,
+        statements: 0,
+        records: 0,
+        tokens: 0,
+    }
+}
