@@ -30,3 +30,4 @@ pub mod BodyLaws
 pub mod WholeLaws
 pub mod JudgeLaws
 pub mod ReadLaws
+pub mod WrongReaders

@@ -1,0 +1,67 @@
+-- What no function can be that meets the contract of `read`.
+use mathlib.Core.Path.{_≡_, refl, sym, ap, _∙_}
+use mathlib.Core.List.{List, [], _∷_, _++_}
+use Prim.Native.Nat.{ℕ}
+use native.Mathlib.Omega.{arith}
+use lib.ListN.{getD}
+use Rattle.tokens.specs.Text.{bytes}
+use Rattle.tokens.specs.Names.{Lists}
+use Rattle.reading.specs.Computing.{computing}
+use Rattle.reading.specs.Reading.{Leaves}
+use Rattle.reading.specs.declared.reading.Answer.{Answer}
+
+-- what a call is given, and what it answers and leaves: the answer, the records, the directory
+abbrev pub Call : Type 0
+Call = Lists → List ℕ → List ℕ → List ℕ → Answer × List ℕ × List ℕ
+
+-- a function that meets the contract of `read`
+abbrev pub Reads : Call → Type 0
+Reads f = (l : Lists) (bs o d : List ℕ) → Leaves l bs o d (f l bs o d .0) (f l bs o d .1) (f l bs o d .2)
+
+-- ---- lists, and room for two records and two statements
+
+pub usd : Lists
+unfolding computing
+usd = record { reserved = []; currencies = bytes "USD\n"; counters = [] }
+
+pub two : List ℕ
+two = 0 ∷ 0 ∷ 0 ∷ 0 ∷ 0 ∷ 0 ∷ 0 ∷ 0 ∷ 0 ∷ 0 ∷ 0 ∷ 0 ∷ 0 ∷ 0 ∷ []
+
+module _ (f : Call) (m : Reads f) where
+  -- one that refuses all
+  pub refuses-not-all : ((l : Lists) (bs o d : List ℕ) → f l bs o d .0 .number ≡ 0 → ⊥) → ⊥
+  unfolding computing usd
+  refuses-not-all h = h usd [] [] [] (ap (λ (r : Answer). r .number) (m usd [] [] [] .answer))
+
+  -- one that gives a constant tree
+  pub tree-not-constant : ((bs bs′ : List ℕ) → f usd bs two two .1 ≡ f usd bs′ two two .1) → ⊥
+  unfolding computing usd two
+  tree-not-constant h =
+      let x = bytes "1;" in
+      let y = bytes "2;" in
+      let e : _≡_ {A = ℕ} 0x3ff00000 0x40000000 =
+      ap (λ (l : List ℕ). getD l 3 0) (sym (m usd x two two .records) ∙ h x y ∙ m usd y two two .records) in
+      absurd (omega arith)
+
+  -- one that reads the first statement and fakes the others
+  pub others-not-faked : ((xs ys : List ℕ) → f usd (bytes "a;" ++ xs) two two .1 ≡ f usd (bytes "a;" ++ ys) two two .1) → ⊥
+  unfolding computing usd two
+  others-not-faked h =
+      let x = bytes "b;" in
+      let y = bytes "1;" in
+      let e : _≡_ {A = ℕ} 1 2 =
+      ap (λ (l : List ℕ). getD l 7 0) (sym (m usd (bytes "a;" ++ x) two two .records) ∙ h x y ∙ m usd (bytes "a;" ++ y) two two .records) in
+      absurd (omega arith)
+
+  -- one whose token counts are invented, from the other counts
+  pub tokens-not-invented : (t : ℕ → ℕ → ℕ → ℕ)
+      → ((bs : List ℕ) → f usd bs two two .0 .tokens ≡ t (f usd bs two two .0 .bytes) (f usd bs two two .0 .statements) (f usd bs two two .0 .records)) → ⊥
+  unfolding computing usd two
+  tokens-not-invented t h =
+      let x = bytes "(a);" in
+      let y = bytes "a  ;" in
+      let p = m usd x two two .answer in
+      let q = m usd y two two .answer in
+      let four : 4 ≡ t 4 1 1 = sym (ap (λ (r : Answer). r .tokens) p) ∙ h x ∙ ap (λ (r : Answer). t (r .bytes) (r .statements) (r .records)) p in
+      let two : 2 ≡ t 4 1 1 = sym (ap (λ (r : Answer). r .tokens) q) ∙ h y ∙ ap (λ (r : Answer). t (r .bytes) (r .statements) (r .records)) q in
+      absurd (omega (arith, four, two))
