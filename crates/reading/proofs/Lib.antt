@@ -31,3 +31,5 @@ pub mod WholeLaws
 pub mod JudgeLaws
 pub mod ReadLaws
 pub mod WrongReaders
+pub mod PartLaws
+pub mod PartExamples

@@ -14,4 +14,5 @@ pub mod Bodies
 pub mod Scripts
 pub mod Judging
 pub mod Reading
+pub mod Parts
 pub mod Computing

@@ -7,6 +7,7 @@ mod calling;
 mod calls;
 mod expressions;
 pub mod judging;
+pub mod parts;
 pub mod reading;
 mod records;
 mod rooms;

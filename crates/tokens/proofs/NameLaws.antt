@@ -14,7 +14,7 @@ use Rattle.tokens.specs.Text.{same, every, leading, other}
 use Rattle.tokens.specs.Names.{push, names, ended, place, member, distinct, goodName, goodNames, usdFirst, goodList}
 use Rattle.tokens.proofs.Shapes.{same-eq, leading-le}
 
-and-true-both : (a b : Bool) → (a && b) ≡ true → (a ≡ true) × (b ≡ true)
+pub and-true-both : (a b : Bool) → (a && b) ≡ true → (a ≡ true) × (b ≡ true)
 and-true-both true b h = (refl, h)
 and-true-both false b h = absurd (true≢false (sym h))
 
@@ -71,11 +71,11 @@ module _ (f : ℕ → Bool) (s : List ℕ) (i : ℕ) where
 abbrev line : List ℕ → ℕ
 line s = leading (other 10) s
 
-names-feed : (b : ℕ) (s : List ℕ) → eqb b 10 ≡ true → names (b ∷ s) ≡ [] ∷ names s
+pub names-feed : (b : ℕ) (s : List ℕ) → eqb b 10 ≡ true → names (b ∷ s) ≡ [] ∷ names s
 unfolding names
 names-feed b s e = simp (names, e)
 
-names-other : (b : ℕ) (s : List ℕ) → eqb b 10 ≡ false → names (b ∷ s) ≡ push b (names s)
+pub names-other : (b : ℕ) (s : List ℕ) → eqb b 10 ≡ false → names (b ∷ s) ≡ push b (names s)
 unfolding names
 names-other b s e = simp (names, e)
 
