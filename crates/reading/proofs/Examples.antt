@@ -9,6 +9,7 @@ use lib.ListN.{take, drop, length}
 use Rattle.tokens.specs.Text.{if_then_else_, bytes, same}
 use Rattle.tokens.specs.Places.{line, column}
 use Rattle.tokens.specs.Names.{Lists}
+use Rattle.reading.specs.Sizes.{recordRoom, statementRoom}
 use Rattle.reading.specs.Trees.{Tree, Trees, node, nil, _▹_, fields}
 use Rattle.reading.specs.Script.{Entry, Outcome, accepted, refused, readScript, nodes, tokensOf}
 use Rattle.reading.specs.Words.{wordsOf, directoryOf}
@@ -256,6 +257,15 @@ own-places : (wordsOf (entries (readScript own (bytes "a; bc;"))) ≡ 1 ∷ 1 �
 unfolding computing own entries
 own-places = (refl, refl, refl)
 
+-- 32: two currencies, date. 33: start, length, date. 34: date, curve start, length. 35: start, length, two dates. 36: date, currency
+own-fields : (wordsOf (entries (readScript own (bytes "Spot(\"EUR\");Spot(\"USD\",\"EUR\",\"2024-02-29\");"))) ≡ 32 ∷ 1 ∷ 0 ∷ 2 ∷ 1 ∷ 0 ∷ 0 ∷ 32 ∷ 1 ∷ 0 ∷ 1 ∷ 2 ∷ 20240229 ∷ 0 ∷ [])
+    × (wordsOf (entries (readScript own (bytes "Spot(\"AA\",\"2024-02-29\");"))) ≡ 33 ∷ 1 ∷ 0 ∷ 6 ∷ 2 ∷ 20240229 ∷ 0 ∷ [])
+    × (wordsOf (entries (readScript own (bytes "Df(\"2024-02-29\");Df(\"2024-02-29\",\"c\");"))) ≡ 34 ∷ 1 ∷ 0 ∷ 20240229 ∷ 0 ∷ 0 ∷ 0 ∷ 34 ∷ 1 ∷ 0 ∷ 20240229 ∷ 17 ∷ 1 ∷ 0 ∷ [])
+    × (wordsOf (entries (readScript own (bytes "RateIndex(\"ab\",\"2024-02-29\",\"2024-03-01\");"))) ≡ 35 ∷ 1 ∷ 0 ∷ 11 ∷ 2 ∷ 20240229 ∷ 20240301 ∷ [])
+    × (wordsOf (entries (readScript own (bytes "pays on \"2024-02-29\" in \"EUR\""))) ≡ 36 ∷ 1 ∷ 0 ∷ 20240229 ∷ 2 ∷ 0 ∷ 0 ∷ [])
+unfolding computing own entries
+own-fields = (refl, refl, refl, refl, refl)
+
 -- ---- the paper's listing
 
 -- statements, records, tokens; then the records
@@ -282,6 +292,11 @@ listing-directory = refl
 places : line (bytes "a\nbc\nd") 4 ∷ column (bytes "a\nbc\nd") 4 ∷ line (bytes "a\nbc\nd") 5 ∷ column (bytes "a\nbc\nd") 5 ∷ [] ≡ 2 ∷ 3 ∷ 3 ∷ 1 ∷ []
 unfolding computing
 places = refl
+
+-- capacities: 2,048 records, 512 statements; a record has seven words, an entry four, and what does not fit whole is no room
+rooms : (recordRoom 14335 ∷ recordRoom 14336 ∷ recordRoom 20000 ∷ recordRoom 6 ∷ [] ≡ 2047 ∷ 2048 ∷ 2048 ∷ 0 ∷ [])
+    × (statementRoom 2047 ∷ statementRoom 2048 ∷ statementRoom 4000 ∷ statementRoom 3 ∷ [] ≡ 511 ∷ 512 ∷ 512 ∷ 0 ∷ [])
+rooms = (refl, refl)
 
 -- ---- with other lists
 
