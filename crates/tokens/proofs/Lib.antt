@@ -16,6 +16,7 @@ pub mod TextLaws
 pub mod PlaceLaws
 pub mod NameLaws
 pub mod SlotLaws
+pub mod SieveLaws
 pub mod LexLaws
 pub mod MarkLaws
 pub mod ScanLaws

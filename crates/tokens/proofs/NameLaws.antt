@@ -79,11 +79,11 @@ pub names-other : (b : ℕ) (s : List ℕ) → eqb b 10 ≡ false → names (b �
 unfolding names
 names-other b s e = simp (names, e)
 
-line-feed : (b : ℕ) (s : List ℕ) → eqb b 10 ≡ true → line (b ∷ s) ≡ 0
+pub line-feed : (b : ℕ) (s : List ℕ) → eqb b 10 ≡ true → line (b ∷ s) ≡ 0
 unfolding leading
 line-feed b s e = simp (leading, e)
 
-line-other : (b : ℕ) (s : List ℕ) → eqb b 10 ≡ false → line (b ∷ s) ≡ suc (line s)
+pub line-other : (b : ℕ) (s : List ℕ) → eqb b 10 ≡ false → line (b ∷ s) ≡ suc (line s)
 unfolding leading
 line-other b s e = simp (leading, e)
 

@@ -4,6 +4,7 @@ pub mod Text
 pub mod Places
 pub mod Names
 pub mod Slots
+pub mod Sieve
 pub mod Numbers
 pub mod Runs
 pub mod Dates

@@ -3,19 +3,21 @@ use crate::text::equal;
 use crate::text::find;
 use crate::text::is_capital;
 ghost use mathlib.Core.Path.{_≡_};
+ghost use mathlib.Core.Bool.{false};
 ghost use Prim.Native.Nat.{_-_, _≤_, _<_};
 ghost use lib.Dec.{eqb};
 ghost use lib.ListN.{length, take, drop};
 ghost use Rattle.tokens.specs.Text.{bytes};
 ghost use Rattle.tokens.specs.Names.{names, ended, place, goodLength, goodByte, goodName, goodNames, goodList};
 ghost use Rattle.tokens.specs.Slots.{slotOf, doubleBy};
+ghost use Rattle.tokens.specs.Sieve.{Sifts};
 
 const MOST_NAMES: usize = 256;
 
 const LONGEST_NAME: usize = 32;
 
-// The place of a name in a list, from 0, plus 1; 0 where it is absent.
-pub fn place_in(list: &[u8], name: &[u8]) -> usize
+// The place of a name in a list, by a walk from name to name.
+fn walked(list: &[u8], name: &[u8]) -> usize
     ensures { λ r. ⌜ r ≡ place (names (now (list .entry))) (now (name .entry)) ⌝ }
 {
     let mut at: usize = 0;
@@ -29,6 +31,65 @@ pub fn place_in(list: &[u8], name: &[u8]) -> usize
         at = e + 1;
     }
     0
+}
+
+// 0 where two bytes are equal.
+fn differ(a: u8, b: u8) -> u8
+    ensures { λ r. ⌜ (a ≡ b → r ≡ 0) × (r ≤ 1) ⌝ }
+{
+    if a == b { 0 } else { 1 }
+}
+
+fn least(a: u8, b: u8) -> u8
+    ensures { λ r. ⌜ (r ≤ a) × (r ≤ b) ⌝ }
+{
+    if b < a { b } else { a }
+}
+
+// 0 where a first byte, a last one and a line feed stand somewhere in a list as they would for a name of n bytes. Nothing
+// leaves the loop early, so that it is compiled to take many bytes at once.
+fn lowest(list: &[u8], n: usize, first: u8, last: u8) -> u8
+    requires { ⌜ (1 ≤ n) × (n < length (now list)) ⌝ }
+    ensures { λ r. ⌜ Sifts (now (list .entry)) n first last (length (now (list .entry)) - n) r ⌝ }
+{
+    let most = list.len() - n;
+    let mut low: u8 = 3;
+    let mut i: usize = 0;
+    while i < most {
+        let a = differ(list[i], first);
+        let b = differ(list[i + n - 1], last);
+        let c = differ(list[i + n], 10);
+        low = least(low, a + b + c);
+        i += 1;
+    }
+    low
+}
+
+// Whether a name is worth looking for in a list. Most are not, and that is known without a walk.
+fn may_hold(list: &[u8], name: &[u8]) -> bool
+    ensures { λ r. ⌜ (r ≡ false → place (names (now (list .entry))) (now (name .entry)) ≡ 0) ⌝ }
+{
+    let n = name.len();
+    if n == 0 {
+        return true;
+    }
+    if list.len() <= n {
+        return true;
+    }
+    if list[list.len() - 1] != 10 {
+        return true;
+    }
+    lowest(list, n, name[0], name[n - 1]) == 0
+}
+
+// The place of a name in a list, from 0, plus 1; 0 where it is absent.
+pub fn place_in(list: &[u8], name: &[u8]) -> usize
+    ensures { λ r. ⌜ r ≡ place (names (now (list .entry))) (now (name .entry)) ⌝ }
+{
+    if !may_hold(list, name) {
+        return 0;
+    }
+    walked(list, name)
 }
 
 fn is_good_length(money: bool, n: usize) -> bool
