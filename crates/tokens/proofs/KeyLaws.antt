@@ -8,7 +8,7 @@ use native.Mathlib.Nat.{add-zero, pow-suc, pow-le-pow-right}
 use native.Mathlib.Numerals.{add-one}
 use native.Mathlib.Omega.{arith}
 use lib.Dec.{T, leb, ltb, eqb}
-use borrow.Author.Tests.{eq-eqb, ne-eqb, eqb-true, eqb-false, lt-ltb, ltb-true, ltb-false, leb-true, leb-false}
+use borrow.Author.Tests.{eq-eqb, ne-eqb, eqb-true, eqb-false, lt-ltb, ltb-true, ltb-false, leb-true, leb-false, lt-leb}
 use lib.ListN.{length, getD, take, drop, length-take, length-drop, drop-of-length-le, List·getD-eq-default}
 use lib.Seq.{drop-cons, getD-take, getD-drop}
 use Rattle.tokens.specs.Text.{if_then_else_, bytes, same, begins, every}
@@ -213,6 +213,11 @@ key-code w h = entry-keyed pack (every small) (pack w) w (pack-agrees w h) keywo
 pub keyword-rest : (k : ℕ) → Rest (Unit {0}) k (keyed pack keywords) → 1 ≡ keywordBy k
 unfolding keywordBy
 keyword-rest k h = by-code 99 (lookup 99 k (keyed pack keywords)) (lookup-rest 99 k (keyed pack keywords) h)
+
+-- a word without a key is none
+pub keyword-long : (w : List ℕ) → 6 < length w → 1 ≡ keywordBy (keyOf w)
+unfolding keyOf
+keyword-long w h = rw (lt-leb (length w) 6 h) (sym no-key)
 
 pub keyword-is : (w : List ℕ) (n : ℕ) → T (every small w) → word w n ≡ piece (keywordBy (keyOf w)) n
 unfolding word keyOf

@@ -1,6 +1,7 @@
 // What stands at a place of a text.
 use crate::codes::EOF;
 use crate::codes::FAULT;
+use crate::codes::NAME;
 use crate::codes::NEWLINE;
 use crate::codes::NONE;
 use crate::codes::NUMBER;
@@ -12,6 +13,7 @@ use crate::text::is_digit;
 use crate::text::is_letter;
 use crate::text::is_name_byte;
 use crate::text::is_number_byte;
+use crate::words::LONGEST_KEY;
 use crate::words::key_of;
 use crate::words::keyword;
 use crate::words::lone_sign;
@@ -123,6 +125,13 @@ fn word_at(s: &[u8], at: usize) -> Mark
     ensures { λ r. ⌜ r ≡ markOf at (wordAt (now (s .entry)) at) ⌝ }
 {
     let end = name_end(s, at + 1);
+    if LONGEST_KEY < end - at {
+        return Mark {
+            start: at,
+            end,
+            code: NAME,
+        };
+    }
     let code = keyword(key_of(&s[at..end]));
     Mark {
         start: at,

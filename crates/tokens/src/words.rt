@@ -43,11 +43,14 @@ ghost use mathlib.Core.Path.{_≡_};
 ghost use Prim.Native.Nat.{_+_, _*_};
 ghost use Rattle.tokens.specs.Keys.{keyOf, keywordBy, pairBy, loneBy};
 
+// A part longer than this has no key.
+pub const LONGEST_KEY: usize = 6;
+
 // The bytes of a short part as one number, the first lowest, with a one above the last. 0 where the part is longer.
 pub fn key_of(w: &[u8]) -> u64
     ensures { λ r. ⌜ r ≡ keyOf (now (w .entry)) ⌝ }
 {
-    if 6 < w.len() {
+    if LONGEST_KEY < w.len() {
         return 0;
     }
     let mut k: u64 = 1;
