@@ -6,7 +6,7 @@ use Prim.Native.Nat.{ℕ, _+_, _*_, _/_, _≤_, _<_}
 use native.Mathlib.Omega.{arith}
 use lib.Dec.{ltb}
 use lib.ListN.{length, length-map, take, drop}
-use borrow.Author.Tests.{lt-ltb, le-ltb, ltb-true}
+use borrow.Author.Tests.{lt-ltb, le-ltb, ltb-true, ltb-false}
 use Rattle.tokens.specs.Text.{if_then_else_, script}
 use Rattle.tokens.specs.Names.{Lists}
 use Rattle.reading.specs.Sizes.{recordWidth, entryWidth, mostRecords, mostStatements, recordRoom, statementRoom}
@@ -69,12 +69,19 @@ put-directory d es h =
 
 -- ---- room
 
-room-in : (most n : ℕ) → (if ltb most n then most else n) ≤ n
+pub room-in : (most n : ℕ) → (if ltb most n then most else n) ≤ n
 room-in most n = go (ltb most n) refl
   where
     go : (b : Bool) → ltb most n ≡ b → (if b then most else n) ≤ n
     go true e = omega (arith, ltb-true most n e)
     go false e = omega arith
+
+pub room-most : (most n : ℕ) → (if ltb most n then most else n) ≤ most
+room-most most n = go (ltb most n) refl
+  where
+    go : (b : Bool) → ltb most n ≡ b → (if b then most else n) ≤ most
+    go true e = omega arith
+    go false e = ltb-false most n e
 
 -- ---- what the reader of all statements wrote, where they can be read
 
@@ -88,7 +95,7 @@ all-wrote o d (all.Refused k b) es e X = absurd (let z : _≡_ {A = ℕ} 0 1 = c
 module _ (l : Lists) (bs : List ℕ) where
   -- ---- what a judgement says of the script
 
-  judged-not : {k p : ℕ} → judgement l bs ≡ judged.Refused k p → readScript l bs ≡ refused k p
+  pub judged-not : {k p : ℕ} → judgement l bs ≡ judged.Refused k p → readScript l bs ≡ refused k p
   unfolding judgement
   judged-not {k} {p} h = go (readScript l bs) refl h
     where
@@ -106,13 +113,15 @@ module _ (l : Lists) (bs : List ℕ) where
     pub bytes-are : c .bytes ≡ length (script bs)
     pub statements-are : c .statements ≡ length entries
     pub records-are : c .records ≡ nodes entries
+    pub tokens-are : c .tokens ≡ tokensOf entries
+    pub last-are : c .last ≡ lastEnd (script bs)
 
   pub judged-good : {c : Counts} → judgement l bs ≡ judged.Good c → Good c
   unfolding judgement
   judged-good {c} h = go (readScript l bs) refl h
     where
       go : (x : Outcome) → readScript l bs ≡ x → judgedOf (length (script bs)) (lastEnd (script bs)) x ≡ judged.Good c → Good c
-      go (accepted es) e h = record { entries = es; reads = e; counts-are = sym h; bytes-are = cc; statements-are = cc; records-are = cc }
+      go (accepted es) e h = record { entries = es; reads = e; counts-are = sym h; bytes-are = cc; statements-are = cc; records-are = cc; tokens-are = cc; last-are = cc }
       go (refused j q) e h = absurd (let z : _≡_ {A = ℕ} 0 1 = cc in omega arith)
 
   module _ {c : Counts} (G : Good c) where

@@ -10,7 +10,7 @@ pub mod judging;
 pub mod parts;
 pub mod reading;
 mod records;
-mod rooms;
+pub mod rooms;
 mod scripts;
 mod signs;
 mod statements;

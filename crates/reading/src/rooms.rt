@@ -6,6 +6,11 @@ ghost use lib.Dec.{ltb};
 ghost use Rattle.tokens.specs.Text.{if_then_else_};
 ghost use Rattle.reading.specs.Sizes.{recordRoom, statementRoom};
 
+// The words of a record, and of a directory entry.
+pub const RECORD_WIDTH: usize = Node::WIDTH;
+
+pub const ENTRY_WIDTH: usize = Entry::WIDTH;
+
 fn capped(most: usize, n: usize) -> usize
     ensures { λ r. ⌜ r ≡ (if ltb most n then most else n) ⌝ }
 {
