@@ -1,0 +1,3 @@
+-- Laws of lines and of the listing.
+pub mod LineLaws
+pub mod ListingLaws

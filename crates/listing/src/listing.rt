@@ -1,0 +1,58 @@
+// The listing of a script, with lists of its own.
+use crate::lines::put_line;
+use crate::lines::put_records;
+use reading::reading::Answer;
+use reading::reading::read;
+ghost use Prim.Native.Nat.{_+_, _*_, _≤_};
+ghost use lib.ListN.{length};
+ghost use Rattle.listing.specs.Lines.{Appended};
+ghost use Rattle.listing.specs.Listing.{acceptedLines, refusedLine, listing};
+
+// Room for all records and statements that the capacities allow.
+const RECORD_WORDS: usize = 14336;
+
+const DIRECTORY_WORDS: usize = 2048;
+
+fn list_refusal(a: Answer, out: &mut [u8]) -> usize
+    requires { ⌜ 36 ≤ length (now out) ⌝ }
+    ensures { λ r. ⌜ Appended (now (out .entry)) 0 (refusedLine a) r (now (out .exit)) ⌝ }
+{
+    let words = [
+        a.number as u64,
+        a.byte as u64,
+        a.line as u64,
+        a.column as u64,
+    ];
+    put_line(out, 0, &words)
+}
+
+fn list_acceptance(a: Answer, records: &[u32], out: &mut [u8]) -> usize
+    requires { ⌜ (27 + 63 * a .records ≤ length (now out)) × (7 * a .records ≤ length (now records)) ⌝ }
+    ensures { λ r. ⌜ Appended (now (out .entry)) 0 (acceptedLines a (now (records .entry))) r (now (out .exit)) ⌝ }
+{
+    let words = [a.statements as u64, a.records as u64, a.tokens as u64];
+    let k = put_line(out, 0, &words);
+    let count = a.records;
+    put_records(out, k, records, count)
+}
+
+// Puts the listing of a script at the start of `out`, and answers its length.
+pub fn list(script: &[u8], out: &mut [u8]) -> usize
+    requires { ⌜ 27 + 63 * 2048 ≤ length (now out) ⌝ }
+    ensures { λ r. ⌜ Appended (now (out .entry)) 0 (listing (now (script .entry))) r (now (out .exit)) ⌝ }
+{
+    let mut records = [0u32; RECORD_WORDS];
+    let mut directory = [0u32; DIRECTORY_WORDS];
+    let a = read(
+        script,
+        b"",
+        b"USD\nEUR\n",
+        b"",
+        &mut records,
+        &mut directory,
+    );
+    if a.number == 0 {
+        return list_acceptance(a, &records, out);
+    }
+    list_refusal(a, out)
+}
