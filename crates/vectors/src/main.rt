@@ -1,12 +1,13 @@
 // Replays stored cases: reads the files that its arguments name, runs what each line of them asks, and compares.
-// So far a `read` is judged by the token layer alone: a case whose answer is 1 to 7 must get that answer and its place, and
-// any other must not be refused there. The other calls, `amend` and `part`, are counted and not run.
+// A `read` is run on the memory that its case lends: its answer must be the stored one, and every lent byte and word must be
+// left as stored. The other calls, `amend` and `part`, are counted and not run.
+mod comparing;
 mod fields;
-mod judging;
 mod kinds;
 mod memory;
 mod replay;
 mod report;
+mod state;
 mod tally;
 
 use crate::replay::replay;

@@ -1,13 +1,14 @@
 // The lines of a file, one after the other.
+use crate::comparing::DIFFERS;
+use crate::comparing::agrees;
+use crate::comparing::compare_left;
+use crate::comparing::is_changed;
+use crate::comparing::is_left;
 use crate::fields::MALFORMED;
 use crate::fields::behind;
 use crate::fields::number;
 use crate::fields::numbers;
 use crate::fields::seek;
-use crate::judging::DIFFERS;
-use crate::judging::Verdict;
-use crate::judging::agrees;
-use crate::judging::judged;
 use crate::kinds::AMEND;
 use crate::kinds::CASE;
 use crate::kinds::COUNTS;
@@ -24,55 +25,31 @@ use crate::memory::Words;
 use crate::memory::front;
 use crate::memory::load_bytes;
 use crate::memory::load_words;
+use crate::report::say_answer;
 use crate::report::say_outcome;
-use crate::report::say_verdict;
+use crate::state::CASE_AT;
+use crate::state::CHANGED;
+use crate::state::CURRENCIES_SIZE;
+use crate::state::DAYS_SIZE;
+use crate::state::DIRECTORY_SIZE;
+use crate::state::RAN;
+use crate::state::RECORDS_SIZE;
+use crate::state::RESERVED_SIZE;
+use crate::state::SCRIPT_SIZE;
+use crate::state::State;
+use crate::state::begin;
+use crate::state::keep_counts;
 use crate::tally::GROUNDS;
 use crate::tally::Tallies;
 use crate::tally::count;
+use crate::tally::count_compared;
 use crate::tally::count_difference;
 use crate::tally::count_line;
 use crate::tally::count_outcome;
+use reading::reading::Answer;
+use reading::reading::read;
 ghost use Prim.Native.Nat.{_≤_};
 ghost use lib.ListN.{length};
-
-// Places in `state`: how much is used of each memory, the four counts, and where the case's text begins. Records, directory,
-// counts and an amend's text are kept for the calls that are not run yet.
-type State = [usize; 11];
-
-const SCRIPT_SIZE: usize = 0;
-
-const RECORDS_SIZE: usize = 1;
-
-const DIRECTORY_SIZE: usize = 2;
-
-const RESERVED_SIZE: usize = 3;
-
-const CURRENCIES_SIZE: usize = 4;
-
-const DAYS_SIZE: usize = 5;
-
-const COUNTS_AT: usize = 6;
-
-const CASE_AT: usize = 10;
-
-// A case begins: all memory is forgotten.
-fn begin(state: &mut State, at: usize) {
-    state[SCRIPT_SIZE] = 0;
-    state[RECORDS_SIZE] = 0;
-    state[DIRECTORY_SIZE] = 0;
-    state[RESERVED_SIZE] = 0;
-    state[CURRENCIES_SIZE] = 0;
-    state[DAYS_SIZE] = 0;
-    keep_counts(state, 0, 0, 0, 0);
-    state[CASE_AT] = at;
-}
-
-fn keep_counts(state: &mut State, bytes: usize, statements: usize, records: usize, tokens: usize) {
-    state[COUNTS_AT] = bytes;
-    state[COUNTS_AT + 1] = statements;
-    state[COUNTS_AT + 2] = records;
-    state[COUNTS_AT + 3] = tokens;
-}
 
 // The first of three sizes that is above the room, or else the last.
 fn worst(a: usize, b: usize, c: usize) -> usize {
@@ -117,26 +94,85 @@ fn take_counts(s: &[u8], at: usize, end: usize, state: &mut State) -> usize
     0
 }
 
-fn compared(answer: &[usize; 8], v: Verdict, tally: &mut Tallies) -> usize {
+fn compared(answer: &[usize; 8], given: Answer, tally: &mut Tallies) -> usize {
     let ground = answer[0];
     count(tally, ground);
-    if agrees(answer, v) {
+    if agrees(answer, given) {
         return 0;
     }
     count_difference(tally, ground);
-    say_verdict(v);
+    say_answer(given);
     DIFFERS
 }
 
-// Runs a read and compares. Its answer's counts are those of the calls that follow.
-fn take_read(
-    s: &[u8],
-    at: usize,
-    end: usize,
+// The size of lent memory: one above the room was told of when its line was taken.
+fn lent(size: usize) -> usize
+    ensures { λ r. ⌜ r ≤ 32768 ⌝ }
+{
+    if size < ROOM { size } else { ROOM }
+}
+
+// Runs a read that is lent so many words of records and directory.
+fn read_words(
+    script: &[u8],
+    reserved: &[u8],
+    currencies: &[u8],
+    days: &[u8],
+    records: &mut [u32],
+    record_words: usize,
+    directory: &mut [u32],
+    directory_words: usize,
+) -> Answer
+    requires { ⌜ («record_words» ≤ length (now records)) × («directory_words» ≤ length (now directory)) ⌝ }
+{
+    read(
+        script,
+        reserved,
+        currencies,
+        days,
+        &mut records[..record_words],
+        &mut directory[..directory_words],
+    )
+}
+
+// Runs a read on the memory of the case, and notes whether that changed any lent word of it. It cannot change the script,
+// which it takes by `&`.
+fn run_read(
     script: &Bytes,
+    records: &mut Words,
+    directory: &mut Words,
     reserved: &Bytes,
     currencies: &Bytes,
     days: &Bytes,
+    state: &mut State,
+) -> Answer {
+    let records_before = *records;
+    let directory_before = *directory;
+    let n = lent(state[RECORDS_SIZE]);
+    let m = lent(state[DIRECTORY_SIZE]);
+    let given = read_words(
+        front(script, state[SCRIPT_SIZE]),
+        front(reserved, state[RESERVED_SIZE]),
+        front(currencies, state[CURRENCIES_SIZE]),
+        front(days, state[DAYS_SIZE]),
+        records,
+        n,
+        directory,
+        m,
+    );
+    let changed = is_changed(&records_before, records, n)
+        || is_changed(&directory_before, directory, m);
+    state[RAN] = 1;
+    state[CHANGED] = if changed { 1 } else { 0 };
+    given
+}
+
+// Compares what a read gave with the stored answer, whose counts are those of the calls that follow.
+fn take_answer(
+    s: &[u8],
+    at: usize,
+    end: usize,
+    given: Answer,
     state: &mut State,
     tally: &mut Tallies,
 ) -> usize
@@ -149,18 +185,12 @@ fn take_read(
     if GROUNDS <= answer[0] {
         return MALFORMED;
     }
-    let v = judged(
-        front(script, state[SCRIPT_SIZE]),
-        front(reserved, state[RESERVED_SIZE]),
-        front(currencies, state[CURRENCIES_SIZE]),
-        front(days, state[DAYS_SIZE]),
-    );
     keep_counts(state, answer[4], answer[5], answer[6], answer[7]);
-    compared(&answer, v, tally)
+    compared(&answer, given, tally)
 }
 
 // Takes the text of an amend and its answer's counts, which are those of the calls that follow. It is not run yet.
-fn take_amend(s: &[u8], at: usize, end: usize, text: &mut Bytes, state: &mut State) -> usize
+fn take_amend(s: &[u8], at: usize, end: usize, state: &mut State) -> usize
     requires { ⌜ (at ≤ end) × (end ≤ length (now s)) ⌝ }
 {
     let f = seek(s, at, end, b' ');
@@ -176,10 +206,12 @@ fn take_amend(s: &[u8], at: usize, end: usize, text: &mut Bytes, state: &mut Sta
         return MALFORMED;
     }
     keep_counts(state, answer[4], answer[5], answer[6], answer[7]);
-    load_bytes(s, g, h, text)
+    state[RAN] = 0;
+    let mut text = [0u8; 32768];
+    load_bytes(s, g, h, &mut text)
 }
 
-// Takes a line that begins a case or says what memory holds. Memory behind a call is what the call must have left.
+// Takes a line that begins a case or says what memory holds. Memory behind a call that is not run is what it must have left.
 fn take_memory(
     kind: usize,
     s: &[u8],
@@ -218,6 +250,30 @@ fn take_memory(
     }
 }
 
+// Takes a line that is neither a read nor lists. What a call that was run must have left is compared.
+fn take_other(
+    kind: usize,
+    s: &[u8],
+    at: usize,
+    end: usize,
+    script: &mut Bytes,
+    records: &mut Words,
+    directory: &mut Words,
+    state: &mut State,
+    tally: &mut Tallies,
+) -> usize
+    requires { ⌜ (at ≤ end) × (end ≤ length (now s)) ⌝ }
+{
+    if kind == AMEND {
+        return take_amend(s, at, end, state);
+    }
+    if state[RAN] == 1 && is_left(kind) {
+        count_compared(tally);
+        return compare_left(kind, s, at, end, script, records, directory, state);
+    }
+    take_memory(kind, s, at, end, script, records, directory, state)
+}
+
 fn is_nothing(s: &[u8], at: usize, end: usize) -> bool
     requires { ⌜ (at ≤ end) × (end ≤ length (now s)) ⌝ }
 {
@@ -238,7 +294,6 @@ fn take_line(
     reserved: &mut Bytes,
     currencies: &mut Bytes,
     days: &mut Bytes,
-    text: &mut Bytes,
     state: &mut State,
     tally: &mut Tallies,
 ) -> usize
@@ -252,15 +307,21 @@ fn take_line(
     let a = behind(w, end);
     count_line(tally, kind);
     if kind == READ {
-        return take_read(s, a, end, script, reserved, currencies, days, state, tally);
+        let given = run_read(
+            script,
+            records,
+            directory,
+            reserved,
+            currencies,
+            days,
+            state,
+        );
+        return take_answer(s, a, end, given, state, tally);
     }
     if kind == LISTS {
         return take_lists(s, a, end, reserved, currencies, days, state);
     }
-    if kind == AMEND {
-        return take_amend(s, a, end, text, state);
-    }
-    take_memory(kind, s, a, end, script, records, directory, state)
+    take_other(kind, s, a, end, script, records, directory, state, tally)
 }
 
 // Replays the lines of a file.
@@ -271,8 +332,7 @@ pub fn replay(path: &[u8], s: &[u8], tally: &mut Tallies) {
     let mut reserved = [0u8; 32768];
     let mut currencies = [0u8; 32768];
     let mut days = [0u8; 32768];
-    let mut text = [0u8; 32768];
-    let mut state = [0usize; 11];
+    let mut state = [0usize; 13];
     let mut at: usize = 0;
     while at < s.len() {
         let end = seek(s, at, s.len(), b'\n');
@@ -286,7 +346,6 @@ pub fn replay(path: &[u8], s: &[u8], tally: &mut Tallies) {
             &mut reserved,
             &mut currencies,
             &mut days,
-            &mut text,
             &mut state,
             tally,
         );

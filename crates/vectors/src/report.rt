@@ -1,18 +1,19 @@
 // What the program writes.
+use crate::comparing::DIFFERS;
 use crate::fields::seek;
-use crate::judging::DIFFERS;
-use crate::judging::Verdict;
 use crate::kinds::AMEND;
 use crate::kinds::CASE;
 use crate::kinds::PART;
 use crate::kinds::READ;
 use crate::memory::NO_ROOM;
+use crate::tally::COMPARED;
 use crate::tally::DIFFERENCES;
 use crate::tally::GROUNDS;
 use crate::tally::LINES;
 use crate::tally::REFUSED;
 use crate::tally::Tallies;
 use libc::STDOUT_FILENO;
+use reading::reading::Answer;
 
 pub fn say(text: &[u8]) {
     io::write_all(STDOUT_FILENO, text);
@@ -31,23 +32,32 @@ fn say_line(s: &[u8], at: usize) {
 }
 
 // What a read gave that differs. `say_outcome` goes on with the file, the case and the line, which has the stored answer.
-pub fn say_verdict(v: Verdict) {
+pub fn say_answer(a: Answer) {
     say(b"given ");
-    say_number(v.number);
+    say_number(a.number as usize);
     say(b" ");
-    say_number(v.byte);
+    say_number(a.byte);
     say(b" ");
-    say_number(v.line);
+    say_number(a.line);
     say(b" ");
-    say_number(v.column);
+    say_number(a.column);
     say(b" bytes ");
-    say_number(v.bytes);
+    say_number(a.bytes);
     say(b" statements ");
-    say_number(v.statements);
+    say_number(a.statements);
     say(b" records ");
-    say_number(v.records);
+    say_number(a.records);
     say(b" tokens ");
-    say_number(v.tokens);
+    say_number(a.tokens);
+    say(b" for ");
+}
+
+// A word that a read left and that differs, and where it stands, from 0.
+pub fn say_word(at: usize, word: u32) {
+    say(b"left ");
+    io::print_hex(STDOUT_FILENO, word as u64, 1);
+    say(b" at word ");
+    say_number(at);
     say(b" for ");
 }
 
@@ -106,6 +116,7 @@ pub fn say_tally(tally: &Tallies) {
     say_grounds(tally);
     say_count(b"cases", tally[LINES + CASE]);
     say_count(b"reads", tally[LINES + READ]);
+    say_count(b"lines of memory compared", tally[COMPARED]);
     say_count(b"differences", tally[DIFFERENCES]);
     say_count(b"amends, not run", tally[LINES + AMEND]);
     say_count(b"parts, not run", tally[LINES + PART]);

@@ -1,6 +1,7 @@
 // What was counted, in one array: places 0 to 20 hold the reads with each answer, those from 21 on those of them that differ,
-// then the lines of each kind, and last all differences and the lines that were not taken.
-use crate::judging::DIFFERS;
+// then the lines of each kind, and last the lines of memory that were compared, all differences and the lines that were not
+// taken.
+use crate::comparing::DIFFERS;
 use crate::kinds::UNKNOWN;
 
 pub type Tallies = [usize; 64];
@@ -8,6 +9,8 @@ pub type Tallies = [usize; 64];
 pub const GROUNDS: usize = 21;
 
 pub const LINES: usize = 42;
+
+pub const COMPARED: usize = 61;
 
 pub const DIFFERENCES: usize = 62;
 
@@ -28,6 +31,11 @@ pub fn count_difference(tally: &mut Tallies, ground: usize) {
     if ground < GROUNDS {
         count(tally, GROUNDS + ground);
     }
+}
+
+// A line says what a call that was run must have left.
+pub fn count_compared(tally: &mut Tallies) {
+    count(tally, COMPARED);
 }
 
 // A line differs or was not taken.

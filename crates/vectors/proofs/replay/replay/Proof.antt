@@ -6,11 +6,11 @@ use Rattle.vectors.proofs.replay.replay.Statement.{statement}
 use Rattle.vectors.proofs.replay.replay.Tie as tie
 
 abbrev Inv-loop : tie.InvT-loop
-Inv-loop path s tally₀ script₀ records₀ directory₀ reserved₀ currencies₀ days₀ text₀ state₀ at₀ tally script records directory reserved currencies days text state at =
+Inv-loop path s tally₀ script₀ records₀ directory₀ reserved₀ currencies₀ days₀ state₀ at₀ tally script records directory reserved currencies days state at =
     at ≤ length s
 
 abbrev μ-loop : tie.MeasureT-loop
-μ-loop path s tally₀ script₀ records₀ directory₀ reserved₀ currencies₀ days₀ text₀ state₀ at₀ tally script records directory reserved currencies days text state at =
+μ-loop path s tally₀ script₀ records₀ directory₀ reserved₀ currencies₀ days₀ state₀ at₀ tally script records directory reserved currencies days state at =
     length s - at
 
 loop-holds : tie.Need-loop-holds Inv-loop μ-loop

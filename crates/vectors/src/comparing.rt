@@ -1,0 +1,132 @@
+// Whether a call answered and left what is stored.
+use crate::kinds::DIRECTORY;
+use crate::kinds::RECORDS;
+use crate::kinds::SAME;
+use crate::kinds::SCRIPT;
+use crate::memory::Bytes;
+use crate::memory::ROOM;
+use crate::memory::Words;
+use crate::memory::front;
+use crate::memory::load_bytes;
+use crate::memory::load_words;
+use crate::report::say_word;
+use crate::state::CHANGED;
+use crate::state::DIRECTORY_SIZE;
+use crate::state::RECORDS_SIZE;
+use crate::state::SCRIPT_SIZE;
+use crate::state::State;
+use reading::reading::Answer;
+use tokens::text::equal;
+ghost use Prim.Native.Nat.{_≤_};
+ghost use lib.ListN.{length};
+
+// What a line comes to where the call gave or left something else, beside the sizes above the room.
+pub const DIFFERS: usize = 32770;
+
+fn has_ground(answer: &[usize; 8], a: Answer) -> bool {
+    if a.number as usize != answer[0] {
+        return false;
+    }
+    a.byte == answer[1] && (a.line == answer[2] && a.column == answer[3])
+}
+
+fn has_counts(answer: &[usize; 8], a: Answer) -> bool {
+    if a.bytes != answer[4] {
+        return false;
+    }
+    a.statements == answer[5] && (a.records == answer[6] && a.tokens == answer[7])
+}
+
+// Whether an answer is the stored one, in all its eight numbers.
+pub fn agrees(answer: &[usize; 8], a: Answer) -> bool {
+    has_ground(answer, a) && has_counts(answer, a)
+}
+
+// The first of the first `n` places where two memories differ, or else `n`.
+fn first_difference(a: &Words, b: &Words, n: usize) -> usize
+    requires { ⌜ n ≤ 32768 ⌝ }
+    ensures { λ r. ⌜ r ≤ n ⌝ }
+{
+    let mut i: usize = 0;
+    while i < n {
+        if a[i] != b[i] {
+            return i;
+        }
+        i += 1;
+    }
+    n
+}
+
+pub fn is_changed(before: &Words, after: &Words, n: usize) -> bool
+    requires { ⌜ n ≤ 32768 ⌝ }
+{
+    first_difference(before, after, n) < n
+}
+
+fn is_same(a: &Bytes, b: &Bytes, n: usize) -> bool {
+    equal(front(a, n), front(b, n))
+}
+
+// Compares bytes of memory with those that a line gives, whole.
+fn compare_bytes(s: &[u8], at: usize, end: usize, left: &Bytes, size: usize) -> usize
+    requires { ⌜ (at ≤ end) × (end ≤ length (now s)) ⌝ }
+{
+    let mut told = [0u8; 32768];
+    let n = load_bytes(s, at, end, &mut told);
+    if ROOM < n {
+        return n;
+    }
+    if n != size {
+        return DIFFERS;
+    }
+    if is_same(&told, left, n) { n } else { DIFFERS }
+}
+
+// Compares words of memory with those that a line gives, whole.
+fn compare_words(s: &[u8], at: usize, end: usize, left: &Words, size: usize) -> usize
+    requires { ⌜ (at ≤ end) × (end ≤ length (now s)) ⌝ }
+{
+    let mut told = [0u32; 32768];
+    let n = load_words(s, at, end, &mut told);
+    if ROOM < n {
+        return n;
+    }
+    if n != size {
+        return DIFFERS;
+    }
+    let i = first_difference(&told, left, n);
+    if i < n {
+        say_word(i, left[i]);
+        return DIFFERS;
+    }
+    n
+}
+
+// The kinds of lines that say what a call must have left.
+pub fn is_left(kind: usize) -> bool {
+    match kind {
+        SCRIPT | RECORDS | DIRECTORY | SAME => true,
+        _ => false,
+    }
+}
+
+// Compares memory with what a line says that the call before, which was run, must have left.
+pub fn compare_left(
+    kind: usize,
+    s: &[u8],
+    at: usize,
+    end: usize,
+    script: &Bytes,
+    records: &Words,
+    directory: &Words,
+    state: &State,
+) -> usize
+    requires { ⌜ (at ≤ end) × (end ≤ length (now s)) ⌝ }
+{
+    match kind {
+        SCRIPT => compare_bytes(s, at, end, script, state[SCRIPT_SIZE]),
+        RECORDS => compare_words(s, at, end, records, state[RECORDS_SIZE]),
+        DIRECTORY => compare_words(s, at, end, directory, state[DIRECTORY_SIZE]),
+        _ => { if state[CHANGED] == 0 { 0 } else { DIFFERS } }
+    }
+}
