@@ -22,17 +22,17 @@ use Rattle.amending.proofs.AmendLaw.{replaced-noZero, tokens-amended, a
 
 -- ---- the statement, those before it and those behind it
 
-pub pick-split : (k : ℕ) (es : List Entry) (p : Pick Entry) → pick k es ≡ some p → es ≡ p .before ++ (p .one ∷ p .behind)
+pub pick-split : {A : Type 0} (k : ℕ) (es : List A) (p : Pick A) → pick k es ≡ some p → es ≡ p .before ++ (p .one ∷ p .behind)
 unfolding pick
-pick-split k [] p h = absurd (let z : _≡_ {A = ℕ} 0 1 = cc in omega arith)
-pick-split zero (e ∷ es) p h = let z : record { before = []; one = e; behind = es } ≡ p = cc in ap (λ (x : Pick Entry). x .before ++ (x .one ∷ x .behind)) z
-pick-split (suc k) (e ∷ es) p h = go (pick k es) refl h (pick-split k es)
+pick-split {A} k [] p h = absurd (let z : _≡_ {A = ℕ} 0 1 = cc in omega arith)
+pick-split {A} zero (e ∷ es) p h = let z : record { before = []; one = e; behind = es } ≡ p = cc in ap (λ (x : Pick A). x .before ++ (x .one ∷ x .behind)) z
+pick-split {A} (suc k) (e ∷ es) p h = go (pick k es) refl h (pick-split k es)
   where
-    go : (o : Option (Pick Entry)) → pick k es ≡ o → onto e o ≡ some p → ((q : Pick Entry) → pick k es ≡ some q → es ≡ q .before ++ (q .one ∷ q .behind)) → e ∷ es ≡ p .before ++ (p .one ∷ p .behind)
+    go : (o : Option (Pick A)) → pick k es ≡ o → onto e o ≡ some p → ((q : Pick A) → pick k es ≡ some q → es ≡ q .before ++ (q .one ∷ q .behind)) → e ∷ es ≡ p .before ++ (p .one ∷ p .behind)
     go none w v ih = absurd (let z : _≡_ {A = ℕ} 0 1 = cc in omega arith)
     go (some q) w v ih =
         let z : record { before = e ∷ q .before; one = q .one; behind = q .behind } ≡ p = cc in
-        ap {B = List Entry} (λ x. e ∷ x) (ih q w) ∙ ap (λ (x : Pick Entry). x .before ++ (x .one ∷ x .behind)) z
+        ap {B = List A} (λ x. e ∷ x) (ih q w) ∙ ap (λ (x : Pick A). x .before ++ (x .one ∷ x .behind)) z
 
 -- ---- what is not over the rooms is within them
 

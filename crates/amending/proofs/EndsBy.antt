@@ -18,7 +18,7 @@ use Rattle.reading.proofs.AmendBytes.{Text, text-tokens, tokens-append}
 use Rattle.reading.proofs.Endings.{Snoc, nil, snoc, snoc-of, LastToken, last-token}
 use Rattle.amending.specs.Amend.{wellEnded, endsWell, lastEnd, endsBy}
 
-last-end : (p : ℕ) (es : List Entry) (e : Entry) → lastEnd p (es ++ (e ∷ [])) ≡ e .end
+pub last-end : (p : ℕ) (es : List Entry) (e : Entry) → lastEnd p (es ++ (e ∷ [])) ≡ e .end
 last-end p [] e = refl
 last-end p (x ∷ es) e = last-end (x .end) es e
 

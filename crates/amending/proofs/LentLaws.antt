@@ -25,11 +25,11 @@ use Rattle.amending.proofs.Directory.{InOrder, good-order, size-some}
 
 -- ---- counts
 
-sum-nodes : (es : List Entry) → sumRecords (map rowOf es) ≡ nodes es
+pub sum-nodes : (es : List Entry) → sumRecords (map rowOf es) ≡ nodes es
 sum-nodes [] = refl
 sum-nodes (e ∷ es) = ap (λ (n : ℕ). size (e .tree) + n) (sum-nodes es)
 
-sum-tokens : (es : List Entry) → sumTokens (map rowOf es) ≡ tokensOf es
+pub sum-tokens : (es : List Entry) → sumTokens (map rowOf es) ≡ tokensOf es
 sum-tokens [] = refl
 sum-tokens (e ∷ es) = ap (λ (n : ℕ). e .tokens + n) (sum-tokens es)
 
@@ -75,7 +75,7 @@ pick-rows (suc k) (e ∷ es) = ap (onto (rowOf e)) (pick-rows k es) ∙ go (pick
 
 -- ---- a state that was read is in order
 
-ascending-true : (i j : ℕ) (es : List Entry) → InOrder i j es → ascending i j (map rowOf es) ≡ true
+pub ascending-true : (i j : ℕ) (es : List Entry) → InOrder i j es → ascending i j (map rowOf es) ≡ true
 unfolding ascending
 ascending-true i j [] h = le-leb i j h
 ascending-true i j (e ∷ es) h =

@@ -5,3 +5,15 @@ pub mod AmendingLaws
 pub mod Directory
 pub mod LentLaws
 pub mod AmendExamples
+pub mod Flags
+pub mod MoveLaws
+pub mod EntryLaws
+pub mod OrderLaws
+pub mod ShiftLaws
+pub mod SwapLaws
+pub mod GroundLaws
+pub mod DirectoryWords
+pub mod ReplaceLaws
+pub mod StateLaws
+pub mod Certain
+pub mod WrongAmenders

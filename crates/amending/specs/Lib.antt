@@ -2,3 +2,8 @@
 pub mod Amend
 pub mod Amending
 pub mod Lent
+pub mod Moves
+pub mod Entries
+pub mod Memory
+pub mod Grounds
+pub mod States

@@ -1,1 +1,7 @@
-// Amending: one statement of a script that was read is replaced. The definition stands in specs/, its laws in proofs/.
+// Amending: one statement of a script that was read is replaced.
+pub mod amending;
+mod grounds;
+pub mod held;
+mod moves;
+mod orders;
+mod shifts;

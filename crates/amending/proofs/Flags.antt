@@ -1,0 +1,27 @@
+-- Tests that are made of tests, from the facts that they test.
+use mathlib.Core.Path.{_≡_, refl, sym}
+use mathlib.Core.Bool.{Bool, true, false, _&&_, false≢true}
+
+pub no : (b : Bool) → (b ≡ true → ⊥) → b ≡ false
+no true h = absurd (h refl)
+no false h = refl
+
+pub yes : {a b : Bool} → a ≡ true → b ≡ true → (a && b) ≡ true
+yes p q = rw (p, q)
+
+pub left : (a b : Bool) → (a && b) ≡ true → a ≡ true
+left true b e = refl
+left false b e = e
+
+pub right : (a b : Bool) → (a && b) ≡ true → b ≡ true
+right true b e = e
+right false b e = absurd (false≢true e)
+
+pub cases : {G : Type 0} (b : Bool) → (b ≡ true → G) → (b ≡ false → G) → G
+cases true f g = f refl
+cases false f g = g refl
+
+pub same : (a b : Bool) → (a ≡ true → b ≡ true) → (b ≡ true → a ≡ true) → a ≡ b
+same true b f g = sym (f refl)
+same false true f g = g refl
+same false false f g = refl

@@ -1,0 +1,209 @@
+-- Entries in order: tested one after the other, and what their order tells.
+use mathlib.Core.Path.{_≡_, refl, sym, ap, _∙_}
+use mathlib.Core.Bool.{Bool, true, false, _&&_, not, and-assoc, false≢true}
+use mathlib.Core.List.{List, [], _∷_, _++_, map}
+use Prim.Native.Nat.{ℕ, _+_, _-_, _*_, _≤_, _<_}
+use native.Mathlib.Omega.{arith}
+use lib.Dec.{leb, ltb, eqb}
+use lib.ListN.{length}
+use borrow.Author.Tests.{ltb-true, leb-true, eqb-true, lt-ltb, le-leb, eq-eqb}
+use Rattle.reading.specs.Sizes.{recordWidth, entryWidth}
+use Rattle.reading.specs.Words.{Row}
+use Rattle.amending.specs.Amending.{Rooms, Pick}
+use Rattle.amending.specs.Lent.{Lent, ascending, sumRecords, sumTokens, overRows, inOrder}
+use Rattle.amending.specs.Entries.{rowsFrom, rowFits}
+use Rattle.amending.proofs.Flags.{no, yes, left, right, cases, same}
+use Rattle.amending.proofs.EntryLaws.{rows-none}
+
+-- ---- what `ascending` tells
+
+-- of a first entry and of the rest
+pub record Ascends (i j : ℕ) (r : Row) (rs : List Row) : Type 0 where
+  pub after : i ≤ r .start
+  pub filled : r .start < r .end
+  pub hasRecord : 1 ≤ r .records
+  pub hasToken : 1 ≤ r .tokens
+  pub rest : ascending (r .end) j rs ≡ true
+
+pub ascends : (i j : ℕ) (r : Row) (rs : List Row) → ascending i j (r ∷ rs) ≡ true → Ascends i j r rs
+unfolding ascending
+ascends i j r rs b =
+    let b₁ = right (leb i (r .start)) _ b in
+    let b₂ = right (ltb (r .start) (r .end)) _ b₁ in
+    let b₃ = right (leb 1 (r .records)) _ b₂ in
+    record {
+      after = leb-true i (r .start) (left _ _ b);
+      filled = ltb-true (r .start) (r .end) (left _ _ b₁);
+      hasRecord = leb-true 1 (r .records) (left _ _ b₂);
+      hasToken = leb-true 1 (r .tokens) (left _ _ b₃);
+      rest = right (leb 1 (r .tokens)) _ b₃;
+    }
+
+ascends-none : (i j : ℕ) → ascending i j [] ≡ true → i ≤ j
+unfolding ascending
+ascends-none i j b = leb-true i j b
+
+-- the bytes that entries in order lie between
+pub ascending-le : (i j : ℕ) (rs : List Row) → ascending i j rs ≡ true → i ≤ j
+ascending-le i j [] b = ascends-none i j b
+ascending-le i j (r ∷ rs) b =
+    let f : Ascends i j r rs = ascends i j r rs b in
+    let h : r .end ≤ j = ascending-le (r .end) j rs (f .rest) in
+    omega arith
+
+-- from the entry r on, those before it set aside
+pub ascending-from : (i j : ℕ) (xs : List Row) (r : Row) (rs : List Row) → ascending i j (xs ++ (r ∷ rs)) ≡ true → Ascends i j r rs
+ascending-from i j [] r rs b = ascends i j r rs b
+ascending-from i j (x ∷ xs) r rs b =
+    let f : Ascends i j x (xs ++ (r ∷ rs)) = ascends i j x (xs ++ (r ∷ rs)) b in
+    let g : Ascends (x .end) j r rs = ascending-from (x .end) j xs r rs (f .rest) in
+    record { after = omega arith; filled = g .filled; hasRecord = g .hasRecord; hasToken = g .hasToken; rest = g .rest }
+
+-- ---- one entry
+
+-- the facts that `rowFits` tests
+pub record Fits (i records tokens : ℕ) (r : Row) : Type 0 where
+  pub after : i ≤ r .start
+  pub filled : r .start < r .end
+  pub hasRecord : 1 ≤ r .records
+  pub hasToken : 1 ≤ r .tokens
+  pub recordsLeft : r .records ≤ records
+  pub tokensLeft : r .tokens ≤ tokens
+
+module _ (i m t : ℕ) (r : Row) where
+  pub fits-yes : Fits i m t r → rowFits i m t r ≡ true
+  fits-yes f =
+      yes (le-leb _ _ (f .after)) (yes (lt-ltb _ _ (f .filled)) (yes (le-leb _ _ (f .hasRecord))
+      (yes (le-leb _ _ (f .hasToken)) (yes (le-leb _ _ (f .recordsLeft)) (le-leb _ _ (f .tokensLeft))))))
+
+  pub fits-are : rowFits i m t r ≡ true → Fits i m t r
+  fits-are b =
+      let b₁ = right (leb i (r .start)) _ b in
+      let b₂ = right (ltb (r .start) (r .end)) _ b₁ in
+      let b₃ = right (leb 1 (r .records)) _ b₂ in
+      let b₄ = right (leb 1 (r .tokens)) _ b₃ in
+      record {
+        after = leb-true i (r .start) (left _ _ b);
+        filled = ltb-true (r .start) (r .end) (left _ _ b₁);
+        hasRecord = leb-true 1 (r .records) (left _ _ b₂);
+        hasToken = leb-true 1 (r .tokens) (left _ _ b₃);
+        recordsLeft = leb-true (r .records) m (left _ _ b₄);
+        tokensLeft = leb-true (r .tokens) t (right (leb (r .records) m) _ b₄);
+      }
+
+  pub fits-no : (Fits i m t r → ⊥) → rowFits i m t r ≡ false
+  fits-no h = no _ (λ b. h (fits-are b))
+
+-- ---- one entry after the other
+
+-- entries in order from the byte i to the byte j, with as many records and tokens as m and t say
+abbrev pub counted : ℕ → ℕ → ℕ → ℕ → List Row → Bool
+counted i j m t rs = ascending i j rs && (eqb m (sumRecords rs) && eqb t (sumTokens rs))
+
+-- a sum of which a is known
+eqb-less : (a s m : ℕ) → a ≤ m → eqb m (a + s) ≡ eqb (m - a) s
+eqb-less a s m h =
+    same _ _
+    (λ b. let q : m ≡ a + s = eqb-true m (a + s) b in eq-eqb (m - a) s (omega arith))
+    (λ b. let q : m - a ≡ s = eqb-true (m - a) s b in eq-eqb m (a + s) (omega arith))
+
+-- the first fits, and the rest are in order for what it leaves
+pub counted-turn : (i j m t : ℕ) (r : Row) (rs : List Row)
+    → counted i j m t (r ∷ rs) ≡ (rowFits i m t r && counted (r .end) j (m - r .records) (t - r .tokens) rs)
+unfolding ascending
+counted-turn i j m t r rs =
+    cases (rowFits i m t r)
+    (λ b.
+    let f : Fits i m t r = fits-are i m t r b in
+    rw (b, le-leb _ _ (f .after), lt-ltb _ _ (f .filled), le-leb _ _ (f .hasRecord), le-leb _ _ (f .hasToken), eqb-less _ (sumRecords rs) m (f .recordsLeft), eqb-less _ (sumTokens rs) t (f .tokensLeft)))
+    (λ b. rw b (no _ (λ o.
+    let f : Ascends i j r rs = ascends i j r rs (left (ascending i j (r ∷ rs)) _ o) in
+    let s = right (ascending i j (r ∷ rs)) _ o in
+    let sm : m ≡ r .records + sumRecords rs = eqb-true m (r .records + sumRecords rs) (left _ _ s) in
+    let st : t ≡ r .tokens + sumTokens rs = eqb-true t (r .tokens + sumTokens rs) (right (eqb m (r .records + sumRecords rs)) _ s) in
+    false≢true (sym b ∙ fits-yes i m t r (record {
+      after = f .after;
+      filled = f .filled;
+      hasRecord = f .hasRecord;
+      hasToken = f .hasToken;
+      recordsLeft = omega arith;
+      tokensLeft = omega arith;
+    })))))
+
+-- no entry is left
+pub counted-none : (d : List ℕ) (i j m t k : ℕ) → k ≡ 0 → counted i j m t (rowsFrom k d) ≡ (leb i j && (eqb m 0 && eqb t 0))
+unfolding ascending
+counted-none d i j m t k h = rw (rows-none d k h)
+
+-- ---- what the test of a directory tells
+
+-- that test and the one for capacity and lent room are 20
+pub in-order-is : (R : Rooms) (L : Lent) (records : ℕ) → length (L .words) ≡ recordWidth * records
+    → inOrder R L ≡ (counted 0 (length (L .script)) records (L .tokens) (L .rows) && not (overRows R (length (L .script)) (L .rows)))
+unfolding inOrder
+in-order-is R L records size =
+    let up : Bool = ascending 0 (length (L .script)) (L .rows) in
+    let m : Bool = eqb records (sumRecords (L .rows)) in
+    let t : Bool = eqb (L .tokens) (sumTokens (L .rows)) in
+    let within : Bool = not (overRows R (length (L .script)) (L .rows)) in
+    let e : eqb (recordWidth * records) (recordWidth * sumRecords (L .rows)) ≡ m =
+    same _ _
+    (λ b. let q : recordWidth * records ≡ recordWidth * sumRecords (L .rows) = eqb-true (recordWidth * records) (recordWidth * sumRecords (L .rows)) b in eq-eqb records (sumRecords (L .rows)) (omega arith))
+    (λ b. let q : records ≡ sumRecords (L .rows) = eqb-true records (sumRecords (L .rows)) b in eq-eqb (recordWidth * records) (recordWidth * sumRecords (L .rows)) (omega arith)) in
+    rw (size, e) (sym (and-assoc up (m && t) within ∙ ap (λ (b : Bool). up && b) (and-assoc m t within)))
+
+pub record Ordered (d : List ℕ) (statements bytes records tokens : ℕ) : Type 0 where
+  pub room : entryWidth * statements ≤ length d
+  pub order : ascending 0 bytes (rowsFrom statements d) ≡ true
+  pub recordSum : records ≡ sumRecords (rowsFrom statements d)
+  pub tokenSum : tokens ≡ sumTokens (rowsFrom statements d)
+
+pub ordered : (d : List ℕ) (statements bytes records tokens : ℕ)
+    → (leb (entryWidth * statements) (length d) && counted 0 bytes records tokens (rowsFrom statements d)) ≡ true
+    → Ordered d statements bytes records tokens
+ordered d statements bytes records tokens b =
+    let rs : List Row = rowsFrom statements d in
+    let b₁ = right (leb (entryWidth * statements) (length d)) _ b in
+    let b₂ = right (ascending 0 bytes rs) _ b₁ in
+    record {
+      room = leb-true (entryWidth * statements) (length d) (left _ _ b);
+      order = left _ _ b₁;
+      recordSum = eqb-true records (sumRecords rs) (left _ _ b₂);
+      tokenSum = eqb-true tokens (sumTokens rs) (right (eqb records (sumRecords rs)) _ b₂);
+    }
+
+-- a sum over rows, of their records or of their tokens
+module _ (sum : List Row → ℕ) (of : Row → ℕ) (nil : sum [] ≡ 0) (cons : (r : Row) (rs : List Row) → sum (r ∷ rs) ≡ of r + sum rs) where
+  pub sum-joined : (xs ys : List Row) → sum (xs ++ ys) ≡ sum xs + sum ys
+  sum-joined [] ys = omega arith
+  sum-joined (x ∷ xs) ys = omega (arith, cons x xs, cons x (xs ++ ys), sum-joined xs ys)
+
+  pub sum-placed : (g : Row → Row) → ((r : Row) → of (g r) ≡ of r) → (rs : List Row) → sum (map g rs) ≡ sum rs
+  sum-placed g same [] = refl
+  sum-placed g same (r ∷ rs) = omega (arith, cons r rs, cons (g r) (map g rs), same r, sum-placed g same rs)
+
+pub records-joined : (xs ys : List Row) → sumRecords (xs ++ ys) ≡ sumRecords xs + sumRecords ys
+records-joined = sum-joined sumRecords (λ r. r .records) refl (λ r rs. refl)
+
+pub tokens-joined : (xs ys : List Row) → sumTokens (xs ++ ys) ≡ sumTokens xs + sumTokens ys
+tokens-joined = sum-joined sumTokens (λ r. r .tokens) refl (λ r rs. refl)
+
+-- of the entry that is picked: it lies inside the bytes, and its records and tokens among those that are counted
+pub record Stands (p : Pick Row) (bytes records tokens : ℕ) : Type 0 where
+  pub filled : p .one .start < p .one .end
+  pub inside : p .one .end ≤ bytes
+  pub recordsInside : sumRecords (p .before) + p .one .records ≤ records
+  pub tokensInside : sumTokens (p .before) + p .one .tokens ≤ tokens
+
+pub stands : (p : Pick Row) (bytes records tokens : ℕ) (rs : List Row) → rs ≡ p .before ++ (p .one ∷ p .behind) → ascending 0 bytes rs ≡ true
+    → records ≡ sumRecords rs → tokens ≡ sumTokens rs → Stands p bytes records tokens
+stands p bytes records tokens rs split order m t =
+    let f : Ascends 0 bytes (p .one) (p .behind) = ascending-from 0 bytes (p .before) (p .one) (p .behind) (rw split at order) in
+    let m′ : records ≡ sumRecords (p .before) + (p .one .records + sumRecords (p .behind)) = m ∙ ap sumRecords split ∙ records-joined (p .before) (p .one ∷ p .behind) in
+    let t′ : tokens ≡ sumTokens (p .before) + (p .one .tokens + sumTokens (p .behind)) = t ∙ ap sumTokens split ∙ tokens-joined (p .before) (p .one ∷ p .behind) in
+    record {
+      filled = f .filled;
+      inside = ascending-le (p .one .end) bytes (p .behind) (f .rest);
+      recordsInside = omega arith;
+      tokensInside = omega arith;
+    }

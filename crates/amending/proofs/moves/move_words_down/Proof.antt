@@ -1,0 +1,78 @@
+use denote.Ref.{now}
+use mathlib.Core.Path.{_≡_, ap, _∙_}
+use Prim.Native.Nat.{_-_, _≤_}
+use native.Mathlib.Omega.{arith}
+use lib.ListN.{length, drop}
+use lib.Seq.{paste, paste-zero}
+use Rattle.amending.proofs.MoveLaws.{down-turn}
+use borrow.Author.Needs.{needs}
+use Rattle.amending.proofs.moves.move_words_down.Statement.{statement}
+use Rattle.amending.proofs.moves.move_words_down.Tie as tie
+
+abbrev Inv-loop : tie.InvT-loop
+Inv-loop s₀ dst src n i₀ s i = (i ≤ n) × (length s ≡ length s₀) × (s ≡ paste s₀ dst (drop src s₀) i)
+
+abbrev μ-loop : tie.MeasureT-loop
+μ-loop s₀ dst src n i₀ s i = n - i
+
+loop-holds : tie.Need-loop-holds Inv-loop μ-loop
+loop-holds c =
+    (search needs, search needs, paste-zero (now (c .args .s)) (c .args .dst) (drop (c .args .src) (now (c .args .s))))
+
+add-s : tie.Need-add-s Inv-loop μ-loop
+add-s c = search needs
+
+mul-s : tie.Need-mul-s Inv-loop μ-loop
+mul-s c = search needs
+
+slice-read-s : tie.Need-slice-read-s Inv-loop μ-loop
+slice-read-s c = search needs
+
+add-s-2 : tie.Need-add-s-2 Inv-loop μ-loop
+add-s-2 c = search needs
+
+mul-s-2 : tie.Need-mul-s-2 Inv-loop μ-loop
+mul-s-2 c = search needs
+
+slice-write-s : tie.Need-slice-write-s Inv-loop μ-loop
+slice-write-s c = search needs
+
+add-i : tie.Need-add-i Inv-loop μ-loop
+add-i c = search needs
+
+loop-less : tie.Need-loop-less Inv-loop μ-loop
+loop-less c = search needs
+
+loop-again : tie.Need-loop-again Inv-loop μ-loop
+loop-again c =
+    let at-loop = c .before .before in
+    let a = at-loop .before .args in
+    (search needs, search needs, down-turn (now (a .s)) (at-loop .loop .s) (a .dst) (a .src) (a .n) (at-loop .loop .i) (search needs) (search needs) (search needs) (at-loop .loop .inv .2))
+
+same-length : tie.Need-same-length Inv-loop μ-loop
+same-length c = search needs
+
+returns : tie.Need-returns Inv-loop μ-loop
+returns c =
+    let a = c .before .before .args in
+    let e : c .before .loop .i ≡ a .n = omega arith in
+    c .before .loop .inv .2 ∙ ap (paste (now (a .s)) (a .dst) (drop (a .src) (now (a .s)))) e
+
+pub move-words-down-spec : {M : Type 1} → statement M
+move-words-down-spec =
+    tie.close
+    (tie.spec
+    Inv-loop
+    μ-loop
+    loop-holds
+    add-s
+    mul-s
+    slice-read-s
+    add-s-2
+    mul-s-2
+    slice-write-s
+    add-i
+    loop-less
+    loop-again
+    same-length
+    returns)

@@ -1,0 +1,59 @@
+use denote.Ref.{now}
+use Rattle.amending.proofs.MoveLaws.{grown, shrunk}
+use borrow.Author.Needs.{needs}
+use Rattle.amending.proofs.moves.resize_bytes.Statement.{statement}
+use Rattle.amending.proofs.moves.resize_bytes.Tie as tie
+
+add-at : tie.Need-add-at
+add-at c = search needs
+
+sub-n : tie.Need-sub-n
+sub-n c = search needs
+
+add-end : tie.Need-add-end
+add-end c = search needs
+
+move-bytes-up-requires : tie.Need-move-bytes-up-requires
+move-bytes-up-requires c κs = search needs
+
+move-bytes-down-requires : tie.Need-move-bytes-down-requires
+move-bytes-down-requires c κs = search needs
+
+sub-clear-bytes : tie.Need-sub-clear-bytes
+sub-clear-bytes c = search needs
+
+clear-bytes-requires : tie.Need-clear-bytes-requires
+clear-bytes-requires c κs = search needs
+
+same-length : tie.Need-same-length
+same-length c = search needs
+
+returns : tie.Need-returns
+returns c =
+    let a = c .before .before .before .before .before .before .args in
+    (search needs, rw (c .before .before .move-bytes-up .ensures) (grown (now (a .s)) (a .used) (a .from) (a .to) (a .k) (search needs) (search needs) (search needs) (search needs)))
+
+same-length-2 : tie.Need-same-length-2
+same-length-2 c = search needs
+
+returns-2 : tie.Need-returns-2
+returns-2 c =
+    let down = c .before .before .before .before .before .before in
+    let a = down .before .before .before .before .args in
+    (search needs, rw (c .before .before .clear-bytes .ensures, down .move-bytes-down .ensures) (shrunk (now (a .s)) (a .used) (a .from) (a .to) (a .k) (search needs) (search needs) (search needs) (search needs)))
+
+pub resize-bytes-spec : {M : Type 1} → statement M
+resize-bytes-spec =
+    tie.close
+    (tie.spec
+    add-at
+    sub-n
+    add-end
+    move-bytes-up-requires
+    move-bytes-down-requires
+    sub-clear-bytes
+    clear-bytes-requires
+    same-length
+    returns
+    same-length-2
+    returns-2)

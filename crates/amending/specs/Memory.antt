@@ -1,0 +1,102 @@
+-- The call on lent memory: three slices, and the counts that say how much of each is used.
+use mathlib.Core.Path.{_≡_}
+use mathlib.Core.Bool.{Bool, _&&_, not}
+use mathlib.Core.List.{List}
+use Prim.Native.Nat.{ℕ, _*_, min}
+use lib.Dec.{leb}
+use lib.ListN.{length, take}
+use Rattle.tokens.specs.Limits.{mostBytes, mostTokens}
+use Rattle.tokens.specs.Text.{if_then_else_}
+use Rattle.tokens.specs.Names.{Lists}
+use Rattle.tokens.specs.Places.{line, column}
+use Rattle.reading.specs.Sizes.{recordWidth, entryWidth, recordRoom, statementRoom}
+use Rattle.reading.specs.Words.{rowsWords}
+use Rattle.reading.specs.declared.reading.Answer.{Answer}
+use Rattle.amending.specs.Amending.{Rooms}
+use Rattle.amending.specs.Lent.{Lent, Handed, handed, unchanged, sumRecords, amendLent}
+use Rattle.amending.specs.Moves.{leave}
+use Rattle.amending.specs.Entries.{rowsFrom}
+use Rattle.amending.specs.declared.held.Held.{Held}
+
+-- what is lent, whole
+pub record Memory : Type 0 where
+  pub script : List ℕ
+  pub records : List ℕ
+  pub directory : List ℕ
+
+abbrev pub memory : List ℕ → List ℕ → List ℕ → Memory
+memory s r d = record { script = s; records = r; directory = d }
+
+-- capacity or lent room, of slices of so many bytes and words
+abbrev pub roomsOf : ℕ → ℕ → ℕ → Rooms
+roomsOf s r d = record { bytes = min mostBytes s; tokens = mostTokens; records = recordRoom r; statements = statementRoom d }
+
+abbrev pub roomsIn : Memory → Rooms
+roomsIn M = roomsOf (length (M .script)) (length (M .records)) (length (M .directory))
+
+-- what is used of it
+abbrev pub usedIn : Memory → Held → Lent
+usedIn M h = record {
+  script = take (h .bytes) (M .script);
+  rows = rowsFrom (h .statements) (M .directory);
+  words = take (recordWidth * h .records) (M .records);
+  tokens = h .tokens;
+}
+
+-- 20: bytes and counts within capacity and the lent slices
+unfoldable pub within : Rooms → Held → Bool
+within R h = leb (h .bytes) (R .bytes) && (leb (h .tokens) (R .tokens) && (leb (h .records) (R .records) && leb (h .statements) (R .statements)))
+
+-- the call: the k-th statement's text is replaced by n
+unfoldable pub amendIn : Lists → Memory → Held → ℕ → List ℕ → Handed
+amendIn l M h k n = if not (within (roomsIn M) h) then unchanged 20 0 else amendLent l (roomsIn M) (usedIn M h) k n
+
+-- ---- what the call answers and leaves
+
+-- accepted: 0, 0, 1, 1, and the counts of the whole
+abbrev pub acceptedWith : Held → Answer
+acceptedWith w = record {
+  number = 0;
+  byte = 0;
+  line = 1;
+  column = 1;
+  bytes = w .bytes;
+  statements = w .statements;
+  records = w .records;
+  tokens = w .tokens;
+}
+
+-- a refusal: number, byte, line and column in the new text, and the old counts
+abbrev pub refusedAt : Held → List ℕ → ℕ → ℕ → Answer
+refusedAt h n k p = record {
+  number = k;
+  byte = p;
+  line = line n p;
+  column = column n p;
+  bytes = h .bytes;
+  statements = h .statements;
+  records = h .records;
+  tokens = h .tokens;
+}
+
+-- how much is used
+abbrev pub heldBy : Lent → Held
+heldBy L = record { bytes = length (L .script); statements = length (L .rows); records = sumRecords (L .rows); tokens = L .tokens }
+
+abbrev pub answered : Held → List ℕ → Handed → Answer
+answered h n (handed L) = acceptedWith (heldBy L)
+answered h n (unchanged k p) = refusedAt h n k p
+
+-- lent memory after the call: a refusal changes none of it
+abbrev pub leftIn : Memory → Held → Handed → Memory
+leftIn M h (handed L) = record {
+  script = leave (L .script) (h .bytes) (M .script);
+  records = leave (L .words) (recordWidth * h .records) (M .records);
+  directory = leave (rowsWords (L .rows)) (entryWidth * h .statements) (M .directory);
+}
+leftIn M h (unchanged k p) = M
+
+-- the answer and the memory after the call
+pub record Amends (l : Lists) (M : Memory) (h : Held) (k : ℕ) (n : List ℕ) (r : Answer) (M′ : Memory) : Type 0 where
+  pub answer : r ≡ answered h n (amendIn l M h k n)
+  pub memory : M′ ≡ leftIn M h (amendIn l M h k n)

@@ -1,0 +1,26 @@
+-- What is said of memory that a reading or amendments left, and of any number of calls on it.
+use mathlib.Core.Path.{_≡_}
+use mathlib.Core.List.{List, [], _∷_}
+use Prim.Native.Nat.{ℕ}
+use Rattle.tokens.specs.Names.{Lists}
+use Rattle.reading.specs.declared.reading.Answer.{Answer}
+use Rattle.amending.specs.Amending.{State, Good}
+use Rattle.amending.specs.Lent.{lentOf}
+use Rattle.amending.specs.Memory.{Memory, roomsIn, usedIn, heldBy, Amends}
+use Rattle.amending.specs.declared.held.Held.{Held}
+
+-- the counts of an answer
+abbrev pub heldOf : Answer → Held
+heldOf r = record { bytes = r .bytes; statements = r .statements; records = r .records; tokens = r .tokens }
+
+-- memory whose used part is a state: a script that has no zero byte, that reads as these statements with these lists, and for which there is room
+pub record Holds (l : Lists) (M : Memory) (h : Held) (st : State) : Type 0 where
+  pub good : Good l (roomsIn M) st
+  pub used : usedIn M h ≡ lentOf st
+  pub counts : h ≡ heldBy (lentOf st)
+
+-- calls one after the other, each with the counts that the one before it answered; refused ones among them
+pub data Calls (l : Lists) : Memory → Held → List (ℕ × List ℕ) → Memory → Held → Type 0 where
+  none : {M : Memory} {h : Held} → Calls l M h [] M h
+  call : {M M₁ M₂ : Memory} {h h₂ : Held} {k : ℕ} {n : List ℕ} {cs : List (ℕ × List ℕ)} {r : Answer}
+      → Amends l M h k n r M₁ → Calls l M₁ (heldOf r) cs M₂ h₂ → Calls l M h ((k, n) ∷ cs) M₂ h₂

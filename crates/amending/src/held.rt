@@ -1,0 +1,7 @@
+// How much of the lent memory is used: bytes of the script, entries of the directory, records, and the tokens that they had.
+pub struct Held {
+    pub bytes: usize,
+    pub statements: usize,
+    pub records: usize,
+    pub tokens: usize,
+}

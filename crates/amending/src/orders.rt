@@ -1,0 +1,117 @@
+// A directory in lent words: whether its entries are in order, and how many records stand before one.
+use reading::rooms::ENTRY_WIDTH;
+ghost use mathlib.Core.Path.{_≡_};
+ghost use mathlib.Core.Bool.{_&&_};
+ghost use Prim.Native.Nat.{_*_, _^_, _≤_, _<_};
+ghost use lib.Dec.{leb, eqb};
+ghost use lib.ListN.{length};
+ghost use Rattle.reading.specs.Sizes.{entryWidth};
+ghost use Rattle.amending.specs.Lent.{ascending, sumRecords, sumTokens};
+ghost use Rattle.amending.specs.Entries.{rowsFrom, rowFits};
+
+pub fn wide(x: u32) -> usize
+    ensures { λ r. ⌜ r ≡ x ⌝ }
+{
+    x as usize
+}
+
+// Whether an entry lies from the byte `after` on, is not empty, has a record and a token, and no more of them than are left.
+fn row_fits(
+    start: usize,
+    end: usize,
+    records: usize,
+    tokens: usize,
+    after: usize,
+    records_left: usize,
+    tokens_left: usize,
+) -> bool
+    ensures { λ ok. ⌜ ok ≡ rowFits after «records_left» «tokens_left» (record { start = start; end = end; records = records; tokens = tokens }) ⌝ }
+{
+    if start < after {
+        return false;
+    }
+    if end <= start {
+        return false;
+    }
+    if records == 0 {
+        return false;
+    }
+    if tokens == 0 {
+        return false;
+    }
+    if records_left < records {
+        return false;
+    }
+    if tokens_left < tokens {
+        return false;
+    }
+    true
+}
+
+// Whether the last entry ends inside the script, and no records and tokens are left.
+fn nothing_left(after: usize, bytes: usize, records: usize, tokens: usize) -> bool
+    ensures { λ ok. ⌜ ok ≡ (leb after bytes && (eqb records 0 && eqb tokens 0)) ⌝ }
+{
+    if bytes < after {
+        return false;
+    }
+    if records != 0 {
+        return false;
+    }
+    tokens == 0
+}
+
+// Whether the directory has so many entries, in order, for a script of so many bytes, records and tokens.
+// What an entry counts is taken from what is left, so that no sum can wrap.
+pub fn in_order(
+    directory: &[u32],
+    statements: usize,
+    bytes: usize,
+    records: usize,
+    tokens: usize,
+) -> bool
+    ensures { λ r. ⌜ r ≡ (leb (entryWidth * statements) (length (now (directory .entry)))
+        && (ascending 0 bytes (rowsFrom statements (now (directory .entry)))
+        && (eqb records (sumRecords (rowsFrom statements (now (directory .entry))))
+        && eqb tokens (sumTokens (rowsFrom statements (now (directory .entry))))))) ⌝ }
+{
+    if directory.len() / ENTRY_WIDTH < statements {
+        return false;
+    }
+    let mut left = statements;
+    let mut at = 0;
+    let mut after = 0;
+    let mut records_left = records;
+    let mut tokens_left = tokens;
+    while 0 < left {
+        let start = wide(directory[at]);
+        let end = wide(directory[at + 1]);
+        let nodes = wide(directory[at + 2]);
+        let count = wide(directory[at + 3]);
+        if !row_fits(start, end, nodes, count, after, records_left, tokens_left) {
+            return false;
+        }
+        after = end;
+        records_left -= nodes;
+        tokens_left -= count;
+        at += ENTRY_WIDTH;
+        left -= 1;
+    }
+    nothing_left(after, bytes, records_left, tokens_left)
+}
+
+// How many records the first `number` statements have.
+pub fn records_before(directory: &[u32], number: usize) -> usize
+    requires { ⌜ (entryWidth * number ≤ length (now directory)) × (sumRecords (rowsFrom number (now directory)) < 2 ^ 64) ⌝ }
+    ensures { λ r. ⌜ r ≡ sumRecords (rowsFrom number (now (directory .entry))) ⌝ }
+{
+    let mut left = number;
+    let mut at = 0;
+    let mut sum = 0;
+    while 0 < left {
+        sum += wide(directory[at + 2]);
+        at += ENTRY_WIDTH;
+        left -= 1;
+    }
+    sum
+}
