@@ -34,6 +34,14 @@ pub fn behind(at: usize, end: usize) -> usize
     if at < end { at + 1 } else { end }
 }
 
+// Where what follows the field from `at` on begins.
+pub fn after(s: &[u8], at: usize, end: usize) -> usize
+    requires { ⌜ (at ≤ end) × (end ≤ length (now s)) ⌝ }
+    ensures { λ r. ⌜ (at ≤ r) × (r ≤ end) ⌝ }
+{
+    behind(seek(s, at, end, b' '), end)
+}
+
 // What a hex digit counts; 16 for any other byte.
 pub fn worth(b: u8) -> usize
     ensures { λ r. ⌜ r ≤ 16 ⌝ }

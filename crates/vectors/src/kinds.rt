@@ -1,6 +1,8 @@
 // The kinds of lines.
 use tokens::text::equal;
 
+pub const NOTHING: usize = 0;
+
 pub const DEFINE: usize = 1;
 
 pub const CASE: usize = 2;

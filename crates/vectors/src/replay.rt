@@ -5,6 +5,7 @@ use crate::comparing::compare_left;
 use crate::comparing::is_changed;
 use crate::comparing::is_left;
 use crate::fields::MALFORMED;
+use crate::fields::after;
 use crate::fields::behind;
 use crate::fields::number;
 use crate::fields::numbers;
@@ -14,11 +15,14 @@ use crate::kinds::CASE;
 use crate::kinds::COUNTS;
 use crate::kinds::DIRECTORY;
 use crate::kinds::LISTS;
+use crate::kinds::NOTHING;
+use crate::kinds::PART;
 use crate::kinds::READ;
 use crate::kinds::RECORDS;
 use crate::kinds::SCRIPT;
 use crate::kinds::UNKNOWN;
 use crate::kinds::kind_of;
+use crate::lookups::take_part;
 use crate::memory::Bytes;
 use crate::memory::ROOM;
 use crate::memory::Words;
@@ -250,7 +254,7 @@ fn take_memory(
     }
 }
 
-// Takes a line that is neither a read nor lists. What a call that was run must have left is compared.
+// Takes any other line. What a call that was run must have left is compared.
 fn take_other(
     kind: usize,
     s: &[u8],
@@ -274,17 +278,23 @@ fn take_other(
     take_memory(kind, s, at, end, script, records, directory, state)
 }
 
-fn is_nothing(s: &[u8], at: usize, end: usize) -> bool
+// The kind of a line. An empty one and a comment mean nothing.
+fn kind_at(s: &[u8], at: usize, end: usize) -> usize
     requires { ⌜ (at ≤ end) × (end ≤ length (now s)) ⌝ }
 {
     if at == end {
-        return true;
+        return NOTHING;
     }
-    s[at] == b'#'
+    if s[at] == b'#' {
+        return NOTHING;
+    }
+    let w = seek(s, at, end, b' ');
+    kind_of(&s[at..w])
 }
 
-// Takes a line. What it comes to is above the room where it differs, is not in the format or has no room.
+// Takes the fields of a line. What it comes to is above the room where it differs, is not in the format or has no room.
 fn take_line(
+    kind: usize,
     s: &[u8],
     at: usize,
     end: usize,
@@ -299,29 +309,23 @@ fn take_line(
 ) -> usize
     requires { ⌜ (at ≤ end) × (end ≤ length (now s)) ⌝ }
 {
-    if is_nothing(s, at, end) {
-        return 0;
+    match kind {
+        READ => {
+            let given = run_read(
+                script,
+                records,
+                directory,
+                reserved,
+                currencies,
+                days,
+                state,
+            );
+            take_answer(s, at, end, given, state, tally)
+        }
+        LISTS => take_lists(s, at, end, reserved, currencies, days, state),
+        PART => take_part(s, at, end, script, currencies, state),
+        _ => take_other(kind, s, at, end, script, records, directory, state, tally),
     }
-    let w = seek(s, at, end, b' ');
-    let kind = kind_of(&s[at..w]);
-    let a = behind(w, end);
-    count_line(tally, kind);
-    if kind == READ {
-        let given = run_read(
-            script,
-            records,
-            directory,
-            reserved,
-            currencies,
-            days,
-            state,
-        );
-        return take_answer(s, a, end, given, state, tally);
-    }
-    if kind == LISTS {
-        return take_lists(s, a, end, reserved, currencies, days, state);
-    }
-    take_other(kind, s, a, end, script, records, directory, state, tally)
 }
 
 // Replays the lines of a file.
@@ -336,9 +340,12 @@ pub fn replay(path: &[u8], s: &[u8], tally: &mut Tallies) {
     let mut at: usize = 0;
     while at < s.len() {
         let end = seek(s, at, s.len(), b'\n');
+        let kind = kind_at(s, at, end);
+        count_line(tally, kind);
         let outcome = take_line(
+            kind,
             s,
-            at,
+            after(s, at, end),
             end,
             &mut script,
             &mut records,

@@ -52,6 +52,27 @@ pub fn say_answer(a: Answer) {
     say(b" for ");
 }
 
+fn say_byte(b: u8) {
+    io::print_hex(STDOUT_FILENO, b as u64, 2);
+}
+
+fn say_bytes(bytes: &[u8]) {
+    let mut i: usize = 0;
+    while i < bytes.len() {
+        say_byte(bytes[i]);
+        i += 1;
+    }
+}
+
+// A part that a lookup handed back and that differs.
+pub fn say_part(part: &[u8]) {
+    say(b"given ");
+    say_number(part.len());
+    say(b" bytes ");
+    say_bytes(part);
+    say(b" for ");
+}
+
 // A word that a read left and that differs, and where it stands, from 0.
 pub fn say_word(at: usize, word: u32) {
     say(b"left ");
@@ -116,9 +137,9 @@ pub fn say_tally(tally: &Tallies) {
     say_grounds(tally);
     say_count(b"cases", tally[LINES + CASE]);
     say_count(b"reads", tally[LINES + READ]);
+    say_count(b"parts", tally[LINES + PART]);
     say_count(b"lines of memory compared", tally[COMPARED]);
     say_count(b"differences", tally[DIFFERENCES]);
     say_count(b"amends, not run", tally[LINES + AMEND]);
-    say_count(b"parts, not run", tally[LINES + PART]);
     say_count(b"lines not taken", tally[REFUSED]);
 }

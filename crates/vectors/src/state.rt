@@ -1,6 +1,6 @@
 // What is known of a case between its lines, in one array: how much is used of each memory, the four counts, where the case's
-// text begins, whether the call before was run, and whether it changed memory. The counts are kept for the calls that are not
-// run yet.
+// text begins, whether the call before was run, and whether it changed memory. A lookup goes by the count of bytes; the others
+// are kept for the call that is not run yet.
 pub type State = [usize; 13];
 
 pub const SCRIPT_SIZE: usize = 0;
@@ -15,7 +15,13 @@ pub const CURRENCIES_SIZE: usize = 4;
 
 pub const DAYS_SIZE: usize = 5;
 
-const COUNTS_AT: usize = 6;
+pub const BYTES_HELD: usize = 6;
+
+const STATEMENTS_HELD: usize = 7;
+
+const RECORDS_HELD: usize = 8;
+
+const TOKENS_HELD: usize = 9;
 
 pub const CASE_AT: usize = 10;
 
@@ -44,8 +50,8 @@ pub fn keep_counts(
     records: usize,
     tokens: usize,
 ) {
-    state[COUNTS_AT] = bytes;
-    state[COUNTS_AT + 1] = statements;
-    state[COUNTS_AT + 2] = records;
-    state[COUNTS_AT + 3] = tokens;
+    state[BYTES_HELD] = bytes;
+    state[STATEMENTS_HELD] = statements;
+    state[RECORDS_HELD] = records;
+    state[TOKENS_HELD] = tokens;
 }

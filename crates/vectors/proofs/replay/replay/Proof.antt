@@ -19,6 +19,15 @@ loop-holds c = search needs
 seek-requires : tie.Need-seek-requires Inv-loop μ-loop
 seek-requires c κs = search needs
 
+kind-at-requires : tie.Need-kind-at-requires Inv-loop μ-loop
+kind-at-requires c κs = search needs
+
+count-line-requires : tie.Need-count-line-requires Inv-loop μ-loop
+count-line-requires c κs = search needs
+
+after-requires : tie.Need-after-requires Inv-loop μ-loop
+after-requires c κs = search needs
+
 take-line-requires : tie.Need-take-line-requires Inv-loop μ-loop
 take-line-requires c κs = search needs
 
@@ -54,6 +63,9 @@ replay-spec =
     μ-loop
     loop-holds
     seek-requires
+    kind-at-requires
+    count-line-requires
+    after-requires
     take-line-requires
     count-outcome-requires
     array-read-say-outcome

@@ -1,0 +1,122 @@
+// The lookup of a record's name, run and compared.
+use crate::comparing::DIFFERS;
+use crate::fields::LARGEST;
+use crate::fields::MALFORMED;
+use crate::fields::after;
+use crate::fields::behind;
+use crate::fields::numbers;
+use crate::fields::seek;
+use crate::memory::Bytes;
+use crate::memory::Words;
+use crate::memory::front;
+use crate::memory::load_words;
+use crate::report::say_part;
+use crate::state::BYTES_HELD;
+use crate::state::CURRENCIES_SIZE;
+use crate::state::SCRIPT_SIZE;
+use crate::state::State;
+use reading::parts::part;
+use reading::rooms::RECORD_WIDTH;
+use tokens::text::equal;
+ghost use Prim.Native.Nat.{_≤_};
+ghost use lib.ListN.{length};
+
+// Whether a part has the length and the bytes of the one of `size` bytes at `place` of a source. That it begins at this
+// place, in the same memory, no run can tell, since the language compares no addresses: the contract of `part` says it.
+fn is_part(given: &[u8], source: &[u8], place: usize, size: usize) -> bool {
+    if given.len() != size {
+        return false;
+    }
+    if source.len() < place {
+        return false;
+    }
+    equal(given, front(&source[place..], size))
+}
+
+// Runs the lookup on a record, which is lent its seven words and none behind them.
+fn part_of_words<'a>(
+    script: &'a [u8],
+    currencies: &'a [u8],
+    words: &[u32],
+    start: u32,
+    second: bool,
+) -> &'a [u8]
+    requires { ⌜ 7 ≤ length (now words) ⌝ }
+{
+    part(script, currencies, &words[..RECORD_WIDTH], start, second)
+}
+
+// Whether fields name a first or second name, and a source that there is. A source is taken with the space behind it.
+fn is_asked(which: usize, source: &[u8]) -> bool {
+    (which == 1 || which == 2) && (equal(source, b"c ") || equal(source, b"s "))
+}
+
+// Runs the lookup, asked for the name `which`, and compares.
+fn look_up<'a>(
+    script: &'a [u8],
+    currencies: &'a [u8],
+    words: &Words,
+    start: usize,
+    which: usize,
+    source: &[u8],
+    place: usize,
+    size: usize,
+) -> usize {
+    if LARGEST < start {
+        return MALFORMED;
+    }
+    if !is_asked(which, source) {
+        return MALFORMED;
+    }
+    let given = part_of_words(script, currencies, words, start as u32, which == 2);
+    let same = if equal(source, b"c ") {
+        is_part(given, currencies, place, size)
+    } else {
+        is_part(given, script, place, size)
+    };
+    if same {
+        return 0;
+    }
+    say_part(given);
+    DIFFERS
+}
+
+// Takes a line that asks for a part: the words of a record, its statement's start, which name, and the part that is expected.
+pub fn take_part<'a>(
+    s: &[u8],
+    at: usize,
+    end: usize,
+    script: &'a Bytes,
+    currencies: &'a Bytes,
+    state: &State,
+) -> usize
+    requires { ⌜ (at ≤ end) × (end ≤ length (now s)) ⌝ }
+{
+    let f = seek(s, at, end, b' ');
+    let g = behind(f, end);
+    let h = after(s, after(s, g, end), end);
+    let i = after(s, h, end);
+    let source = &s[h..i];
+    let mut words = [0u32; 32768];
+    if load_words(s, at, f, &mut words) != RECORD_WIDTH {
+        return MALFORMED;
+    }
+    let mut asked = [0usize; 8];
+    if numbers(s, g, h, &mut asked) != 2 {
+        return MALFORMED;
+    }
+    let mut told = [0usize; 8];
+    if numbers(s, i, end, &mut told) != 2 {
+        return MALFORMED;
+    }
+    look_up(
+        front(front(script, state[SCRIPT_SIZE]), state[BYTES_HELD]),
+        front(currencies, state[CURRENCIES_SIZE]),
+        &words,
+        asked[0],
+        asked[1],
+        source,
+        told[0],
+        told[1],
+    )
+}
