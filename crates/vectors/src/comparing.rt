@@ -9,6 +9,7 @@ use crate::memory::Words;
 use crate::memory::front;
 use crate::memory::load_bytes;
 use crate::memory::load_words;
+use crate::report::say_left;
 use crate::report::say_word;
 use crate::state::CHANGED;
 use crate::state::DIRECTORY_SIZE;
@@ -63,7 +64,7 @@ pub fn is_changed(before: &Words, after: &Words, n: usize) -> bool
     first_difference(before, after, n) < n
 }
 
-fn is_same(a: &Bytes, b: &Bytes, n: usize) -> bool {
+pub fn is_same(a: &Bytes, b: &Bytes, n: usize) -> bool {
     equal(front(a, n), front(b, n))
 }
 
@@ -79,7 +80,11 @@ fn compare_bytes(s: &[u8], at: usize, end: usize, left: &Bytes, size: usize) -> 
     if n != size {
         return DIFFERS;
     }
-    if is_same(&told, left, n) { n } else { DIFFERS }
+    if is_same(&told, left, n) {
+        return n;
+    }
+    say_left(front(left, n));
+    DIFFERS
 }
 
 // Compares words of memory with those that a line gives, whole.

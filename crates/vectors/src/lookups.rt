@@ -11,10 +11,10 @@ use crate::memory::Words;
 use crate::memory::front;
 use crate::memory::load_words;
 use crate::report::say_part;
-use crate::state::BYTES_HELD;
 use crate::state::CURRENCIES_SIZE;
 use crate::state::SCRIPT_SIZE;
 use crate::state::State;
+use crate::state::held;
 use reading::parts::part;
 use reading::rooms::RECORD_WIDTH;
 use tokens::text::equal;
@@ -110,7 +110,7 @@ pub fn take_part<'a>(
         return MALFORMED;
     }
     look_up(
-        front(front(script, state[SCRIPT_SIZE]), state[BYTES_HELD]),
+        front(front(script, state[SCRIPT_SIZE]), held(state).bytes),
         front(currencies, state[CURRENCIES_SIZE]),
         &words,
         asked[0],

@@ -1,7 +1,8 @@
 // Replays stored cases: reads the files that its arguments name, runs what each line of them asks, and compares.
-// A `read` is run on the memory that its case lends: its answer must be the stored one, and every lent byte and word must be
-// left as stored. A `part` is looked up: what it hands back must have the stored length, and the bytes of the stored part. An
-// `amend` is counted and not run.
+// A `read` or an `amend` is run on the memory that its case lends: its answer must be the stored one, and every lent byte and
+// word must be left as stored. A `part` is looked up: what it hands back must have the stored length, and the bytes of the
+// stored part.
+mod calls;
 mod comparing;
 mod fields;
 mod kinds;

@@ -1,13 +1,12 @@
 // The lines of a file, one after the other.
+use crate::calls::run;
 use crate::comparing::DIFFERS;
 use crate::comparing::agrees;
 use crate::comparing::compare_left;
-use crate::comparing::is_changed;
 use crate::comparing::is_left;
 use crate::fields::MALFORMED;
 use crate::fields::after;
 use crate::fields::behind;
-use crate::fields::number;
 use crate::fields::numbers;
 use crate::fields::seek;
 use crate::kinds::AMEND;
@@ -26,13 +25,12 @@ use crate::lookups::take_part;
 use crate::memory::Bytes;
 use crate::memory::ROOM;
 use crate::memory::Words;
-use crate::memory::front;
 use crate::memory::load_bytes;
 use crate::memory::load_words;
 use crate::report::say_answer;
 use crate::report::say_outcome;
+use crate::state::ASKED;
 use crate::state::CASE_AT;
-use crate::state::CHANGED;
 use crate::state::CURRENCIES_SIZE;
 use crate::state::DAYS_SIZE;
 use crate::state::DIRECTORY_SIZE;
@@ -51,7 +49,6 @@ use crate::tally::count_difference;
 use crate::tally::count_line;
 use crate::tally::count_outcome;
 use reading::reading::Answer;
-use reading::reading::read;
 ghost use Prim.Native.Nat.{_≤_};
 ghost use lib.ListN.{length};
 
@@ -109,69 +106,18 @@ fn compared(answer: &[usize; 8], given: Answer, tally: &mut Tallies) -> usize {
     DIFFERS
 }
 
-// The size of lent memory: one above the room was told of when its line was taken.
-fn lent(size: usize) -> usize
-    ensures { λ r. ⌜ r ≤ 32768 ⌝ }
+// Where the answer of a call begins: an amend's behind its statement and its text.
+fn answer_at(kind: usize, s: &[u8], at: usize, end: usize) -> usize
+    requires { ⌜ (at ≤ end) × (end ≤ length (now s)) ⌝ }
+    ensures { λ r. ⌜ (at ≤ r) × (r ≤ end) ⌝ }
 {
-    if size < ROOM { size } else { ROOM }
+    if kind == READ {
+        return at;
+    }
+    after(s, after(s, at, end), end)
 }
 
-// Runs a read that is lent so many words of records and directory.
-fn read_words(
-    script: &[u8],
-    reserved: &[u8],
-    currencies: &[u8],
-    days: &[u8],
-    records: &mut [u32],
-    record_words: usize,
-    directory: &mut [u32],
-    directory_words: usize,
-) -> Answer
-    requires { ⌜ («record_words» ≤ length (now records)) × («directory_words» ≤ length (now directory)) ⌝ }
-{
-    read(
-        script,
-        reserved,
-        currencies,
-        days,
-        &mut records[..record_words],
-        &mut directory[..directory_words],
-    )
-}
-
-// Runs a read on the memory of the case, and notes whether that changed any lent word of it. It cannot change the script,
-// which it takes by `&`.
-fn run_read(
-    script: &Bytes,
-    records: &mut Words,
-    directory: &mut Words,
-    reserved: &Bytes,
-    currencies: &Bytes,
-    days: &Bytes,
-    state: &mut State,
-) -> Answer {
-    let records_before = *records;
-    let directory_before = *directory;
-    let n = lent(state[RECORDS_SIZE]);
-    let m = lent(state[DIRECTORY_SIZE]);
-    let given = read_words(
-        front(script, state[SCRIPT_SIZE]),
-        front(reserved, state[RESERVED_SIZE]),
-        front(currencies, state[CURRENCIES_SIZE]),
-        front(days, state[DAYS_SIZE]),
-        records,
-        n,
-        directory,
-        m,
-    );
-    let changed = is_changed(&records_before, records, n)
-        || is_changed(&directory_before, directory, m);
-    state[RAN] = 1;
-    state[CHANGED] = if changed { 1 } else { 0 };
-    given
-}
-
-// Compares what a read gave with the stored answer, whose counts are those of the calls that follow.
+// Compares what a call gave, whose counts are those of the calls that follow, with the stored answer.
 fn take_answer(
     s: &[u8],
     at: usize,
@@ -182,6 +128,16 @@ fn take_answer(
 ) -> usize
     requires { ⌜ (at ≤ end) × (end ≤ length (now s)) ⌝ }
 {
+    keep_counts(
+        state,
+        given.bytes,
+        given.statements,
+        given.records,
+        given.tokens,
+    );
+    if ROOM < state[ASKED] {
+        return state[ASKED];
+    }
     let mut answer = [0usize; 8];
     if numbers(s, at, end, &mut answer) != 8 {
         return MALFORMED;
@@ -189,33 +145,10 @@ fn take_answer(
     if GROUNDS <= answer[0] {
         return MALFORMED;
     }
-    keep_counts(state, answer[4], answer[5], answer[6], answer[7]);
     compared(&answer, given, tally)
 }
 
-// Takes the text of an amend and its answer's counts, which are those of the calls that follow. It is not run yet.
-fn take_amend(s: &[u8], at: usize, end: usize, state: &mut State) -> usize
-    requires { ⌜ (at ≤ end) × (end ≤ length (now s)) ⌝ }
-{
-    let f = seek(s, at, end, b' ');
-    let g = behind(f, end);
-    let h = seek(s, g, end, b' ');
-    let i = behind(h, end);
-    let statement = number(s, at, f, false);
-    let mut answer = [0usize; 8];
-    if statement == MALFORMED {
-        return MALFORMED;
-    }
-    if numbers(s, i, end, &mut answer) != 8 {
-        return MALFORMED;
-    }
-    keep_counts(state, answer[4], answer[5], answer[6], answer[7]);
-    state[RAN] = 0;
-    let mut text = [0u8; 32768];
-    load_bytes(s, g, h, &mut text)
-}
-
-// Takes a line that begins a case or says what memory holds. Memory behind a call that is not run is what it must have left.
+// Takes a line that begins a case or says what memory holds.
 fn take_memory(
     kind: usize,
     s: &[u8],
@@ -254,7 +187,7 @@ fn take_memory(
     }
 }
 
-// Takes any other line. What a call that was run must have left is compared.
+// Takes any other line. What the calls before must have left is compared.
 fn take_other(
     kind: usize,
     s: &[u8],
@@ -268,9 +201,6 @@ fn take_other(
 ) -> usize
     requires { ⌜ (at ≤ end) × (end ≤ length (now s)) ⌝ }
 {
-    if kind == AMEND {
-        return take_amend(s, at, end, state);
-    }
     if state[RAN] == 1 && is_left(kind) {
         count_compared(tally);
         return compare_left(kind, s, at, end, script, records, directory, state);
@@ -310,8 +240,13 @@ fn take_line(
     requires { ⌜ (at ≤ end) × (end ≤ length (now s)) ⌝ }
 {
     match kind {
-        READ => {
-            let given = run_read(
+        READ | AMEND => {
+            let from = answer_at(kind, s, at, end);
+            let given = run(
+                kind,
+                s,
+                at,
+                end,
                 script,
                 records,
                 directory,
@@ -320,7 +255,7 @@ fn take_line(
                 days,
                 state,
             );
-            take_answer(s, at, end, given, state, tally)
+            take_answer(s, from, end, given, state, tally)
         }
         LISTS => take_lists(s, at, end, reserved, currencies, days, state),
         PART => take_part(s, at, end, script, currencies, state),
@@ -336,7 +271,7 @@ pub fn replay(path: &[u8], s: &[u8], tally: &mut Tallies) {
     let mut reserved = [0u8; 32768];
     let mut currencies = [0u8; 32768];
     let mut days = [0u8; 32768];
-    let mut state = [0usize; 13];
+    let mut state = [0usize; 14];
     let mut at: usize = 0;
     while at < s.len() {
         let end = seek(s, at, s.len(), b'\n');

@@ -31,7 +31,7 @@ fn say_line(s: &[u8], at: usize) {
     }
 }
 
-// What a read gave that differs. `say_outcome` goes on with the file, the case and the line, which has the stored answer.
+// What a call gave that differs. `say_outcome` goes on with the file, the case and the line, which has the stored answer.
 pub fn say_answer(a: Answer) {
     say(b"given ");
     say_number(a.number as usize);
@@ -73,7 +73,14 @@ pub fn say_part(part: &[u8]) {
     say(b" for ");
 }
 
-// A word that a read left and that differs, and where it stands, from 0.
+// The bytes that a call left and that differ.
+pub fn say_left(bytes: &[u8]) {
+    say(b"left ");
+    say_bytes(bytes);
+    say(b" for ");
+}
+
+// A word that a call left and that differs, and where it stands, from 0.
 pub fn say_word(at: usize, word: u32) {
     say(b"left ");
     io::print_hex(STDOUT_FILENO, word as u64, 1);
@@ -137,9 +144,9 @@ pub fn say_tally(tally: &Tallies) {
     say_grounds(tally);
     say_count(b"cases", tally[LINES + CASE]);
     say_count(b"reads", tally[LINES + READ]);
+    say_count(b"amends", tally[LINES + AMEND]);
     say_count(b"parts", tally[LINES + PART]);
     say_count(b"lines of memory compared", tally[COMPARED]);
     say_count(b"differences", tally[DIFFERENCES]);
-    say_count(b"amends, not run", tally[LINES + AMEND]);
     say_count(b"lines not taken", tally[REFUSED]);
 }

@@ -1,7 +1,8 @@
 // What is known of a case between its lines, in one array: how much is used of each memory, the four counts, where the case's
-// text begins, whether the call before was run, and whether it changed memory. A lookup goes by the count of bytes; the others
-// are kept for the call that is not run yet.
-pub type State = [usize; 13];
+// text begins, whether a call was run, whether the last one changed memory, and what the fields that it was asked with came to.
+use amending::held::Held;
+
+pub type State = [usize; 14];
 
 pub const SCRIPT_SIZE: usize = 0;
 
@@ -15,7 +16,7 @@ pub const CURRENCIES_SIZE: usize = 4;
 
 pub const DAYS_SIZE: usize = 5;
 
-pub const BYTES_HELD: usize = 6;
+const BYTES_HELD: usize = 6;
 
 const STATEMENTS_HELD: usize = 7;
 
@@ -29,6 +30,8 @@ pub const RAN: usize = 11;
 
 pub const CHANGED: usize = 12;
 
+pub const ASKED: usize = 13;
+
 // A case begins: all memory is forgotten.
 pub fn begin(state: &mut State, at: usize) {
     state[SCRIPT_SIZE] = 0;
@@ -41,6 +44,7 @@ pub fn begin(state: &mut State, at: usize) {
     state[CASE_AT] = at;
     state[RAN] = 0;
     state[CHANGED] = 0;
+    state[ASKED] = 0;
 }
 
 pub fn keep_counts(
@@ -54,4 +58,19 @@ pub fn keep_counts(
     state[STATEMENTS_HELD] = statements;
     state[RECORDS_HELD] = records;
     state[TOKENS_HELD] = tokens;
+}
+
+// A call was run, and changed memory or did not.
+pub fn note_call(state: &mut State, changed: bool) {
+    state[RAN] = 1;
+    state[CHANGED] = if changed { 1 } else { 0 };
+}
+
+pub fn held(state: &State) -> Held {
+    Held {
+        bytes: state[BYTES_HELD],
+        statements: state[STATEMENTS_HELD],
+        records: state[RECORDS_HELD],
+        tokens: state[TOKENS_HELD],
+    }
 }

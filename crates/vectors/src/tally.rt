@@ -1,6 +1,6 @@
-// What was counted, in one array: places 0 to 20 hold the reads with each answer, those from 21 on those of them that differ,
-// then the lines of each kind, and last the lines of memory that were compared, all differences and the lines that were not
-// taken.
+// What was counted, in one array: places 0 to 20 hold the reads and amends with each answer, those from 21 on those of them
+// that differ, then the lines of each kind, and last the lines of memory that were compared, all differences and the lines that
+// were not taken.
 use crate::comparing::DIFFERS;
 use crate::kinds::UNKNOWN;
 
@@ -26,7 +26,7 @@ pub fn count(tally: &mut Tallies, at: usize) {
     }
 }
 
-// A read with this answer gave another.
+// A call with this answer gave another.
 pub fn count_difference(tally: &mut Tallies, ground: usize) {
     if ground < GROUNDS {
         count(tally, GROUNDS + ground);

@@ -2,8 +2,8 @@
 use mathlib.Core.Path.{sym}
 use lib.Seq.{length-take-le}
 use borrow.Author.Needs.{needs}
-use Rattle.vectors.proofs.replay.read_words.Statement.{statement}
-use Rattle.vectors.proofs.replay.read_words.Tie as tie
+use Rattle.vectors.proofs.calls.read_words.Statement.{statement}
+use Rattle.vectors.proofs.calls.read_words.Tie as tie
 
 slice-relend-prefix-read : tie.Need-slice-relend-prefix-read
 slice-relend-prefix-read c = search needs
