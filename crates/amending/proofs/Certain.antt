@@ -1,21 +1,17 @@
 -- WHAT IS CERTAIN OF AN AMENDMENT, on one page. `Leaves` is the contract of `read`, `Amends` that of `amend`; both hold of the code, for all input.
 -- What is assumed below, and no more: the lists l are the same throughout; the script is the first bytes of its slice, as many as the counts say; and the memory
 -- was left by a reading (`read-holds`) or by calls on such memory (`calls-hold`). That is what `Holds` says. No ground checks it, so the theorems name it.
-use mathlib.Core.Path.{_≡_, refl, sym, ap, _∙_, subst}
-use mathlib.Core.Bool.{Bool, true, false, not}
-use mathlib.Core.List.{List, [], _∷_, _++_, map}
-use mathlib.Core.Option.{Option, none, some}
-use Prim.Native.Nat.{ℕ, _+_, _-_, _*_, _/_, _≤_}
+use mathlib.Core.Path.{_≡_, sym, ap, _∙_, subst}
+use mathlib.Core.List.{List, _++_, map}
+use Prim.Native.Nat.{ℕ, _+_, _-_, _*_, _/_}
 use native.Mathlib.Omega.{arith}
-use lib.Dec.{ltb}
-use lib.ListN.{length, take, drop, length-append, length-drop, length-map}
+use lib.ListN.{length, take, length-map}
 use lib.Seq.{take-at}
-use borrow.Author.Tests.{ltb-false}
-use Rattle.tokens.specs.Text.{if_then_else_, script}
+use Rattle.tokens.specs.Text.{script}
 use Rattle.tokens.specs.Names.{Lists}
 use Rattle.reading.specs.Sizes.{recordWidth, entryWidth, mostRecords, mostStatements, recordRoom, statementRoom}
 use Rattle.reading.specs.Trees.{records}
-use Rattle.reading.specs.Script.{Entry, Outcome, accepted, refused, fitting, readScript, reading, noZero, nodes, tokensOf}
+use Rattle.reading.specs.Script.{Entry, Outcome, accepted, refused, fitting, readScript, reading, nodes, tokensOf}
 use Rattle.reading.specs.Words.{wordsOf, rowOf, directoryOf, rowsWords}
 use Rattle.reading.specs.Judging.{judgedOf, lastEnd}
 use Rattle.reading.specs.Reading.{answerOf, over, leftBy, readInto, Leaves}
@@ -24,8 +20,8 @@ use Rattle.reading.proofs.AmendBytes.{Accepted, read-accepted, script-noZero, r
 use Rattle.reading.proofs.JudgeLaws.{script-in, script-take}
 use Rattle.reading.proofs.WordLaws.{words-length, words-before, directory-length}
 use Rattle.reading.proofs.ReadLaws.{room-in}
-use Rattle.amending.specs.Amend.{endsWell, replaced, amendedList}
-use Rattle.amending.specs.Amending.{State, Rooms, Pick, pick, over as overRooms, Answer as Result, done, refusal, fitting as fittingRooms, put, amendAt, amend, left, after, Good}
+use Rattle.amending.specs.Amend.{replaced}
+use Rattle.amending.specs.Amending.{State, Rooms, Pick, Answer as Result, done, amend, left, after}
 use Rattle.amending.specs.Lent.{Lent, sumRecords, lentOf, given}
 use Rattle.amending.specs.Memory.{Memory, memory, roomsIn, usedIn, heldBy, answered, Amends}
 use Rattle.amending.specs.Entries.{rowsFrom}
@@ -36,65 +32,7 @@ use Rattle.amending.proofs.AmendingLaws.{pick-split, words-amended}
 use Rattle.amending.proofs.LentLaws.{sum-nodes}
 use Rattle.amending.proofs.Directory.{good-reading, reading-good}
 use Rattle.amending.proofs.GroundLaws.{Within, entries-fit}
-use Rattle.amending.proofs.StateLaws.{held-within, call-is, call-holds}
-
-over-length : (ws o : List ℕ) → length ws ≤ length o → length (over ws o) ≡ length o
-over-length ws o h = length-append ws (drop (length ws) o) ∙ omega (arith, length-drop (length ws) o)
-
-reading-is : (l : Lists) (a b : ℕ) (bs : List ℕ) → fitting (length (script bs)) a b (readScript l bs) ≡ reading l a b bs
-unfolding reading
-reading-is l a b bs = refl
-
--- what is accepted with room fits
-fits-are : (n a b : ℕ) (x : Outcome) (es : List Entry) → fitting n a b x ≡ accepted es → (x ≡ accepted es) × (nodes es ≤ a) × (length es ≤ b)
-fits-are n a b (refused f p) es e = absurd (let z : _≡_ {A = ℕ} 0 1 = cc in omega arith)
-fits-are n a b (accepted fs) es e = go (ltb a (nodes fs)) refl (ltb b (length fs)) refl e
-  where
-    go : (s : Bool) → ltb a (nodes fs) ≡ s → (t : Bool) → ltb b (length fs) ≡ t → (if s then refused 16 n else if t then refused 16 n else accepted fs) ≡ accepted es
-        → (accepted fs ≡ accepted es) × (nodes es ≤ a) × (length es ≤ b)
-    go true p t q e = absurd (let z : _≡_ {A = ℕ} 0 1 = cc in omega arith)
-    go false p true q e = absurd (let z : _≡_ {A = ℕ} 0 1 = cc in omega arith)
-    go false p false q e =
-        let z : fs ≡ es = cc in
-        (e, omega (arith, ap nodes z, ltb-false a (nodes fs) p), omega (arith, ap (λ (x : List Entry). length x) z, ltb-false b (length fs) q))
-
--- an amendment that is made: the statement, and those of the new text
-record Done (l : Lists) (R : Rooms) (st : State) (k : ℕ) (n : List ℕ) (st′ : State) : Type 0 where
-  picked : Pick Entry
-  new : List Entry
-  is-there : pick k (st .entries) ≡ some picked
-  entries-are : st′ .entries ≡ amendedList (picked .before) (picked .one) (picked .behind) (length n) new
-
-done-is : (l : Lists) (R : Rooms) (st : State) (k : ℕ) (n : List ℕ) (st′ : State) → amend l R st k n ≡ done st′ → Done l R st k n st′
-unfolding amend amendAt put fittingRooms
-done-is l R st k n st′ e = go₁ (pick k (st .entries)) refl e
-  where
-    never : {f q : ℕ} {X : Type 0} → refusal f q ≡ done st′ → X
-    never e = absurd (let z : _≡_ {A = ℕ} 0 1 = cc in omega arith)
-
-    go₄ : (p : Pick Entry) → pick k (st .entries) ≡ some p → (ns : List Entry) (t : Bool)
-        → (if t then refusal 16 (length n) else done (record { script = replaced (st .script) (p .one) n; entries = amendedList (p .before) (p .one) (p .behind) (length n) ns })) ≡ done st′
-        → Done l R st k n st′
-    go₄ p q ns true e = never e
-    go₄ p q ns false e =
-        let z : record { script = replaced (st .script) (p .one) n; entries = amendedList (p .before) (p .one) (p .behind) (length n) ns } ≡ st′ = cc in
-        record { picked = p; new = ns; is-there = q; entries-are = sym (ap (λ (x : State). x .entries) z) }
-
-    go₃ : (p : Pick Entry) → pick k (st .entries) ≡ some p → (x : Outcome) (t : Bool) → put l R st p n x ≡ done st′ → endsWell n ≡ t → Done l R st k n st′
-    go₃ p q (refused f b) t e w = never e
-    go₃ p q (accepted ns) true e w =
-        go₄ p q ns (overRooms R (replaced (st .script) (p .one) n) (amendedList (p .before) (p .one) (p .behind) (length n) ns))
-        (ap (λ (b : Bool). if not b then refusal 18 (length n) else fittingRooms R (length n) (replaced (st .script) (p .one) n) (amendedList (p .before) (p .one) (p .behind) (length n) ns)) (sym w) ∙ e)
-    go₃ p q (accepted ns) false e w =
-        never (ap (λ (b : Bool). if not b then refusal 18 (length n) else fittingRooms R (length n) (replaced (st .script) (p .one) n) (amendedList (p .before) (p .one) (p .behind) (length n) ns)) (sym w) ∙ e)
-
-    go₂ : (p : Pick Entry) → pick k (st .entries) ≡ some p → (t : Bool) → (if not t then refusal 19 0 else put l R st p n (readScript l n)) ≡ done st′ → Done l R st k n st′
-    go₂ p q true e = go₃ p q (readScript l n) (endsWell n) e refl
-    go₂ p q false e = never e
-
-    go₁ : (o : Option (Pick Entry)) → pick k (st .entries) ≡ o → amendAt l R st n o ≡ done st′ → Done l R st k n st′
-    go₁ none q e = never e
-    go₁ (some p) q e = go₂ p q (noZero n) e
+use Rattle.amending.proofs.StateLaws.{over-length, reading-is, fits-are, Done, done-is, held-within, call-is, call-holds}
 
 module _ (l : Lists) where
   -- two outcomes of one call coincide

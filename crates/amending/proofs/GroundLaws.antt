@@ -2,23 +2,23 @@
 use mathlib.Core.Path.{_≡_, refl, sym, ap, _∙_, subst}
 use mathlib.Core.Bool.{Bool, true, false, _&&_, _||_, not, false≢true}
 use mathlib.Core.List.{List, [], _∷_, _++_, map}
-use mathlib.Core.Option.{Option, none, some}
-use Prim.Native.Nat.{ℕ, suc, _+_, _-_, _*_, _/_, _≤_, _<_, min}
+use mathlib.Core.Option.{none, some}
+use Prim.Native.Nat.{ℕ, suc, _+_, _-_, _*_, _/_, _≤_, _<_}
 use native.Mathlib.Omega.{arith}
 use lib.Dec.{T, leb, ltb, eqb}
 use lib.ListN.{length, take, drop, getD, length-append, length-drop, length-map}
 use lib.Seq.{length-take-le}
 use borrow.Author.Tests.{le-leb, leb-true, le-ltb, ltb-false, eq-eqb, ne-eqb, eqb-true}
-use Rattle.tokens.specs.Text.{if_then_else_, script, count, leading, every, other}
+use Rattle.tokens.specs.Text.{script, count, leading, every, other}
 use Rattle.tokens.proofs.Shapes.{leading-le}
 use Rattle.tokens.specs.Names.{Lists}
 use Rattle.tokens.specs.Tokens.{Lexed, counts, endOf}
 use Rattle.reading.specs.Sizes.{recordWidth, entryWidth, mostRecords, mostStatements}
 use Rattle.reading.specs.Grammar.{Words}
-use Rattle.reading.specs.Script.{Entry, Outcome, accepted, refused, readScript, noZero, nodes, tokensOf, words}
+use Rattle.reading.specs.Script.{Entry, accepted, refused, readScript, noZero, tokensOf, words}
 use Rattle.reading.specs.Words.{Row, rowOf}
 use Rattle.reading.specs.Meets.{listed}
-use Rattle.reading.specs.Judging.{lastEnd as textEnd, judgement}
+use Rattle.reading.specs.Judging.{lastEnd as textEnd}
 use Rattle.reading.specs.declared.judging.Counts.{Counts}
 use Rattle.reading.proofs.AmendBytes.{Text, Accepted, read-accepted, script-all, text-tokens, tokens-append}
 use Rattle.reading.proofs.ReachLaws.{none-end}
@@ -26,13 +26,12 @@ use Rattle.reading.proofs.Endings.{Snoc, nil, snoc, snoc-of, LastToken, last-to
 use Rattle.reading.proofs.ReadLaws.{room-in, room-most, Good}
 use Rattle.amending.specs.Amend.{endsWell, lastEnd}
 use Rattle.amending.specs.Amending.{Rooms, Pick, pick}
-use Rattle.amending.specs.Lent.{Lent, Handed, handed, unchanged, ascending, sumRecords, sumTokens, overRows, inOrder, swappedRows, swapped, fittingLent, putLent, lentAt, amendLent}
+use Rattle.amending.specs.Lent.{Lent, unchanged, ascending, sumRecords, sumTokens, overRows, inOrder, swapped, fittingLent, putLent, lentAt, amendLent}
 use Rattle.amending.specs.Entries.{rowsFrom, pickAt}
 use Rattle.amending.specs.Memory.{Memory, roomsOf, roomsIn, usedIn, within, amendIn}
 use Rattle.amending.specs.Grounds.{endsWhole, endsShut, endsAt, Ends, Few, wordsAt, Stands, alone, totals, fittingBy, Fits, MeetsVerdict}
 use Rattle.amending.specs.declared.held.Held.{Held}
 use Rattle.amending.specs.declared.grounds.Row.{Row as Line}
-use Rattle.amending.specs.declared.grounds.Verdict.{Verdict}
 use Rattle.amending.specs.declared.grounds.Verdict.the-variants as verdict
 use Rattle.amending.proofs.Flags.{no, yes, left, right, cases, same}
 use Rattle.amending.proofs.EntryLaws.{pick-here, pick-past, rows-split, rows-count}

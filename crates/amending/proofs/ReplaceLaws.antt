@@ -1,28 +1,27 @@
 -- Laws of an amendment that is made: what the three slices hold after it.
-use mathlib.Core.Path.{_≡_, refl, sym, ap, _∙_, subst}
+use mathlib.Core.Path.{_≡_, sym, ap, _∙_, subst}
 use mathlib.Core.Bool.{true, false}
-use mathlib.Core.List.{List, [], _∷_, _++_, map}
-use Prim.Native.Nat.{ℕ, _+_, _-_, _*_, _/_, _^_, _≤_, _<_}
+use mathlib.Core.List.{List, _∷_, _++_, map}
+use Prim.Native.Nat.{ℕ, _+_, _-_, _*_, _/_}
 use native.Mathlib.Omega.{arith}
 use lib.Dec.{ltb}
 use lib.ListN.{length, take, drop, getD, length-drop, length-map}
 use lib.Seq.{length-take-le}
 use borrow.Author.Tests.{le-ltb}
 use Rattle.tokens.specs.Names.{Lists}
-use Rattle.reading.specs.Sizes.{recordWidth, entryWidth, mostRecords, mostStatements, recordRoom, statementRoom}
-use Rattle.reading.specs.Script.{Entry, Outcome, accepted, fitting, readScript, reading, nodes}
+use Rattle.reading.specs.Sizes.{recordWidth, entryWidth, mostRecords, mostStatements}
+use Rattle.reading.specs.Script.{Entry, accepted, reading, nodes}
 use Rattle.reading.specs.Words.{wordsOf, Row, rowOf, rowsWords, directoryOf}
 use Rattle.reading.specs.Reading.{leftBy, readInto, Leaves}
 use Rattle.reading.specs.declared.judging.Counts.{Counts}
 use Rattle.reading.specs.declared.reading.Answer.{Answer}
 use Rattle.reading.proofs.WordLaws.{words-length, directory-length}
-use Rattle.reading.proofs.AmendBytes.{script-all}
 use Rattle.reading.proofs.ReadLaws.{room-in, room-most}
 use Rattle.amending.specs.Amending.{Pick}
-use Rattle.amending.specs.Lent.{Lent, handed, unchanged, ascending, sumRecords, swapped}
-use Rattle.amending.specs.Moves.{usedAfter, resized, spliced, leave}
+use Rattle.amending.specs.Lent.{Lent, unchanged, ascending, sumRecords, swapped}
+use Rattle.amending.specs.Moves.{resized, spliced, leave}
 use Rattle.amending.specs.Entries.{rowsFrom, pickAt, shifted}
-use Rattle.amending.specs.Memory.{Memory, memory, roomsIn, usedIn, within, amendIn, leftIn, answered, acceptedWith, refusedAt, Amends}
+use Rattle.amending.specs.Memory.{Memory, memory, roomsIn, usedIn, amendIn, leftIn, answered, acceptedWith, refusedAt, Amends}
 use Rattle.amending.specs.Grounds.{wordsAt, totals, Fits, Ready, MeetsVerdict}
 use Rattle.amending.specs.declared.held.Held.{Held}
 use Rattle.amending.specs.declared.grounds.Row.{Row as Line}

@@ -1,21 +1,26 @@
 -- Laws of memory that holds a state: its counts are within, its words are read back, and a call leaves such memory.
 use mathlib.Core.Path.{_≡_, refl, sym, ap, _∙_, subst}
-use mathlib.Core.Bool.{true, false}
-use mathlib.Core.List.{List, [], _∷_, _++_, map, append-nil}
-use Prim.Native.Nat.{ℕ, _+_, _-_, _*_, _/_, _≤_, min}
+use mathlib.Core.Bool.{Bool, true, false, not}
+use mathlib.Core.List.{List, [], _∷_, map}
+use mathlib.Core.Option.{Option, none, some}
+use Prim.Native.Nat.{ℕ, _-_, _*_, _/_, _≤_}
 use native.Mathlib.Omega.{arith}
-use lib.ListN.{length, take, drop, length-map, length-append}
-use lib.Seq.{take-at, length-take-le}
+use lib.Dec.{ltb}
+use lib.ListN.{length, take, drop, length-append, length-drop, length-map}
+use lib.Seq.{take-at}
 use borrow.Author.Tests.{ltb-false}
+use Rattle.tokens.specs.Text.{if_then_else_, script}
 use Rattle.tokens.specs.Names.{Lists}
 use Rattle.reading.specs.Sizes.{recordWidth, entryWidth, mostRecords, mostStatements}
-use Rattle.reading.specs.Script.{Entry, nodes, tokensOf}
-use Rattle.reading.specs.Words.{Row, rowOf, wordsOf, rowsWords}
+use Rattle.reading.specs.Script.{Entry, Outcome, accepted, refused, fitting, readScript, reading, noZero, nodes, tokensOf}
+use Rattle.reading.specs.Reading.{over}
+use Rattle.reading.specs.Words.{rowOf, wordsOf, rowsWords}
 use Rattle.reading.specs.declared.reading.Answer.{Answer}
 use Rattle.reading.proofs.WordLaws.{words-length as record-words, rows-length}
 use Rattle.reading.proofs.ReadLaws.{room-in}
-use Rattle.amending.specs.Amending.{State, Rooms, over, Answer as Outcome, done, refusal, amend, left, Good}
-use Rattle.amending.specs.Lent.{Lent, Handed, handed, unchanged, sumRecords, amendLent, lentOf, given}
+use Rattle.amending.specs.Amend.{endsWell, replaced, amendedList}
+use Rattle.amending.specs.Amending.{State, Rooms, Pick, pick, over as overRooms, Answer as Result, done, refusal, fitting as fittingRooms, put, amendAt, amend, left, Good}
+use Rattle.amending.specs.Lent.{Lent, handed, unchanged, sumRecords, amendLent, lentOf, given}
 use Rattle.amending.specs.Moves.{leave}
 use Rattle.amending.specs.Entries.{rowsFrom}
 use Rattle.amending.specs.Memory.{Memory, memory, roomsIn, usedIn, within, amendIn, heldBy, answered, leftIn, Amends}
@@ -23,15 +28,75 @@ use Rattle.amending.specs.States.{heldOf, Holds}
 use Rattle.amending.specs.declared.held.Held.{Held}
 use Rattle.amending.proofs.MoveLaws.{leave-length}
 use Rattle.amending.proofs.EntryLaws.{rows-of-words}
-use Rattle.amending.proofs.AmendingLaws.{Within as Fitting, within as fitting, amends-good}
-use Rattle.amending.proofs.LentLaws.{sum-nodes, sum-tokens, amend-lent}
-use Rattle.amending.proofs.GroundLaws.{Within, within-yes, asked}
+use Rattle.amending.proofs.AmendingLaws.{Within as Inside, within as inside, amends-good}
+use Rattle.amending.proofs.LentLaws.{sum-nodes, amend-lent}
+use Rattle.amending.proofs.GroundLaws.{Within, asked}
+
+-- ---- what is read with room, and what an amendment made
+
+pub over-length : (ws o : List ℕ) → length ws ≤ length o → length (over ws o) ≡ length o
+over-length ws o h = length-append ws (drop (length ws) o) ∙ omega (arith, length-drop (length ws) o)
+
+pub reading-is : (l : Lists) (a b : ℕ) (bs : List ℕ) → fitting (length (script bs)) a b (readScript l bs) ≡ reading l a b bs
+unfolding reading
+reading-is l a b bs = refl
+
+-- what is accepted with room fits
+pub fits-are : (n a b : ℕ) (x : Outcome) (es : List Entry) → fitting n a b x ≡ accepted es → (x ≡ accepted es) × (nodes es ≤ a) × (length es ≤ b)
+fits-are n a b (refused f p) es e = absurd (let z : _≡_ {A = ℕ} 0 1 = cc in omega arith)
+fits-are n a b (accepted fs) es e = go (ltb a (nodes fs)) refl (ltb b (length fs)) refl e
+  where
+    go : (s : Bool) → ltb a (nodes fs) ≡ s → (t : Bool) → ltb b (length fs) ≡ t → (if s then refused 16 n else if t then refused 16 n else accepted fs) ≡ accepted es
+        → (accepted fs ≡ accepted es) × (nodes es ≤ a) × (length es ≤ b)
+    go true p t q e = absurd (let z : _≡_ {A = ℕ} 0 1 = cc in omega arith)
+    go false p true q e = absurd (let z : _≡_ {A = ℕ} 0 1 = cc in omega arith)
+    go false p false q e =
+        let z : fs ≡ es = cc in
+        (e, omega (arith, ap nodes z, ltb-false a (nodes fs) p), omega (arith, ap (λ (x : List Entry). length x) z, ltb-false b (length fs) q))
+
+-- an amendment that is made: the statement, and those of the new text
+pub record Done (l : Lists) (R : Rooms) (st : State) (k : ℕ) (n : List ℕ) (st′ : State) : Type 0 where
+  pub picked : Pick Entry
+  pub new : List Entry
+  pub is-there : pick k (st .entries) ≡ some picked
+  pub entries-are : st′ .entries ≡ amendedList (picked .before) (picked .one) (picked .behind) (length n) new
+
+pub done-is : (l : Lists) (R : Rooms) (st : State) (k : ℕ) (n : List ℕ) (st′ : State) → amend l R st k n ≡ done st′ → Done l R st k n st′
+unfolding amend amendAt put fittingRooms
+done-is l R st k n st′ e = go₁ (pick k (st .entries)) refl e
+  where
+    never : {f q : ℕ} {X : Type 0} → refusal f q ≡ done st′ → X
+    never e = absurd (let z : _≡_ {A = ℕ} 0 1 = cc in omega arith)
+
+    go₄ : (p : Pick Entry) → pick k (st .entries) ≡ some p → (ns : List Entry) (t : Bool)
+        → (if t then refusal 16 (length n) else done (record { script = replaced (st .script) (p .one) n; entries = amendedList (p .before) (p .one) (p .behind) (length n) ns })) ≡ done st′
+        → Done l R st k n st′
+    go₄ p q ns true e = never e
+    go₄ p q ns false e =
+        let z : record { script = replaced (st .script) (p .one) n; entries = amendedList (p .before) (p .one) (p .behind) (length n) ns } ≡ st′ = cc in
+        record { picked = p; new = ns; is-there = q; entries-are = sym (ap (λ (x : State). x .entries) z) }
+
+    go₃ : (p : Pick Entry) → pick k (st .entries) ≡ some p → (x : Outcome) (t : Bool) → put l R st p n x ≡ done st′ → endsWell n ≡ t → Done l R st k n st′
+    go₃ p q (refused f b) t e w = never e
+    go₃ p q (accepted ns) true e w =
+        go₄ p q ns (overRooms R (replaced (st .script) (p .one) n) (amendedList (p .before) (p .one) (p .behind) (length n) ns))
+        (ap (λ (b : Bool). if not b then refusal 18 (length n) else fittingRooms R (length n) (replaced (st .script) (p .one) n) (amendedList (p .before) (p .one) (p .behind) (length n) ns)) (sym w) ∙ e)
+    go₃ p q (accepted ns) false e w =
+        never (ap (λ (b : Bool). if not b then refusal 18 (length n) else fittingRooms R (length n) (replaced (st .script) (p .one) n) (amendedList (p .before) (p .one) (p .behind) (length n) ns)) (sym w) ∙ e)
+
+    go₂ : (p : Pick Entry) → pick k (st .entries) ≡ some p → (t : Bool) → (if not t then refusal 19 0 else put l R st p n (readScript l n)) ≡ done st′ → Done l R st k n st′
+    go₂ p q true e = go₃ p q (readScript l n) (endsWell n) e refl
+    go₂ p q false e = never e
+
+    go₁ : (o : Option (Pick Entry)) → pick k (st .entries) ≡ o → amendAt l R st n o ≡ done st′ → Done l R st k n st′
+    go₁ none q e = never e
+    go₁ (some p) q e = go₂ p q (noZero n) e
 
 -- ---- the counts of a state are within
 
 module _ (l : Lists) (M : Memory) (st : State) (G : Good l (roomsIn M) st) where
-  F : Fitting (roomsIn M) (st .script) (st .entries)
-  F = fitting (roomsIn M) (st .script) (st .entries) (G .room)
+  F : Inside (roomsIn M) (st .script) (st .entries)
+  F = inside (roomsIn M) (st .script) (st .entries) (G .room)
 
   pub state-within : Within (roomsIn M) (heldBy (lentOf st))
   state-within = record {
@@ -93,12 +158,12 @@ module _ (l : Lists) (M : Memory) (h : Held) (st : State) (H : Holds l M h st) w
       good : Good l (roomsIn M) (left st (amend l (roomsIn M) st k n))
       good = amends-good l (roomsIn M) (omega arith) (omega arith) ((k, n) ∷ []) st (H .good)
 
-      go : (o : Outcome) → amend l (roomsIn M) st k n ≡ o → (roomsIn M′ ≡ roomsIn M) × Holds l M′ (heldOf r) (left st o)
+      go : (o : Result) → amend l (roomsIn M) st k n ≡ o → (roomsIn M′ ≡ roomsIn M) × Holds l M′ (heldOf r) (left st o)
       go (done st′) e =
           let is : amendIn l M h k n ≡ handed (lentOf st′) = call-is k n ∙ ap given e in
           let m : M′ ≡ leftIn M h (handed (lentOf st′)) = A .memory ∙ ap (leftIn M h) is in
           let c : heldOf r ≡ heldBy (lentOf st′) = ap heldOf (A .answer ∙ ap (answered h n) is) in
-          let g : Good l (roomsIn M) st′ = subst (λ (x : Outcome). Good l (roomsIn M) (left st x)) e good in
+          let g : Good l (roomsIn M) st′ = subst (λ (x : Result). Good l (roomsIn M) (left st x)) e good in
           let same : roomsIn M′ ≡ roomsIn M = ap roomsIn m ∙ same-rooms M h st′ held-within (state-within l M st′ g) in (
             same,
             record {

@@ -2,7 +2,7 @@
 use mathlib.Core.Path.{_≡_, refl, sym, ap, _∙_}
 use mathlib.Core.Bool.{Bool, true, false, _&&_}
 use mathlib.Core.List.{List, [], _∷_, _++_}
-use Prim.Native.Nat.{ℕ, suc, _+_, _-_, _≤_}
+use Prim.Native.Nat.{ℕ, _+_, _-_, _≤_}
 use native.Mathlib.Omega.{arith}
 use native.Mathlib.Nat.{zero-add}
 use lib.Dec.{ltb}
@@ -20,13 +20,12 @@ use Rattle.tokens.specs.declared.scanning.Scanned.{Scanned}
 use Rattle.tokens.specs.declared.scanning.Scanned.the-variants as scanned
 use Rattle.tokens.proofs.Shapes.{leading-le}
 use Rattle.tokens.proofs.NameLaws.{good-few}
-use Rattle.reading.specs.Script.{Entry, Outcome, accepted, refused, ofTokens, readScript, statements, from, words, nodes, tokensOf}
+use Rattle.reading.specs.Script.{Outcome, refused, ofTokens, readScript, statements, from, words, tokensOf}
 use Rattle.reading.specs.Meets.{listed, toksAt, Few}
 use Rattle.reading.specs.Scripts.{Clean, ReadsAll, MeetsAll}
 use Rattle.reading.specs.declared.answers.All.{All}
 use Rattle.reading.specs.declared.answers.All.the-variants as all
 use Rattle.reading.specs.Judging.{judgedOf, lastEnd, judgement, textJudgement}
-use Rattle.reading.specs.declared.judging.Judged.{Judged}
 use Rattle.reading.specs.declared.judging.Judged.the-variants as judged
 use Rattle.reading.proofs.ScriptLaws.{count-append}
 use Rattle.reading.proofs.AmendBytes.{Text, text-tokens}

@@ -5,7 +5,7 @@ use mathlib.Core.List.{List, [], _∷_, _++_}
 use Prim.Native.Nat.{ℕ, _+_, _*_, _/_, _≤_, _<_}
 use native.Mathlib.Omega.{arith}
 use lib.Dec.{ltb}
-use lib.ListN.{length, length-map, take, drop}
+use lib.ListN.{length, length-map, take}
 use borrow.Author.Tests.{lt-ltb, le-ltb, ltb-true, ltb-false}
 use Rattle.tokens.specs.Text.{if_then_else_, script}
 use Rattle.tokens.specs.Names.{Lists}
@@ -14,11 +14,10 @@ use Rattle.reading.specs.Script.{Entry, Outcome, accepted, refused, fitt
 use Rattle.reading.specs.Words.{wordsOf, rowOf, rowWords, directoryOf}
 use Rattle.reading.specs.Rows.{rows, putRows, putEntries}
 use Rattle.reading.specs.Meets.{toksAt, Few}
-use Rattle.reading.specs.Scripts.{Clean, rowsIn, entriesIn, ReadsAll, MeetsAll}
+use Rattle.reading.specs.Scripts.{Clean, rowsIn, entriesIn, MeetsAll}
 use Rattle.reading.specs.declared.answers.All.{All}
 use Rattle.reading.specs.declared.answers.All.the-variants as all
 use Rattle.reading.specs.declared.judging.Counts.{Counts}
-use Rattle.reading.specs.declared.judging.Judged.{Judged}
 use Rattle.reading.specs.declared.judging.Judged.the-variants as judged
 use Rattle.reading.specs.declared.reading.Answer.{Answer}
 use Rattle.reading.specs.Judging.{judgedOf, lastEnd, judgement}

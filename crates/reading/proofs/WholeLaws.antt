@@ -2,10 +2,10 @@
 use mathlib.Core.Path.{_≡_, refl, sym, ap, _∙_, subst}
 use mathlib.Core.Bool.{false}
 use mathlib.Core.List.{List, [], _∷_, _++_, append-nil, append-assoc, map-append}
-use Prim.Native.Nat.{ℕ, suc, _+_, _-_, _*_, _≤_, _<_}
+use Prim.Native.Nat.{ℕ, _+_, _-_, _*_, _≤_, _<_}
 use Prim.Native.String.{String}
 use native.Mathlib.Omega.{arith}
-use native.Mathlib.Nat.{add-zero, zero-add}
+use native.Mathlib.Nat.{zero-add}
 use lib.ListN.{length, take, drop, length-append, length-map, length-drop}
 use lib.Seq.{drop-drop, take-append-seam, take-all}
 use borrow.Author.Tests.{ne-eqb}
@@ -16,7 +16,7 @@ use Rattle.tokens.specs.Lexing.{cursorAt}
 use Rattle.tokens.specs.declared.cursor.Cursor.{Cursor}
 use Rattle.reading.specs.Sizes.{recordWidth, entryWidth}
 use Rattle.reading.specs.Trees.{Tree, size}
-use Rattle.reading.specs.Readers.{Out, ok, refused as wrong, first, is, skip}
+use Rattle.reading.specs.Readers.{Out, refused as wrong, first, is, skip}
 use Rattle.reading.specs.Grammar.{Words, statement}
 use Rattle.reading.specs.Script.{Entry, Outcome, accepted, refused, front, back, entryOf, onward, turn, from, statements, nodes}
 use Rattle.reading.specs.Words.{rowOf, rowWords}

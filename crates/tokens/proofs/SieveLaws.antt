@@ -11,7 +11,7 @@ use lib.Seq.{getD-take, getD-drop, length-take-le}
 use Rattle.tokens.specs.Text.{same, leading, other}
 use Rattle.tokens.specs.Names.{names, place}
 use Rattle.tokens.specs.Sieve.{Sifts}
-use Rattle.tokens.proofs.Shapes.{same-eq, leading-le}
+use Rattle.tokens.proofs.Shapes.{same-eq}
 use Rattle.tokens.proofs.NameLaws.{line-feed, line-other, after, after-zero, place-turn, place-end}
 
 -- nothing is sifted at first; a place more is, by the differences there
