@@ -2,6 +2,7 @@
 -- What is assumed below, and no more: the lists l are the same throughout; the script is the first bytes of its slice, as many as the counts say; and the memory
 -- was left by a reading (`read-holds`) or by calls on such memory (`calls-hold`). That is what `Holds` says. No ground checks it, so the theorems name it.
 use mathlib.Core.Path.{_≡_, sym, ap, _∙_, subst}
+use mathlib.Core.Bool.{true}
 use mathlib.Core.List.{List, _++_, map}
 use Prim.Native.Nat.{ℕ, _+_, _-_, _*_, _/_}
 use native.Mathlib.Omega.{arith}
@@ -22,16 +23,16 @@ use Rattle.reading.proofs.WordLaws.{words-length, words-before, directory-lengt
 use Rattle.reading.proofs.ReadLaws.{room-in}
 use Rattle.amending.specs.Amend.{replaced}
 use Rattle.amending.specs.Amending.{State, Rooms, Pick, Answer as Result, done, amend, left, after}
-use Rattle.amending.specs.Lent.{Lent, sumRecords, lentOf, given}
-use Rattle.amending.specs.Memory.{Memory, memory, roomsIn, usedIn, heldBy, answered, Amends}
+use Rattle.amending.specs.Lent.{Lent, sumRecords, inOrder, lentOf, given}
+use Rattle.amending.specs.Memory.{Memory, memory, roomsIn, usedIn, within, heldBy, answered, Amends}
 use Rattle.amending.specs.Entries.{rowsFrom}
 use Rattle.amending.specs.States.{heldOf, Holds, Calls, none as no-calls, call}
 use Rattle.amending.specs.declared.held.Held.{Held}
 use Rattle.amending.proofs.EntryLaws.{rows-of-words, words-of-rows}
 use Rattle.amending.proofs.AmendingLaws.{pick-split, words-amended}
-use Rattle.amending.proofs.LentLaws.{sum-nodes}
+use Rattle.amending.proofs.LentLaws.{sum-nodes, good-inOrder}
 use Rattle.amending.proofs.Directory.{good-reading, reading-good}
-use Rattle.amending.proofs.GroundLaws.{Within, entries-fit}
+use Rattle.amending.proofs.GroundLaws.{Within, within-yes, entries-fit}
 use Rattle.amending.proofs.StateLaws.{over-length, reading-is, fits-are, Done, done-is, held-within, call-is, call-holds}
 
 module _ (l : Lists) where
@@ -39,13 +40,17 @@ module _ (l : Lists) where
   pub amends-same : {M : Memory} {h : Held} {k : ℕ} {n : List ℕ} {r₁ r₂ : Answer} {M₁ M₂ : Memory} → Amends l M h k n r₁ M₁ → Amends l M h k n r₂ M₂ → (r₁ ≡ r₂) × (M₁ ≡ M₂)
   amends-same x y = (x .answer ∙ sym (y .answer), x .memory ∙ sym (y .memory))
 
-  module _ {M M′ : Memory} {h : Held} {st : State} (H : Holds l M h st) where
-    -- the grounds are exact: a call answers what the definition answers of the state, 17, 19, 1 to 15, 18, 16 or accepted, each on its condition alone; never 20
-    pub answers : {k : ℕ} {n : List ℕ} {r : Answer} → Amends l M h k n r M′ → r ≡ answered h n (given (amend l (roomsIn M) st k n))
+  module _ {M : Memory} {h : Held} {st : State} (H : Holds l M h st) where
+    -- its directory is in order, with counts that are within: the condition of 20 is never met
+    pub in-order : (within (roomsIn M) h ≡ true) × (inOrder (roomsIn M) (usedIn M h) ≡ true)
+    in-order = (within-yes (roomsIn M) h (held-within l M h st H), ap (inOrder (roomsIn M)) (H .used) ∙ good-inOrder l (roomsIn M) st (H .good))
+
+    -- the grounds are exact: a call answers what the definition answers of the state, 17, 19, 1 to 15, 18, 16 or accepted, each on its condition alone
+    pub answers : {k : ℕ} {n : List ℕ} {r : Answer} {M′ : Memory} → Amends l M h k n r M′ → r ≡ answered h n (given (amend l (roomsIn M) st k n))
     answers {k} {n} A = A .answer ∙ ap (answered h n) (call-is l M h st H k n)
 
     -- one call leaves memory that holds a state again: that of the whole new script, or the old one
-    pub call-leaves : {k : ℕ} {n : List ℕ} {r : Answer} → Amends l M h k n r M′ → Holds l M′ (heldOf r) (left st (amend l (roomsIn M) st k n))
+    pub call-leaves : {k : ℕ} {n : List ℕ} {r : Answer} {M′ : Memory} → Amends l M h k n r M′ → Holds l M′ (heldOf r) (left st (amend l (roomsIn M) st k n))
     call-leaves {k} {n} A = call-holds l M h st H k n A .1
 
   -- any number of calls, refused ones among them
