@@ -93,6 +93,15 @@ part-is (suc t) (suc u) [] h = take-nil (suc u - suc t)
 part-is (suc t) (suc u) (x ∷ xs) h = rw suc-sub-suc (part-is t u xs (le-of-suc-le-suc h))
 
 module _ (l : List ℕ) (used from to k : ℕ) (ordered : to ≤ used) (within : used ≤ length l) (room : from + k + (used - to) ≤ length l) where
+  -- the part keeps its size: nothing moves
+  pub kept : to ≡ from + k → l ≡ resized l used from to k
+  unfolding resized
+  kept h =
+      let z : used - usedAfter used from to k ≡ 0 = omega arith in
+      let m : max used (usedAfter used from to k) ≡ used = omega arith in
+      let p : take to l ≡ take to (take used l) = sym (take-take to used l ordered) in
+      sym (rw (z, m, sym h, p) (sym (append-assoc (take to (take used l)) (drop to (take used l)) (drop used l)) ∙ ap (λ (x : List ℕ). x ++ drop used l) (take-append-drop to (take used l)) ∙ take-append-drop used l))
+
   -- the part grows: the move is all
   pub grown : to ≤ from + k → paste l (from + k) (drop to l) (used - to) ≡ resized l used from to k
   unfolding resized

@@ -44,7 +44,8 @@ fn clear_bytes(s: &mut [u8], at: usize, n: usize)
 }
 
 // Makes the part [from, to) of the first `used` bytes k bytes long: the bytes from `to` on move to
-// from + k, and the room that they leave is zeroed. Returns how many bytes are then in use.
+// from + k, and the room that they leave is zeroed. A part that keeps its length moves nothing. Returns how many bytes are
+// then in use.
 pub fn resize_bytes(s: &mut [u8], used: usize, from: usize, to: usize, k: usize) -> usize
     requires { ⌜ (from ≤ to) × (to ≤ used) × (used ≤ length (now s)) × (usedAfter used from to k ≤ length (now s)) ⌝ }
     ensures { λ r. ⌜ (r ≡ usedAfter used from to k) × (now (s .exit) ≡ resized (now (s .entry)) used from to k) ⌝ }
@@ -52,6 +53,9 @@ pub fn resize_bytes(s: &mut [u8], used: usize, from: usize, to: usize, k: usize)
     let at = from + k;
     let n = used - to;
     let end = at + n;
+    if to == at {
+        return end;
+    }
     if to <= at {
         move_bytes_up(s, at, to, n);
     } else {
@@ -100,7 +104,8 @@ fn clear_words(s: &mut [u32], at: usize, n: usize)
 }
 
 // Makes the part [from, to) of the first `used` words k words long: the words from `to` on move to
-// from + k, and the room that they leave is zeroed. Returns how many words are then in use.
+// from + k, and the room that they leave is zeroed. A part that keeps its length moves nothing. Returns how many words are
+// then in use.
 pub fn resize_words(s: &mut [u32], used: usize, from: usize, to: usize, k: usize) -> usize
     requires { ⌜ (from ≤ to) × (to ≤ used) × (used ≤ length (now s)) × (usedAfter used from to k ≤ length (now s)) ⌝ }
     ensures { λ r. ⌜ (r ≡ usedAfter used from to k) × (now (s .exit) ≡ resized (now (s .entry)) used from to k) ⌝ }
@@ -108,6 +113,9 @@ pub fn resize_words(s: &mut [u32], used: usize, from: usize, to: usize, k: usize
     let at = from + k;
     let n = used - to;
     let end = at + n;
+    if to == at {
+        return end;
+    }
     if to <= at {
         move_words_up(s, at, to, n);
     } else {

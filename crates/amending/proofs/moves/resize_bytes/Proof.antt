@@ -1,5 +1,5 @@
 use denote.Ref.{now}
-use Rattle.amending.proofs.MoveLaws.{grown, shrunk}
+use Rattle.amending.proofs.MoveLaws.{kept, grown, shrunk}
 use borrow.Author.Needs.{needs}
 use Rattle.amending.proofs.moves.resize_bytes.Statement.{statement}
 use Rattle.amending.proofs.moves.resize_bytes.Tie as tie
@@ -12,6 +12,11 @@ sub-n c = search needs
 
 add-end : tie.Need-add-end
 add-end c = search needs
+
+returns : tie.Need-returns
+returns c =
+    let a = c .before .before .args in
+    (search needs, kept (now (a .s)) (a .used) (a .from) (a .to) (a .k) (search needs) (search needs) (search needs) (c .if1 .taken))
 
 move-bytes-up-requires : tie.Need-move-bytes-up-requires
 move-bytes-up-requires c κs = search needs
@@ -28,18 +33,18 @@ clear-bytes-requires c κs = search needs
 same-length : tie.Need-same-length
 same-length c = search needs
 
-returns : tie.Need-returns
-returns c =
-    let a = c .before .before .before .before .before .before .args in
+returns-2 : tie.Need-returns-2
+returns-2 c =
+    let a = c .before .before .before .before .before .before .before .args in
     (search needs, rw (c .before .before .move-bytes-up .ensures) (grown (now (a .s)) (a .used) (a .from) (a .to) (a .k) (search needs) (search needs) (search needs) (search needs)))
 
 same-length-2 : tie.Need-same-length-2
 same-length-2 c = search needs
 
-returns-2 : tie.Need-returns-2
-returns-2 c =
+returns-3 : tie.Need-returns-3
+returns-3 c =
     let down = c .before .before .before .before .before .before in
-    let a = down .before .before .before .before .args in
+    let a = down .before .before .before .before .before .args in
     (search needs, rw (c .before .before .clear-bytes .ensures, down .move-bytes-down .ensures) (shrunk (now (a .s)) (a .used) (a .from) (a .to) (a .k) (search needs) (search needs) (search needs) (search needs)))
 
 pub resize-bytes-spec : {M : Type 1} → statement M
@@ -49,11 +54,12 @@ resize-bytes-spec =
     add-at
     sub-n
     add-end
+    returns
     move-bytes-up-requires
     move-bytes-down-requires
     sub-clear-bytes
     clear-bytes-requires
     same-length
-    returns
+    returns-2
     same-length-2
-    returns-2)
+    returns-3)
