@@ -9,6 +9,7 @@ use lib.Dec.{T, leb, ltb, eqb}
 use lib.ListN.{length, take, drop, getD, length-append, length-drop, length-map}
 use lib.Seq.{length-take-le}
 use borrow.Author.Tests.{le-leb, leb-true, le-ltb, ltb-false, eq-eqb, ne-eqb, eqb-true}
+use Rattle.tokens.specs.Limits.{mostBytes, mostTokens}
 use Rattle.tokens.specs.Text.{script, count, leading, every, other}
 use Rattle.tokens.proofs.Shapes.{leading-le}
 use Rattle.tokens.specs.Names.{Lists}
@@ -118,7 +119,7 @@ module _ (M : Memory) (h : Held) (w : Within (roomsIn M) h) where
   words-used : length (take (recordWidth * h .records) (M .records)) ≡ recordWidth * h .records
   words-used = length-take-le (recordWidth * h .records) (M .records) records-fit
 
-  pub bounded : (h .bytes ≤ 16384) × (h .statements ≤ 512) × (h .records ≤ 2048) × (h .tokens ≤ 4096)
+  pub bounded : (h .bytes ≤ mostBytes) × (h .statements ≤ mostStatements) × (h .records ≤ mostRecords) × (h .tokens ≤ mostTokens)
   bounded = (
     omega (arith, w .bytes),
     omega (arith, w .statements, room-most mostStatements (length (M .directory) / entryWidth)),

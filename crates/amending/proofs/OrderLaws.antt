@@ -1,16 +1,16 @@
 -- Entries in order: tested one after the other, and what their order tells.
 use mathlib.Core.Path.{_≡_, refl, sym, ap, _∙_}
-use mathlib.Core.Bool.{Bool, true, false, _&&_, not, and-assoc, false≢true}
+use mathlib.Core.Bool.{Bool, true, false, _&&_, false≢true}
 use mathlib.Core.List.{List, [], _∷_, _++_, map}
 use Prim.Native.Nat.{ℕ, _+_, _-_, _*_, _≤_, _<_}
 use native.Mathlib.Omega.{arith}
 use lib.Dec.{leb, ltb, eqb}
 use lib.ListN.{length}
 use borrow.Author.Tests.{ltb-true, leb-true, eqb-true, lt-ltb, le-leb, eq-eqb}
-use Rattle.reading.specs.Sizes.{recordWidth, entryWidth}
+use Rattle.reading.specs.Sizes.{entryWidth}
 use Rattle.reading.specs.Words.{Row}
-use Rattle.amending.specs.Amending.{Rooms, Pick}
-use Rattle.amending.specs.Lent.{Lent, ascending, sumRecords, sumTokens, overRows, inOrder}
+use Rattle.amending.specs.Amending.{Pick}
+use Rattle.amending.specs.Lent.{ascending, sumRecords, sumTokens}
 use Rattle.amending.specs.Entries.{rowsFrom, rowFits}
 use Rattle.amending.proofs.Flags.{no, yes, left, right, cases, same}
 use Rattle.amending.proofs.EntryLaws.{rows-none}
@@ -136,21 +136,6 @@ unfolding ascending
 counted-none d i j m t k h = rw (rows-none d k h)
 
 -- ---- what the test of a directory tells
-
--- that test and the one for capacity and lent room are 20
-pub in-order-is : (R : Rooms) (L : Lent) (records : ℕ) → length (L .words) ≡ recordWidth * records
-    → inOrder R L ≡ (counted 0 (length (L .script)) records (L .tokens) (L .rows) && not (overRows R (length (L .script)) (L .rows)))
-unfolding inOrder
-in-order-is R L records size =
-    let up : Bool = ascending 0 (length (L .script)) (L .rows) in
-    let m : Bool = eqb records (sumRecords (L .rows)) in
-    let t : Bool = eqb (L .tokens) (sumTokens (L .rows)) in
-    let within : Bool = not (overRows R (length (L .script)) (L .rows)) in
-    let e : eqb (recordWidth * records) (recordWidth * sumRecords (L .rows)) ≡ m =
-    same _ _
-    (λ b. let q : recordWidth * records ≡ recordWidth * sumRecords (L .rows) = eqb-true (recordWidth * records) (recordWidth * sumRecords (L .rows)) b in eq-eqb records (sumRecords (L .rows)) (omega arith))
-    (λ b. let q : records ≡ sumRecords (L .rows) = eqb-true records (sumRecords (L .rows)) b in eq-eqb (recordWidth * records) (recordWidth * sumRecords (L .rows)) (omega arith)) in
-    rw (size, e) (sym (and-assoc up (m && t) within ∙ ap (λ (b : Bool). up && b) (and-assoc m t within)))
 
 pub record Ordered (d : List ℕ) (statements bytes records tokens : ℕ) : Type 0 where
   pub room : entryWidth * statements ≤ length d

@@ -7,16 +7,15 @@ use native.Mathlib.Nat.{suc-add}
 use native.Mathlib.Numerals.{towards-suc}
 use native.Mathlib.Omega.{arith}
 use lib.Dec.{leb, ltb}
-use lib.ListN.{length, take, drop, getD, set, length-append, length-drop, length-map, take-append-drop}
+use lib.ListN.{length, take, drop, getD, set, length-append, take-append-drop}
 use lib.Seq.{drop-cons, take-at, drop-at, take-append-add, drop-append-add, length-take-le, getD-set-other}
 use borrow.Author.Tests.{ltb-true, leb-true, lt-ltb, le-leb}
 use Rattle.reading.specs.Sizes.{entryWidth}
 use Rattle.reading.specs.Words.{Row, rowsWords}
-use Rattle.reading.proofs.WordLaws.{rows-length, rows-append}
+use Rattle.reading.proofs.WordLaws.{rows-length}
 use Rattle.amending.specs.Lent.{ascending, movedRow, betweenRow}
-use Rattle.amending.specs.Entries.{rowsFrom, movedPlace, shiftedRow, movedWords, shifted}
+use Rattle.amending.specs.Entries.{movedPlace, shiftedRow, movedWords, shifted}
 use Rattle.amending.proofs.Flags.{no, left, right}
-use Rattle.amending.proofs.EntryLaws.{rows-of-words, words-of-rows, rows-count}
 use Rattle.amending.proofs.OrderLaws.{Ascends, ascends, ascending-le}
 
 -- ---- one place
@@ -104,27 +103,6 @@ module _ (old new : ℕ) where
       let front : length (rowsWords xs) ≡ entryWidth * from = omega (arith, rows-length xs) in
       let k : to - from ≡ length ys = omega arith in
       rw (le-leb (entryWidth * to) (length d) room, take-at (rowsWords xs) (rowsWords ys ++ t) (entryWidth * from) front, drop-at (rowsWords xs) (rowsWords ys ++ t) (entryWidth * from) front, k, moved-rows ys t)
-
-  -- the rows of a directory after the move
-  pub shifted-rows : (d : List ℕ) (from to : ℕ) → from ≤ to → entryWidth * to ≤ length d
-      → rowsFrom to (shifted d from to old new) ≡ rowsFrom from d ++ map (shiftedRow old new) (rowsFrom (to - from) (drop (entryWidth * from) d))
-  shifted-rows d from to h room =
-      let e : List ℕ = drop (entryWidth * from) d in
-      let k : ℕ = to - from in
-      let xs : List Row = rowsFrom from d in
-      let ys : List Row = rowsFrom k e in
-      let zs : List Row = map (shiftedRow old new) ys in
-      let le : length e ≡ length d - entryWidth * from = length-drop (entryWidth * from) d in
-      let t : List ℕ = drop (entryWidth * k) e in
-      let wx : take (entryWidth * from) d ≡ rowsWords xs = sym (words-of-rows from d (omega arith)) in
-      let wy : take (entryWidth * k) e ≡ rowsWords ys = sym (words-of-rows k e (omega arith)) in
-      let split : d ≡ rowsWords xs ++ (rowsWords ys ++ t) =
-      sym (take-append-drop (entryWidth * from) d) ∙ (λ i. wx i ++ (sym (take-append-drop (entryWidth * k) e) ∙ ap (λ (l : List ℕ). l ++ t) wy) i) in
-      let n : to ≡ length (xs ++ zs) = omega (arith, length-append xs zs, rows-count from d, rows-count k e, length-map ys (shiftedRow old new)) in
-      let all : shifted d from to old new ≡ rowsWords (xs ++ zs) ++ t =
-      ap (λ (l : List ℕ). shifted l from to old new) split ∙ shifted-words xs ys t from to (rows-count from d) (omega (arith, rows-count k e))
-      ∙ sym (append-assoc (rowsWords xs) (rowsWords zs) t) ∙ ap (λ (l : List ℕ). l ++ t) (sym (rows-append xs zs)) in
-      ap (rowsFrom to) all ∙ ap (λ (m : ℕ). rowsFrom m (rowsWords (xs ++ zs) ++ t)) n ∙ rows-of-words (xs ++ zs) t
 
 -- ---- moved plainly
 

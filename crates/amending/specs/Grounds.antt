@@ -5,9 +5,10 @@ use mathlib.Core.List.{List}
 use Prim.Native.Nat.{ℕ, _+_, _-_, _*_, _≤_, _<_}
 use lib.Dec.{T, eqb}
 use lib.ListN.{length, getD}
+use Rattle.tokens.specs.Limits.{mostBytes, mostTokens}
 use Rattle.tokens.specs.Text.{if_then_else_}
 use Rattle.tokens.specs.Names.{Lists}
-use Rattle.reading.specs.Sizes.{recordWidth, entryWidth}
+use Rattle.reading.specs.Sizes.{recordWidth, entryWidth, mostRecords, mostStatements}
 use Rattle.reading.specs.Script.{Entry, accepted, readScript, noZero, nodes}
 use Rattle.reading.specs.declared.judging.Counts.{Counts}
 use Rattle.amending.specs.Amending.{Rooms}
@@ -40,11 +41,11 @@ pub record Stands (h : Held) (e : Row) : Type 0 where
   pub some : 1 ≤ h .statements
   pub records : e .records ≤ h .records
   pub tokens : e .tokens ≤ h .tokens
-  pub bounded : (h .bytes ≤ 16384) × (h .statements ≤ 512) × (h .records ≤ 2048) × (h .tokens ≤ 4096)
+  pub bounded : (h .bytes ≤ mostBytes) × (h .statements ≤ mostStatements) × (h .records ≤ mostRecords) × (h .tokens ≤ mostTokens)
 
 -- a text that is within the capacities
 abbrev pub Few : Counts → Type 0
-Few c = (c .bytes ≤ 16384) × (c .statements ≤ 512) × (c .records ≤ 2048) × (c .tokens ≤ 4096)
+Few c = (c .bytes ≤ mostBytes) × (c .statements ≤ mostStatements) × (c .records ≤ mostRecords) × (c .tokens ≤ mostTokens)
 
 -- where the last token of a text ends
 abbrev pub Ends : List ℕ → Counts → Type 0
@@ -98,8 +99,8 @@ pub record Ready (s o d : List ℕ) (h : Held) (k : ℕ) (n : List ℕ) (c : Cou
   pub starts : getD d (entryWidth * k) 0 ≤ getD d (entryWidth * k + 1) 0
   pub ends : getD d (entryWidth * k + 1) 0 ≤ h .bytes
   pub among : sumRecords (rowsFrom k d) + getD d (entryWidth * k + 2) 0 ≤ h .records
-  pub bounded : (h .bytes ≤ 16384) × (h .statements ≤ 512) × (h .records ≤ 2048)
-  pub few : (length n ≤ 16384) × (c .statements ≤ 512) × (c .records ≤ 2048)
+  pub bounded : (h .bytes ≤ mostBytes) × (h .statements ≤ mostStatements) × (h .records ≤ mostRecords)
+  pub few : (length n ≤ mostBytes) × (c .statements ≤ mostStatements) × (c .records ≤ mostRecords)
   pub script-room : getD d (entryWidth * k) 0 + length n + (h .bytes - getD d (entryWidth * k + 1) 0) ≤ length s
   pub record-room : recordWidth * (sumRecords (rowsFrom k d) + c .records + (h .records - (sumRecords (rowsFrom k d) + getD d (entryWidth * k + 2) 0))) ≤ length o
   pub entry-room : entryWidth * (k + c .statements + (h .statements - (k + 1))) ≤ length d
