@@ -3,18 +3,21 @@ use mathlib.Core.Path.{_≡_, refl, sym, ap, _∙_}
 use mathlib.Core.Bool.{Bool, true, false, _&&_, true≢false}
 use mathlib.Core.List.{List, [], _∷_}
 use Prim.Native.Nat.{ℕ, zero, suc, _+_, _-_, _*_, _≤_, _<_}
-use native.Mathlib.Nat.{add-zero, add-comm}
+use native.Mathlib.Nat.{add-comm}
 use native.Mathlib.Omega.{arith}
-use lib.Dec.{eqb, leb}
+use lib.Dec.{eqb, leb, ltb}
 use lib.ListN.{length, getD, take, drop, length-append, length-drop}
 use lib.Seq.{length-take-le, take-all, take-append-seam, drop-append-add}
-use borrow.Author.Tests.{eqb-true, ne-eqb, le-leb, lt-leb, lt-ltb, le-ltb}
+use borrow.Author.Tests.{eqb-true, leb-true, ltb-true, ne-eqb, le-leb, lt-leb, lt-ltb, le-ltb}
 use denote.Ref.{RefT, ptr, now}
 use Rattle.tokens.specs.Text.{same, every, capital}
 use Rattle.tokens.specs.Names.{push, names, ended, place, goodName, goodNames, goodList, usdFirst, distinct}
 use Rattle.tokens.proofs.NameLaws.{and-true-both, names-feed, names-other}
 use Rattle.tokens.proofs.Shapes.{same-eq}
-use Rattle.reading.specs.Parts.{Span, span, Part, ofScript, ofList, empty, textAt, lines, nameAt, currencyAt, PartOf, HandsBack}
+use Rattle.reading.specs.Parts.{Span, span, Part, ofScript, ofList, empty, textAt, lines, nameAt, currencyAt, partAt, partNamed, nameIn, placed, PartOf, HandsBack}
+use Rattle.reading.specs.declared.parts.Place.{Place}
+use Rattle.reading.specs.declared.parts.Name.{Name}
+use Rattle.reading.specs.declared.parts.Name.the-variants.{Text, Currency, Nothing}
 
 -- ---- slices
 
@@ -30,14 +33,6 @@ cut-part lent r a n e q h p d =
       holds = t;
     }
 
--- the empty slice at the start
-pub no-part : (lent r : RefT (List ℕ)) → ptr r ≡ ptr lent → now r ≡ [] → PartOf lent empty r
-no-part lent r p d = record {
-  begins = p ∙ ap (λ (k : ℕ). (ptr lent .0, k)) (sym (add-zero (ptr lent .1)));
-  long = ap length d;
-  holds = d;
-}
-
 -- two slices that are the same part begin at the same place and hold the same bytes. What else the logic has of a slice, the
 -- name under which it tracks the bytes, no code sees
 same-part : (lent : RefT (List ℕ)) (p : Span) (r q : RefT (List ℕ)) → PartOf lent p r → PartOf lent p q → (ptr r ≡ ptr q) × (now r ≡ now q)
@@ -47,6 +42,16 @@ pub one-outcome : (script list : RefT (List ℕ)) (p : Part) (r q : RefT (List �
     → (ptr r ≡ ptr q) × (now r ≡ now q)
 one-outcome script list (ofScript p) r q x y = same-part script p r q x y
 one-outcome script list (ofList p) r q x y = same-part list p r q x y
+
+-- a slice cut by the numbers of a part is that part
+module _ (script list r : RefT (List ℕ)) (n : Place) where
+  pub hands-script : (p : Part) → n ≡ placed p → n .in_list ≡ false → PartOf script (span (n .from) (n .size)) r → HandsBack script list p r
+  hands-script (ofScript p) e t x = rw e at x
+  hands-script (ofList p) e t x = absurd (true≢false (sym (ap (λ (q : Place). q .in_list) e) ∙ t))
+
+  pub hands-list : (p : Part) → n ≡ placed p → n .in_list ≡ true → PartOf list (span (n .from) (n .size)) r → HandsBack script list p r
+  hands-list (ofScript p) e t x = absurd (true≢false (sym t ∙ ap (λ (q : Place). q .in_list) e))
+  hands-list (ofList p) e t x = rw e at x
 
 -- ---- a place in the script
 
@@ -163,9 +168,6 @@ module _ (l : List ℕ) (n : ℕ) where
       go (suc k) = rw e
 
   module _ (g : goodList true l ≡ true) (h : n ≡ 0 → ⊥) where
-    pub currency-fits : (n - 1) * 4 < length l → (n - 1) * 4 + 3 ≤ length l
-    currency-fits i = omega (arith, good-length l g)
-
     pub currency-is : (n - 1) * 4 < length l → currencyAt l n ≡ ofList (span ((n - 1) * 4) 3)
     unfolding currencyAt
     currency-is i = go n i h
@@ -214,3 +216,56 @@ currency-back script list r g n h x = go (place (names (now list)) n) refl h x
         let y : HandsBack script list (ofList (nameAt (names (now list)) k)) r = rw (g, lt-ltb k (length (names (now list))) (f .0)) at x in
         y .holds ∙ ap (λ (l : List ℕ). take (nameAt (names (now list)) k .size) (drop (nameAt (names (now list)) k .place) l)) (sym (names-lines (now list) (good-ended (now list) g)))
         ∙ name-bytes (names (now list)) k (f .0) ∙ f .1
+
+-- ---- every part is inside what it is a part of
+
+-- a part of a script of n bytes, or of a list of m
+unfoldable Inside : ℕ → ℕ → Part → Type 0
+Inside n m (ofScript p) = p .place + p .size ≤ n
+Inside n m (ofList p) = p .place + p .size ≤ m
+
+text-within : (n start at size : ℕ) → textAt n start at size .place + textAt n start at size .size ≤ n
+unfolding textAt
+text-within n start at size = go (leb (start + at + size) n) refl
+  where
+    go : (t : Bool) → leb (start + at + size) n ≡ t → textAt n start at size .place + textAt n start at size .size ≤ n
+    go true e = rw e (leb-true (start + at + size) n e)
+    go false e = rw e (omega arith)
+
+currency-within : (n : ℕ) (l : List ℕ) (k : ℕ) → Inside n (length l) (currencyAt l k)
+unfolding currencyAt Inside
+currency-within n l zero = omega arith
+currency-within n l (suc k) = go (goodList true l) refl (ltb k (length (names l))) refl
+  where
+    go : (g : Bool) → goodList true l ≡ g → (t : Bool) → ltb k (length (names l)) ≡ t → Inside n (length l) (currencyAt l (suc k))
+    go false e t d = rw e (omega arith)
+    go true e false d = rw (e, d) (omega arith)
+    go true e true d =
+        let j = ltb-true k (length (names l)) d in
+        rw (e, d, good-name l e k j) (omega (arith, j, good-length l e))
+
+named-inside : (s l ws : List ℕ) (start : ℕ) (second : Bool) → Inside (length s) (length l) (partNamed s l ws start second)
+unfolding partAt Inside
+named-inside s l ws start second = go (nameIn ws second)
+  where
+    go : (n : Name) → Inside (length s) (length l) (partAt s l start n)
+    go (Text at size) = text-within (length s) start at size
+    go (Currency k) = currency-within (length s) l k
+    go Nothing = omega arith
+
+inside-script : (s l : ℕ) (n : Place) (p : Part) → Inside s l p → n ≡ placed p → n .in_list ≡ false → n .from + n .size ≤ s
+unfolding Inside
+inside-script s l n (ofScript p) h e t = rw e h
+inside-script s l n (ofList p) h e t = absurd (true≢false (sym (ap (λ (q : Place). q .in_list) e) ∙ t))
+
+inside-list : (s l : ℕ) (n : Place) (p : Part) → Inside s l p → n ≡ placed p → n .in_list ≡ true → n .from + n .size ≤ l
+unfolding Inside
+inside-list s l n (ofScript p) h e t = absurd (true≢false (sym t ∙ ap (λ (q : Place). q .in_list) e))
+inside-list s l n (ofList p) h e t = rw e h
+
+module _ (s l ws : List ℕ) (start : ℕ) (second : Bool) (n : Place) (e : n ≡ placed (partNamed s l ws start second)) where
+  pub ends-in-script : n .in_list ≡ false → n .from + n .size ≤ length s
+  ends-in-script = inside-script (length s) (length l) n (partNamed s l ws start second) (named-inside s l ws start second) e
+
+  pub ends-in-list : n .in_list ≡ true → n .from + n .size ≤ length l
+  ends-in-list = inside-list (length s) (length l) n (partNamed s l ws start second) (named-inside s l ws start second) e

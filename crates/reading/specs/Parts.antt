@@ -1,6 +1,6 @@
 -- The lookup: which part of the script, or of the list of currencies, a record names.
 use mathlib.Core.Path.{_≡_}
-use mathlib.Core.Bool.{Bool, true, _&&_, _||_}
+use mathlib.Core.Bool.{Bool, true, false, _&&_, _||_}
 use mathlib.Core.List.{List, [], _∷_, _++_}
 use Prim.Native.Nat.{ℕ, zero, suc, _+_}
 use lib.Dec.{eqb, leb, ltb}
@@ -9,6 +9,7 @@ use denote.Ref.{RefT, ptr, now}
 use Rattle.tokens.specs.Text.{if_then_else_}
 use Rattle.tokens.specs.Names.{names, goodList}
 use Rattle.reading.specs.Sizes.{recordWidth}
+use Rattle.reading.specs.declared.parts.Place.{Place}
 use Rattle.reading.specs.declared.parts.Name.{Name}
 use Rattle.reading.specs.declared.parts.Name.the-variants.{Text, Currency, Nothing}
 
@@ -89,7 +90,12 @@ partAt s l start Nothing = ofScript empty
 abbrev pub partNamed : List ℕ → List ℕ → List ℕ → ℕ → Bool → Part
 partNamed s l ws start second = partAt s l start (nameIn ws second)
 
--- ---- parts as slices
+-- ---- parts as numbers, and as slices
+
+-- whether it is of the list, its first byte, its length
+abbrev pub placed : Part → Place
+placed (ofScript p) = record { in_list = false; from = p .place; size = p .size }
+placed (ofList p) = record { in_list = true; from = p .place; size = p .size }
 
 -- a slice is this part of what was lent: it begins there, in the same memory, is so long, and has the bytes that stand there
 pub record PartOf (lent : RefT (List ℕ)) (p : Span) (r : RefT (List ℕ)) : Type 0 where

@@ -1,8 +1,6 @@
 -- The part is inside where it ends within the script.
-use mathlib.Core.Path.{refl}
-use Prim.Native.Nat.{_+_}
 use lib.ListN.{length}
-use Rattle.reading.proofs.PartLaws.{cut-part, no-part, text-inside, text-outside}
+use Rattle.reading.proofs.PartLaws.{text-inside, text-outside}
 use borrow.Author.Needs.{needs}
 use Rattle.reading.proofs.parts.text_at.Statement.{statement}
 use Rattle.reading.proofs.parts.text_at.Tie as tie
@@ -10,40 +8,21 @@ use Rattle.reading.proofs.parts.text_at.Tie as tie
 add-from : tie.Need-add-from
 add-from c = search needs
 
-add-to : tie.Need-add-to
-add-to c = search needs
-
-sub-result : tie.Need-sub-result
-sub-result c = search needs
-
-part-result-start : tie.Need-part-result-start
-part-result-start c = search needs
-
-part-result-end : tie.Need-part-result-end
-part-result-end c = search needs
+add-if1 : tie.Need-add-if1
+add-if1 c = search needs
 
 returns : tie.Need-returns
 returns c =
     let a = c .before .before .args in
-    rw (text-inside (length (a .script .now)) (a .start) (a .at) (a .size) (c .before .if1 .taken)) (cut-part (a .script) _ (a .start + a .at) (a .size) _ refl (c .before .if1 .taken) refl refl)
+    rw (text-inside (length (a .script .now)) (a .start) (a .at) (a .size) (c .if1 .taken))
 
-slice-aggregate-result : tie.Need-slice-aggregate-result
-slice-aggregate-result c = search needs
+nowhere-requires : tie.Need-nowhere-requires
+nowhere-requires c κs = search needs
 
 returns-2 : tie.Need-returns-2
 returns-2 c =
-    let a = c .before .before .args in
-    rw (text-outside (length (a .script .now)) (a .start) (a .at) (a .size) (c .before .if1 .left)) (no-part (a .script) _ refl refl)
+    let a = c .before .before .before .args in
+    rw (text-outside (length (a .script .now)) (a .start) (a .at) (a .size) (c .before .if1 .left)) (c .nowhere .ensures)
 
 pub text-at-spec : {M : Type 1} → statement M
-text-at-spec =
-    tie.close
-    (tie.spec
-    add-from
-    add-to
-    sub-result
-    part-result-start
-    part-result-end
-    returns
-    slice-aggregate-result
-    returns-2)
+text-at-spec = tie.close (tie.spec add-from add-if1 returns nowhere-requires returns-2)
