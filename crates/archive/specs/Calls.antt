@@ -1,0 +1,41 @@
+-- Answers and places as words of 32 bits, and what each call leaves of all that it is lent.
+use mathlib.Core.Path.{_≡_}
+use mathlib.Core.Bool.{Bool, cond}
+use mathlib.Core.List.{List, [], _∷_}
+use Prim.Native.Nat.{ℕ, _%_, _^_}
+use lib.ListN.{getD}
+use Rattle.tokens.specs.Names.{Lists}
+use Rattle.reading.specs.Reading.{Leaves}
+use Rattle.reading.specs.declared.reading.Answer.{Answer}
+use Rattle.reading.specs.declared.parts.Place.{Place}
+use Rattle.amending.specs.Memory.{Memory, Amends}
+use Rattle.amending.specs.declared.held.Held.{Held}
+
+-- the low word of a number. Places and counts in a script that is not refused by 1 are far below
+abbrev pub word : ℕ → ℕ
+word n = n % 2 ^ 32
+
+-- number, byte, line, column, bytes, statements, records, tokens
+unfoldable pub answerWords : Answer → List ℕ
+answerWords a =
+    a .number ∷ word (a .byte) ∷ word (a .line) ∷ word (a .column) ∷ word (a .bytes) ∷ word (a .statements) ∷ word (a .records) ∷ word (a .tokens) ∷ []
+
+-- how much of the memory is used: the last four words of an answer
+unfoldable pub heldIn : List ℕ → Held
+heldIn ws = record { bytes = getD ws 4 0; statements = getD ws 5 0; records = getD ws 6 0; tokens = getD ws 7 0 }
+
+-- of the script (0) or of the list of currencies (1), first byte, length
+unfoldable pub placeWords : Place → List ℕ
+placeWords p = cond (p .in_list) 1 0 ∷ word (p .from) ∷ word (p .size) ∷ []
+
+-- a script bs read into the records o and the directory d: the words of the answer, and what is left in both
+pub record Reads (l : Lists) (bs o d ws o′ d′ : List ℕ) : Type 0 where
+  pub answer : Answer
+  pub leaves : Leaves l bs o d answer o′ d′
+  pub words : ws ≡ answerWords answer
+
+-- the statement k of the memory M, of which the words vs say how much is used, replaced by the text n
+pub record Replaces (l : Lists) (M : Memory) (vs : List ℕ) (k : ℕ) (n ws : List ℕ) (M′ : Memory) : Type 0 where
+  pub answer : Answer
+  pub amends : Amends l M (heldIn vs) k n answer M′
+  pub words : ws ≡ answerWords answer

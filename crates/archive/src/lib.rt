@@ -1,0 +1,128 @@
+// What C and Rust link: reading, amending and the lookup. Answers and places are words of 32 bits in lent arrays.
+use amending::amending::amend;
+use amending::held::Held;
+use reading::parts::Place;
+use reading::parts::place_of;
+use reading::reading::Answer;
+use reading::reading::read;
+ghost use mathlib.Core.Path.{_≡_};
+ghost use Prim.Native.Nat.{_%_, _^_};
+ghost use Rattle.reading.specs.Judging.{listsIn};
+ghost use Rattle.reading.specs.Parts.{partNamed, placed};
+ghost use Rattle.amending.specs.Memory.{memory};
+ghost use Rattle.archive.specs.Calls.{word, answerWords, heldIn, placeWords, Reads, Replaces};
+
+// Reads a script into records and directory.
+#[no_mangle]
+pub extern "C" fn script_read(
+    script: &[u8],
+    reserved: &[u8],
+    currencies: &[u8],
+    day_counters: &[u8],
+    records: &mut [u32],
+    directory: &mut [u32],
+    answer: &mut [u32; 8],
+)
+    ensures { λ _. ⌜ Reads (listsIn (now (reserved .entry)) (now (currencies .entry)) (now («day_counters» .entry))) (now (script .entry)) (now (records .entry)) (now (directory .entry)) (now (answer .exit)) (now (records .exit)) (now (directory .exit)) ⌝ }
+{
+    let a = read(
+        script,
+        reserved,
+        currencies,
+        day_counters,
+        records,
+        directory,
+    );
+    *answer = answer_words(a);
+}
+
+// Replaces the text of one statement. The last four words of the answer say at entry how much of the memory is used, as
+// an earlier call left them.
+#[no_mangle]
+pub extern "C" fn script_amend(
+    script: &mut [u8],
+    statement: u32,
+    text: &[u8],
+    reserved: &[u8],
+    currencies: &[u8],
+    day_counters: &[u8],
+    records: &mut [u32],
+    directory: &mut [u32],
+    answer: &mut [u32; 8],
+)
+    ensures { λ _. ⌜ Replaces (listsIn (now (reserved .entry)) (now (currencies .entry)) (now («day_counters» .entry))) (memory (now (script .entry)) (now (records .entry)) (now (directory .entry))) (now (answer .entry)) statement (now (text .entry)) (now (answer .exit)) (memory (now (script .exit)) (now (records .exit)) (now (directory .exit))) ⌝ }
+{
+    let held = held_in(answer);
+    let a = amend(
+        script,
+        held,
+        statement as usize,
+        text,
+        reserved,
+        currencies,
+        day_counters,
+        records,
+        directory,
+    );
+    *answer = answer_words(a);
+}
+
+// Says where the part is that a record names: of the script (0) or of the list of currencies (1), first byte, length.
+#[no_mangle]
+pub extern "C" fn script_part(
+    script: &[u8],
+    currencies: &[u8],
+    record: &[u32; 7],
+    start: u32,
+    second: bool,
+    place: &mut [u32; 3],
+)
+    ensures { λ _. ⌜ now (place .exit) ≡ placeWords (placed (partNamed (now (script .entry)) (now (currencies .entry)) (now («record» .entry)) start second)) ⌝ }
+{
+    let p = place_of(script, currencies, record, start, second);
+    *place = place_words(p);
+}
+
+fn held_in(words: &[u32; 8]) -> Held
+    ensures { λ r. ⌜ r ≡ heldIn (now (words .entry)) ⌝ }
+{
+    Held {
+        bytes: wide(words[4]),
+        statements: wide(words[5]),
+        records: wide(words[6]),
+        tokens: wide(words[7]),
+    }
+}
+
+fn answer_words(a: Answer) -> [u32; 8]
+    ensures { λ r. ⌜ r ≡ answerWords a ⌝ }
+{
+    [
+        a.number,
+        low_word(a.byte),
+        low_word(a.line),
+        low_word(a.column),
+        low_word(a.bytes),
+        low_word(a.statements),
+        low_word(a.records),
+        low_word(a.tokens),
+    ]
+}
+
+fn place_words(p: Place) -> [u32; 3]
+    ensures { λ r. ⌜ r ≡ placeWords p ⌝ }
+{
+    [p.in_list as u32, low_word(p.from), low_word(p.size)]
+}
+
+fn wide(x: u32) -> usize
+    ensures { λ r. ⌜ r ≡ x ⌝ }
+{
+    x as usize
+}
+
+fn low_word(n: usize) -> u32
+    ensures { λ r. ⌜ r ≡ word n ⌝ }
+{
+    (n % 0x1_0000_0000) as u32
+}
