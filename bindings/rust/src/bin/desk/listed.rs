@@ -1,0 +1,64 @@
+//! The lists of names that the user gives.
+
+use std::path::PathBuf;
+
+use gorembiin::Lists;
+
+use crate::failure::Failure;
+use crate::files::Source;
+use crate::options::ListFiles;
+
+/// Each list as its file has it; one that was not named is the library's default.
+pub struct Listed {
+    reserved: Option<Source>,
+    currencies: Option<Source>,
+    day_counters: Option<Source>,
+}
+
+impl Listed {
+    pub fn open(files: &ListFiles) -> Result<Self, Failure> {
+        let open = |file: &Option<PathBuf>| file.as_deref().map(Source::open).transpose();
+        Ok(Listed {
+            reserved: open(&files.reserved)?,
+            currencies: open(&files.currencies)?,
+            day_counters: open(&files.day_counters)?,
+        })
+    }
+
+    pub fn lists(&self) -> Lists<'_> {
+        let default = Lists::default();
+        Lists {
+            reserved: bytes_or(&self.reserved, default.reserved),
+            currencies: bytes_or(&self.currencies, default.currencies),
+            day_counters: bytes_or(&self.day_counters, default.day_counters),
+        }
+    }
+
+    /// The names of the files whose lists are malformed. The library says only that one is, so it is asked of each alone,
+    /// with an empty script.
+    pub fn malformed(&self) -> Vec<&str> {
+        let (lists, default) = (self.lists(), Lists::default());
+        let Lists {
+            reserved,
+            currencies,
+            day_counters,
+        } = lists;
+        #[rustfmt::skip]
+        let alone = [
+            (&self.reserved, Lists { reserved, ..default }),
+            (&self.currencies, Lists { currencies, ..default }),
+            (&self.day_counters, Lists { day_counters, ..default }),
+        ];
+        let refused = |lists: &Lists| gorembiin::read(b"", lists, &mut [], &mut []).is_err();
+        alone
+            .iter()
+            .filter(|(_, lists)| refused(lists))
+            .filter_map(|(source, _)| source.as_ref())
+            .map(|source| source.name.as_str())
+            .collect()
+    }
+}
+
+fn bytes_or<'a>(source: &'a Option<Source>, default: &'a [u8]) -> &'a [u8] {
+    source.as_ref().map_or(default, |source| &source.bytes)
+}
