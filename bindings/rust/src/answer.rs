@@ -53,19 +53,9 @@ impl Error for Refusal {}
 pub(crate) fn outcome(answer: foreign::Answer) -> Result<Counts, Refusal> {
     let [number, byte, line, column, bytes, statements, records, tokens] = answer;
     if number == 0 {
-        return Ok(Counts {
-            bytes,
-            statements,
-            records,
-            tokens,
-        });
+        return Ok(Counts { bytes, statements, records, tokens });
     }
     let ground =
         Ground::from_number(number).unwrap_or_else(|| panic!("libarchive.a answered {number}, which is no ground"));
-    Err(Refusal {
-        ground,
-        byte,
-        line,
-        column,
-    })
+    Err(Refusal { ground, byte, line, column })
 }

@@ -25,12 +25,7 @@ pub fn amend(
     records: &mut [u32],
     directory: &mut [u32],
 ) -> Result<Counts, Refusal> {
-    let Counts {
-        bytes,
-        statements,
-        records: held_records,
-        tokens,
-    } = held;
+    let Counts { bytes, statements, records: held_records, tokens } = held;
     let mut answer = [0, 0, 0, 0, bytes, statements, held_records, tokens];
     foreign::amend(script, statement, text, lists, records, directory, &mut answer);
     outcome(answer)
@@ -75,9 +70,5 @@ pub fn part<'a>(script: &'a [u8], currencies: &'a [u8], record: Record, start: u
         _ => (Source::Currencies, currencies),
     };
     let start = start as usize;
-    Part {
-        source,
-        start,
-        bytes: &lent[start..][..length as usize],
-    }
+    Part { source, start, bytes: &lent[start..][..length as usize] }
 }

@@ -32,10 +32,7 @@ impl Ground {
     /// Whether a refusal on this ground points at a place. The others are about a text as a whole, a list, a statement's
     /// number or the memory, and answer byte 0.
     pub fn has_place(self) -> bool {
-        !matches!(
-            self,
-            Self::TooLong | Self::List | Self::NoStatement | Self::ZeroByte | Self::Directory
-        )
+        !matches!(self, Self::TooLong | Self::List | Self::NoStatement | Self::ZeroByte | Self::Directory)
     }
 }
 

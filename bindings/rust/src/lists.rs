@@ -15,10 +15,6 @@ pub struct Lists<'a> {
 /// No reserved words, USD and EUR, no day counters: the lists of the program `listing`, so that both read alike.
 impl Default for Lists<'_> {
     fn default() -> Self {
-        Lists {
-            reserved: b"",
-            currencies: b"USD\nEUR\n",
-            day_counters: b"",
-        }
+        Lists { reserved: b"", currencies: b"USD\nEUR\n", day_counters: b"" }
     }
 }

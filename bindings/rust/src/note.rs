@@ -26,13 +26,7 @@ impl<'l> Note<'l> {
         let counts = calls::read(script, &lists, &mut records, &mut directory)?;
         let mut script = script[..counts.bytes as usize].to_vec();
         script.resize(BYTES, 0);
-        Ok(Note {
-            lists,
-            script,
-            records,
-            directory,
-            counts,
-        })
+        Ok(Note { lists, script, records, directory, counts })
     }
 
     /// Replaces the bytes of one statement, counted from 0, by those of `text`. The note is then as if the new script had
@@ -82,14 +76,7 @@ impl<'l> Note<'l> {
         entries.zip(0..).map(move |(entry, number)| {
             let (words, behind) = left.split_at(entry[2] as usize * RECORD_WORDS);
             left = behind;
-            Statement {
-                note: self,
-                number,
-                start: entry[0],
-                end: entry[1],
-                tokens: entry[3],
-                words,
-            }
+            Statement { note: self, number, start: entry[0], end: entry[1], tokens: entry[3], words }
         })
     }
 }

@@ -125,38 +125,16 @@ impl Record {
         let [_, _, _, f1, f2, f3, f4] = self.0;
         match self.kind() {
             Some(Kind::Variable | Kind::String) => Fields::Name(place(f1, f2)),
-            Some(Kind::Constant) => Fields::Constant {
-                value: f64::from_bits(u64::from(f1) << 32 | u64::from(f2)),
-                literal: place(f3, f4),
-            },
-            Some(Kind::Spot) => Fields::Spot {
-                first: currency(f1),
-                second: currency(f2),
-                date: date(f3),
-            },
-            Some(Kind::EquitySpot) => Fields::EquitySpot {
-                name: place(f1, f2),
-                date: date(f3),
-            },
-            Some(Kind::Df) => Fields::Df {
-                date: date(f1),
-                curve: (f2 != 0).then(|| place(f2, f3)),
-            },
-            Some(Kind::RateIndex) => Fields::RateIndex {
-                name: place(f1, f2),
-                from: date(f3),
-                to: date(f4),
-            },
-            Some(Kind::Pays) => Fields::Pays {
-                date: date(f1),
-                currency: currency(f2),
-            },
-            Some(Kind::If) => Fields::If {
-                first_else: (f1 != 0).then_some(f1),
-            },
-            Some(Kind::ForEach) => Fields::ForEach {
-                variable: place(f1, f2),
-            },
+            Some(Kind::Constant) => {
+                Fields::Constant { value: f64::from_bits(u64::from(f1) << 32 | u64::from(f2)), literal: place(f3, f4) }
+            }
+            Some(Kind::Spot) => Fields::Spot { first: currency(f1), second: currency(f2), date: date(f3) },
+            Some(Kind::EquitySpot) => Fields::EquitySpot { name: place(f1, f2), date: date(f3) },
+            Some(Kind::Df) => Fields::Df { date: date(f1), curve: (f2 != 0).then(|| place(f2, f3)) },
+            Some(Kind::RateIndex) => Fields::RateIndex { name: place(f1, f2), from: date(f3), to: date(f4) },
+            Some(Kind::Pays) => Fields::Pays { date: date(f1), currency: currency(f2) },
+            Some(Kind::If) => Fields::If { first_else: (f1 != 0).then_some(f1) },
+            Some(Kind::ForEach) => Fields::ForEach { variable: place(f1, f2) },
             _ => Fields::Nothing,
         }
     }
@@ -173,11 +151,7 @@ fn currency(word: u32) -> Option<u32> {
 
 /// From the number yyyymmdd; 0 is absent.
 fn date(word: u32) -> Option<Date> {
-    (word != 0).then_some(Date {
-        year: word / 10_000,
-        month: word / 100 % 100,
-        day: word % 100,
-    })
+    (word != 0).then_some(Date { year: word / 10_000, month: word / 100 % 100, day: word % 100 })
 }
 
 impl fmt::Display for Date {

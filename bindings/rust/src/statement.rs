@@ -68,10 +68,7 @@ impl<'a> Statement<'a> {
 
     /// Its records, parents before children.
     pub fn tree(&self) -> Tree<'a> {
-        Tree {
-            words: self.words,
-            waiting: vec![(self.words.len() / RECORD_WORDS - 1, 0)],
-        }
+        Tree { words: self.words, waiting: vec![(self.words.len() / RECORD_WORDS - 1, 0)] }
     }
 
     /// The name that one of its records holds.

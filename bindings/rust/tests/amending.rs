@@ -8,13 +8,7 @@ use gorembiin::{Ground, Note};
 const SCRIPT: &str = "# head\nx = 1;\n\nif x { y = 2; } # tail\nz pays x;\n";
 
 /// Each text replaces each statement of each script that arises, twice over.
-const TEXTS: [&str; 5] = [
-    "",
-    "a = b;",
-    "pays 1 2;\n",
-    "p = 1;\nq = -2**2; # c\n",
-    "for i in [1, 2] { s += i; }",
-];
+const TEXTS: [&str; 5] = ["", "a = b;", "pays 1 2;\n", "p = 1;\nq = -2**2; # c\n", "for i in [1, 2] { s += i; }"];
 
 fn assert_as_read(note: &Note) {
     let fresh = Note::read(note.script(), note.lists()).unwrap();
@@ -58,15 +52,7 @@ fn the_others_keep_their_records() {
     assert_eq!(records(&after, 0), records(&before, 0));
     assert_eq!(records(&after, 3), records(&before, 2));
     let trees: Vec<String> = after.statements().map(|statement| tree(&statement)).collect();
-    assert_eq!(
-        trees,
-        [
-            "Assign(x, 1)",
-            "Assign(u, 1)",
-            "Assign(v, 2)",
-            "Assign(z, Add(z, Pays(x)))"
-        ]
-    );
+    assert_eq!(trees, ["Assign(x, 1)", "Assign(u, 1)", "Assign(v, 2)", "Assign(z, Add(z, Pays(x)))"]);
 }
 
 #[test]
@@ -86,11 +72,7 @@ fn a_refused_amendment_changes_nothing() {
     let before = note(SCRIPT);
     for (statement, text, expected) in cases {
         let mut after = before.clone();
-        assert_eq!(
-            after.amend(statement, text.as_bytes()).unwrap_err(),
-            expected,
-            "{text:.20}"
-        );
+        assert_eq!(after.amend(statement, text.as_bytes()).unwrap_err(), expected, "{text:.20}");
         assert_eq!(after.script(), before.script());
         assert_eq!(after.counts(), before.counts());
         assert_eq!(after.record_words(), before.record_words());
@@ -102,8 +84,7 @@ fn a_refused_amendment_changes_nothing() {
 fn a_script_can_be_filled_to_its_last_byte() {
     let mut note = note(SCRIPT);
     let full = 16_384 - SCRIPT.len() + "x = 1;".len();
-    note.amend(0, format!("x = 1;{}\n", " ".repeat(full - 7)).as_bytes())
-        .unwrap();
+    note.amend(0, format!("x = 1;{}\n", " ".repeat(full - 7)).as_bytes()).unwrap();
     assert_eq!(note.counts().bytes, 16_384);
     assert_as_read(&note);
 }

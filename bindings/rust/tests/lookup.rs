@@ -5,11 +5,7 @@ mod common;
 use common::{note, LISTS};
 use gorembiin::{part, Kind, Part, Record, Source, Which};
 
-const NOWHERE: Part = Part {
-    source: Source::Script,
-    start: 0,
-    bytes: b"",
-};
+const NOWHERE: Part = Part { source: Source::Script, start: 0, bytes: b"" };
 
 /// The name of the first record of a kind, in a script of which it is not in the first statement.
 fn name_in(script: &str, kind: Kind, which: Which) -> (Source, usize, String) {
@@ -35,10 +31,7 @@ fn names_are_parts_of_the_script() {
     assert_eq!(first("x = \"a b\";", Kind::String), in_script(8, "a b"));
     assert_eq!(first("x = \"\";", Kind::String), in_script(8, ""));
     assert_eq!(first("x = Spot(\"ACME\");", Kind::EquitySpot), in_script(13, "ACME"));
-    assert_eq!(
-        first("x = Df(\"2026-01-01\", \"OIS\");", Kind::Df),
-        in_script(25, "OIS")
-    );
+    assert_eq!(first("x = Df(\"2026-01-01\", \"OIS\");", Kind::Df), in_script(25, "OIS"));
     let index = "x = RateIndex(\"E\", \"2026-01-01\", \"2026-07-01\");";
     assert_eq!(first(index, Kind::RateIndex), in_script(18, "E"));
     assert_eq!(first("for ij in [1] { x; }", Kind::ForEach), in_script(7, "ij"));
@@ -46,17 +39,11 @@ fn names_are_parts_of_the_script() {
 
 #[test]
 fn currencies_are_parts_of_the_list() {
-    assert_eq!(
-        name_in("pays 1 in \"CHF\";", Kind::Pays, Which::First),
-        in_list(8, "CHF")
-    );
+    assert_eq!(name_in("pays 1 in \"CHF\";", Kind::Pays, Which::First), in_list(8, "CHF"));
     let spot = "x = Spot(\"EUR\", \"CHF\");";
     assert_eq!(name_in(spot, Kind::Spot, Which::First), in_list(4, "EUR"));
     assert_eq!(name_in(spot, Kind::Spot, Which::Second), in_list(8, "CHF"));
-    assert_eq!(
-        name_in("x = Spot(\"EUR\");", Kind::Spot, Which::Second),
-        in_list(0, "USD")
-    );
+    assert_eq!(name_in("x = Spot(\"EUR\");", Kind::Spot, Which::Second), in_list(0, "USD"));
 }
 
 #[test]
@@ -72,14 +59,7 @@ fn what_is_absent_is_empty() {
 fn any_words_are_answered() {
     let variable = |start, length| Record::from_words([1, 1, 0, start, length, 0, 0]);
     let looked = |record, start| part(b"abcdef", LISTS.currencies, record, start, Which::First);
-    assert_eq!(
-        looked(variable(2, 3), 1),
-        Part {
-            source: Source::Script,
-            start: 3,
-            bytes: b"def"
-        }
-    );
+    assert_eq!(looked(variable(2, 3), 1), Part { source: Source::Script, start: 3, bytes: b"def" });
     assert_eq!(looked(variable(2, 4), 1), NOWHERE);
     assert_eq!(looked(variable(u32::MAX, 2), 1), NOWHERE);
     assert_eq!(looked(variable(1, 1), u32::MAX), NOWHERE);

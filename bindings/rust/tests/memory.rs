@@ -28,15 +28,7 @@ fn assert_edges(room: &[u32]) {
 fn reading_writes_the_words_it_counts_and_no_other() {
     let (mut records, mut directory) = (guarded(10 * 7), guarded(4 * 4));
     let counts = read(b"x = 1;y;", &LISTS, inner(&mut records), inner(&mut directory)).unwrap();
-    assert_eq!(
-        counts,
-        Counts {
-            bytes: 8,
-            statements: 2,
-            records: 4,
-            tokens: 6
-        }
-    );
+    assert_eq!(counts, Counts { bytes: 8, statements: 2, records: 4, tokens: 6 });
     assert_edges(&records);
     assert_edges(&directory);
     assert_eq!(inner(&mut records)[4 * 7..], [GUARD; 6 * 7]);
@@ -58,15 +50,8 @@ fn too_little_room_is_refused_and_nothing_is_written() {
 
 #[test]
 fn empty_slices_are_answered() {
-    let nothing = Lists {
-        reserved: &[],
-        currencies: &[],
-        day_counters: &[],
-    };
-    let few = Lists {
-        currencies: b"USD\n",
-        ..nothing
-    };
+    let nothing = Lists { reserved: &[], currencies: &[], day_counters: &[] };
+    let few = Lists { currencies: b"USD\n", ..nothing };
     assert_eq!(read(&[], &nothing, &mut [], &mut []).unwrap_err().ground, Ground::List);
     assert_eq!(read(&[], &few, &mut [], &mut []), Ok(Counts::default()));
     let held = Counts::default();
@@ -82,15 +67,7 @@ fn amending_clears_what_it_frees_and_touches_nothing_behind() {
     let held = read(&script[..used], &LISTS, inner(&mut records), inner(&mut directory)).unwrap();
     let room = &mut script[..used + 4];
     let counts = amend(room, held, 1, b"z;", &LISTS, inner(&mut records), inner(&mut directory)).unwrap();
-    assert_eq!(
-        counts,
-        Counts {
-            bytes: 8,
-            statements: 2,
-            records: 4,
-            tokens: 6
-        }
-    );
+    assert_eq!(counts, Counts { bytes: 8, statements: 2, records: 4, tokens: 6 });
     assert_eq!(script, b"x = 1;z;\0\0\0\0##########");
     assert_edges(&records);
     assert_edges(&directory);
@@ -102,45 +79,17 @@ fn amending_clears_what_it_frees_and_touches_nothing_behind() {
 #[test]
 fn memory_that_no_reading_left_is_refused_as_it_is() {
     let wrong = [
-        Counts {
-            bytes: u32::MAX,
-            statements: u32::MAX,
-            records: u32::MAX,
-            tokens: u32::MAX,
-        },
-        Counts {
-            bytes: 6,
-            statements: 1,
-            records: 2,
-            tokens: 4,
-        },
-        Counts {
-            bytes: 5,
-            statements: 1,
-            records: 3,
-            tokens: 4,
-        },
-        Counts {
-            bytes: 6,
-            statements: 2,
-            records: 3,
-            tokens: 4,
-        },
+        Counts { bytes: u32::MAX, statements: u32::MAX, records: u32::MAX, tokens: u32::MAX },
+        Counts { bytes: 6, statements: 1, records: 2, tokens: 4 },
+        Counts { bytes: 5, statements: 1, records: 3, tokens: 4 },
+        Counts { bytes: 6, statements: 2, records: 3, tokens: 4 },
     ];
     let mut script = *b"x = 1;";
     let (mut records, mut directory) = (guarded(3 * 7), guarded(2 * 4));
     read(&script, &LISTS, inner(&mut records), inner(&mut directory)).unwrap();
     let before = (script, records.clone(), directory.clone());
     for held in wrong {
-        let answer = amend(
-            &mut script,
-            held,
-            0,
-            b"y;",
-            &LISTS,
-            inner(&mut records),
-            inner(&mut directory),
-        );
+        let answer = amend(&mut script, held, 0, b"y;", &LISTS, inner(&mut records), inner(&mut directory));
         assert_eq!(answer, Err(refusal(Ground::Directory, 0, 1, 1)));
         assert_eq!((script, records.clone(), directory.clone()), before);
     }

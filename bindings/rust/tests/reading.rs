@@ -42,20 +42,9 @@ fn a_tree_as_deep_as_the_records_allow_is_walked() {
 #[test]
 fn fields_have_names() {
     let note = note(r#"if x { pays 1 on "2026-06-30" in "CHF"; } else { } y = -1.50;"#);
-    let fields: Vec<Fields> = note
-        .statements()
-        .flat_map(|statement| statement.records())
-        .map(Record::fields)
-        .collect();
-    let date = Date {
-        year: 2026,
-        month: 6,
-        day: 30,
-    };
-    assert!(fields.contains(&Fields::Pays {
-        date: Some(date),
-        currency: Some(2)
-    }));
+    let fields: Vec<Fields> = note.statements().flat_map(|statement| statement.records()).map(Record::fields).collect();
+    let date = Date { year: 2026, month: 6, day: 30 };
+    assert!(fields.contains(&Fields::Pays { date: Some(date), currency: Some(2) }));
     assert!(fields.contains(&Fields::If { first_else: Some(2) }));
     let literal = Place { start: 5, length: 4 };
     assert!(fields.contains(&Fields::Constant { value: -1.5, literal }));
@@ -83,10 +72,7 @@ fn refusals_have_their_ground_and_place() {
         ("x = pow(1);", refusal(Ground::Arguments, 4, 1, 5)),
         ("x = Df(\"2026-02-29\");", refusal(Ground::Date, 7, 1, 8)),
         ("pays 1 in \"GBP\";", refusal(Ground::Currency, 10, 1, 11)),
-        (
-            "x = cvg(\"2026-01-01\", \"2026-01-02\", \"n\");",
-            refusal(Ground::DayCounter, 4, 1, 5),
-        ),
+        ("x = cvg(\"2026-01-01\", \"2026-01-02\", \"n\");", refusal(Ground::DayCounter, 4, 1, 5)),
         ("x = cvg(1, 2, 3);", refusal(Ground::CvgArgument, 4, 1, 5)),
     ];
     for (script, expected) in cases {
@@ -105,16 +91,10 @@ fn refusals_at_the_limits() {
 
     let nested = |depth: usize| format!("x = {}1{};", "(".repeat(depth), ")".repeat(depth));
     assert!(Note::read(nested(32).as_bytes(), LISTS).is_ok());
-    assert_eq!(
-        Note::read(nested(33).as_bytes(), LISTS).unwrap_err(),
-        refusal(Ground::TooDeep, 36, 1, 37)
-    );
+    assert_eq!(Note::read(nested(33).as_bytes(), LISTS).unwrap_err(), refusal(Ground::TooDeep, 36, 1, 37));
 
     assert_eq!(note(&"x;".repeat(512)).counts().statements, 512);
-    assert_eq!(
-        Note::read("x;".repeat(513).as_bytes(), LISTS).unwrap_err(),
-        refusal(Ground::NoRoom, 1026, 1, 1027)
-    );
+    assert_eq!(Note::read("x;".repeat(513).as_bytes(), LISTS).unwrap_err(), refusal(Ground::NoRoom, 1026, 1, 1027));
 }
 
 #[test]
@@ -129,15 +109,7 @@ fn a_malformed_list_is_refused() {
 fn a_zero_byte_ends_a_script() {
     let note = Note::read(b"x = 1;\0y = ", LISTS).unwrap();
     assert_eq!(note.script(), b"x = 1;");
-    assert_eq!(
-        note.counts(),
-        Counts {
-            bytes: 6,
-            statements: 1,
-            records: 3,
-            tokens: 4
-        }
-    );
+    assert_eq!(note.counts(), Counts { bytes: 6, statements: 1, records: 3, tokens: 4 });
 }
 
 #[test]
@@ -145,14 +117,7 @@ fn statements_are_where_the_directory_says() {
     let note = note("# c\nx = 1 ; # d\n y pays\n;");
     let found: Vec<(u32, u32, u32, &[u8])> = note
         .statements()
-        .map(|statement| {
-            (
-                statement.number(),
-                statement.start(),
-                statement.tokens(),
-                statement.text(),
-            )
-        })
+        .map(|statement| (statement.number(), statement.start(), statement.tokens(), statement.text()))
         .collect();
     assert_eq!(found, [(0, 4, 4, &b"x = 1 ;"[..]), (1, 17, 3, b"y pays\n;")]);
 }
@@ -160,9 +125,6 @@ fn statements_are_where_the_directory_says() {
 #[test]
 fn refusals_are_told_in_words() {
     let told = |script: &[u8]| Note::read(script, LISTS).unwrap_err().to_string();
-    assert_eq!(
-        told(b"x =\n$"),
-        "line 2, column 1: No token begins with this character. (ground 3)"
-    );
+    assert_eq!(told(b"x =\n$"), "line 2, column 1: No token begins with this character. (ground 3)");
     assert!(told(&[b' '; 16_385]).starts_with("The text is longer"));
 }

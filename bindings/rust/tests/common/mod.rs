@@ -4,23 +4,15 @@
 use gorembiin::{Fields, Ground, Lists, Note, Refusal, Statement, Which};
 
 /// Lists with names in all three.
-pub const LISTS: Lists = Lists {
-    reserved: b"ln\nSpot\n",
-    currencies: b"USD\nEUR\nCHF\n",
-    day_counters: b"Actual360\nThirty360\n",
-};
+pub const LISTS: Lists =
+    Lists { reserved: b"ln\nSpot\n", currencies: b"USD\nEUR\nCHF\n", day_counters: b"Actual360\nThirty360\n" };
 
 pub fn note(script: &str) -> Note<'static> {
     Note::read(script.as_bytes(), LISTS).unwrap()
 }
 
 pub fn refusal(ground: Ground, byte: u32, line: u32, column: u32) -> Refusal {
-    Refusal {
-        ground,
-        byte,
-        line,
-        column,
-    }
+    Refusal { ground, byte, line, column }
 }
 
 /// A statement's tree on one line, as `Add(x, Constant 1)`: variables by their name, constants by their value.

@@ -19,23 +19,12 @@ pub fn check(source: &Source, listed: &Listed, out: &mut impl Write) -> Result<V
 }
 
 pub fn print_counts(source: &Source, note: &Note, out: &mut impl Write) -> io::Result<()> {
-    let Counts {
-        bytes,
-        statements,
-        records,
-        tokens,
-    } = note.counts();
+    let Counts { bytes, statements, records, tokens } = note.counts();
     let name = &source.name;
-    writeln!(
-        out,
-        "{name}: accepted: {bytes} bytes, {statements} statements, {records} records, {tokens} tokens"
-    )?;
+    writeln!(out, "{name}: accepted: {bytes} bytes, {statements} statements, {records} records, {tokens} tokens")?;
     let behind = source.bytes.len() - note.script().len();
     if behind != 0 {
-        writeln!(
-            out,
-            "{name}: the script ends at the zero byte {bytes}; {behind} bytes from there on are not read"
-        )?;
+        writeln!(out, "{name}: the script ends at the zero byte {bytes}; {behind} bytes from there on are not read")?;
     }
     Ok(())
 }

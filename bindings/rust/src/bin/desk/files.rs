@@ -26,10 +26,7 @@ impl Source {
             };
         }
         let bytes = fs::read(path).map_err(|error| Failure::reading(path, &error))?;
-        Ok(Source {
-            name: path.display().to_string(),
-            bytes,
-        })
+        Ok(Source { name: path.display().to_string(), bytes })
     }
 }
 

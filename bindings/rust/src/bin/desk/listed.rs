@@ -34,28 +34,22 @@ impl Listed {
         }
     }
 
-    /// The names of the files whose lists are malformed. The library says only that one is, so it is asked of each alone,
-    /// with an empty script.
-    pub fn malformed(&self) -> Vec<&str> {
+    /// The options whose lists are malformed. The library says only that one is, so it is asked of each alone, with an empty
+    /// script.
+    pub fn malformed(&self) -> Vec<String> {
         let (lists, default) = (self.lists(), Lists::default());
-        let Lists {
-            reserved,
-            currencies,
-            day_counters,
-        } = lists;
-        #[rustfmt::skip]
-        let alone = [
-            (&self.reserved, Lists { reserved, ..default }),
-            (&self.currencies, Lists { currencies, ..default }),
-            (&self.day_counters, Lists { day_counters, ..default }),
-        ];
-        let refused = |lists: &Lists| gorembiin::read(b"", lists, &mut [], &mut []).is_err();
-        alone
-            .iter()
-            .filter(|(_, lists)| refused(lists))
-            .filter_map(|(source, _)| source.as_ref())
-            .map(|source| source.name.as_str())
-            .collect()
+        let reserved = Lists { reserved: lists.reserved, ..default };
+        let currencies = Lists { currencies: lists.currencies, ..default };
+        let day_counters = Lists { day_counters: lists.day_counters, ..default };
+        [
+            ("--reserved", &self.reserved, reserved),
+            ("--currencies", &self.currencies, currencies),
+            ("--day-counters", &self.day_counters, day_counters),
+        ]
+        .iter()
+        .filter(|(_, _, alone)| gorembiin::read(b"", alone, &mut [], &mut []).is_err())
+        .filter_map(|(option, source, _)| Some(format!("{option} {}", source.as_ref()?.name)))
+        .collect()
     }
 }
 

@@ -61,9 +61,7 @@ pub fn parse(args: impl Iterator<Item = OsString>) -> Result<Request, Failure> {
             return Err(usage(&format!("{name} takes one file")));
         }
         (Some("amend"), _) => {
-            return Err(usage(
-                "amend takes a file, a statement's number and the file of the new text",
-            ));
+            return Err(usage("amend takes a file, a statement's number and the file of the new text"));
         }
         _ => return Err(usage(&format!("there is no command {}", command.display()))),
     };
@@ -102,9 +100,7 @@ fn sort(mut args: impl Iterator<Item = OsString>) -> Result<Words, Failure> {
                 continue;
             }
         };
-        let file = args
-            .next()
-            .ok_or_else(|| usage(&format!("{} needs a file", word.display())))?;
+        let file = args.next().ok_or_else(|| usage(&format!("{} needs a file", word.display())))?;
         if list.replace(file.into()).is_some() {
             return Err(usage(&format!("{} is given twice", word.display())));
         }
@@ -120,12 +116,7 @@ fn change(file: &OsStr, number: &OsStr, text: &OsStr, write: bool) -> Result<Cha
     if write && is_stdin(Path::new(file)) {
         return Err(usage("--write needs a file, and - is standard input"));
     }
-    Ok(Change {
-        file: file.into(),
-        statement,
-        text: text.into(),
-        write,
-    })
+    Ok(Change { file: file.into(), statement, text: text.into(), write })
 }
 
 /// Standard input can be read once.

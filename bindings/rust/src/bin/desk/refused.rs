@@ -21,12 +21,7 @@ pub fn read_or_tell<'l>(source: &Source, listed: &'l Listed, out: &mut impl Writ
 
 /// Prints a refusal of `what`, whose place is in `source`.
 pub fn tell(what: &str, source: &Source, refusal: Refusal, listed: &Listed, out: &mut impl Write) -> io::Result<()> {
-    let Refusal {
-        ground,
-        byte,
-        line,
-        column,
-    } = refusal;
+    let Refusal { ground, byte, line, column } = refusal;
     writeln!(out, "{what}: refused on ground {}: {ground}", ground.number())?;
     if ground.has_place() {
         let name = &source.name;
@@ -36,7 +31,7 @@ pub fn tell(what: &str, source: &Source, refusal: Refusal, listed: &Listed, out:
     }
     match ground {
         Ground::TooLong => writeln!(out, "{} has {} bytes.", source.name, source.bytes.len()),
-        Ground::List => writeln!(out, "The malformed list: {}.", listed.malformed().join(", ")),
+        Ground::List => writeln!(out, "Malformed: {}.", listed.malformed().join(", ")),
         _ => Ok(()),
     }
 }

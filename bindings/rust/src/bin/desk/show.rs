@@ -71,9 +71,9 @@ fn described(statement: &Statement, record: Record) -> String {
             let currency = currency.map(|_| format!(" in {}", name()));
             date.unwrap_or_default() + &currency.unwrap_or_default()
         }
-        Fields::If { first_else } => first_else.map_or(String::new(), |part| {
-            format!(", part 0 is the condition, else from part {part} on")
-        }),
+        Fields::If { first_else } => {
+            first_else.map_or(String::new(), |part| format!(", part 0 is the condition, else from part {part} on"))
+        }
     };
     // the library writes no kind that has no name
     let kind = record.kind().map_or(String::new(), |kind| kind.to_string());

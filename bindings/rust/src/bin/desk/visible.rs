@@ -18,9 +18,7 @@ pub fn quoted(bytes: &[u8]) -> String {
         return String::new();
     }
     let text = bytes.strip_suffix(b"\n").unwrap_or(bytes);
-    text.split(|&byte| byte == b'\n')
-        .map(|line| format!("  | {}\n", visible(without_return(line))))
-        .collect()
+    text.split(|&byte| byte == b'\n').map(|line| format!("  | {}\n", visible(without_return(line)))).collect()
 }
 
 /// The line of a text that has the byte `at`, which is the line's `column`, from 1; and below it a caret under that byte.
