@@ -2,20 +2,13 @@
 
 mod common;
 
-use common::{note, refusal, tree, LISTS};
+use common::{assert_as_read, note, refusal, tree, LISTS};
 use gorembiin::{Ground, Note};
 
 const SCRIPT: &str = "# head\nx = 1;\n\nif x { y = 2; } # tail\nz pays x;\n";
 
 /// Each text replaces each statement of each script that arises, twice over.
 const TEXTS: [&str; 5] = ["", "a = b;", "pays 1 2;\n", "p = 1;\nq = -2**2; # c\n", "for i in [1, 2] { s += i; }"];
-
-fn assert_as_read(note: &Note) {
-    let fresh = Note::read(note.script(), note.lists()).unwrap();
-    assert_eq!(note.counts(), fresh.counts());
-    assert_eq!(note.record_words(), fresh.record_words());
-    assert_eq!(note.directory_words(), fresh.directory_words());
-}
 
 /// Amends `note` with every text at every statement, and goes on from each result.
 fn amend_all(note: &Note, turns: u32) {

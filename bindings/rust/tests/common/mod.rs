@@ -44,3 +44,11 @@ pub fn tree_of(script: &str) -> String {
     let statement = note.statements().next().unwrap();
     tree(&statement)
 }
+
+/// A note must be what reading its script from the start gives.
+pub fn assert_as_read(note: &Note) {
+    let fresh = Note::read(note.script(), note.lists()).unwrap();
+    assert_eq!(note.counts(), fresh.counts());
+    assert_eq!(note.record_words(), fresh.record_words());
+    assert_eq!(note.directory_words(), fresh.directory_words());
+}

@@ -70,7 +70,7 @@ fn shown(c: char) -> char {
 }
 
 /// A blank that takes as many columns as a character: a tab is its own, marks on the letter before take none, and wide
-/// characters take two. Of scripts the wide ones are known by their blocks alone, which is right for nearly all.
+/// characters take two. Both are told by their blocks, which is right for nearly all of them.
 fn blank_as_wide(c: char) -> &'static str {
     match c {
         '\t' => "\t",
