@@ -263,7 +263,7 @@ fn what_is_behind_a_zero_byte_stays() {
     folder.put("new", b"yy = 1;");
     let answer = folder.desk(&["check", "note"]);
     assert_eq!(answer.status, 0);
-    assert!(answer.said.ends_with("note: the script ends at the zero byte 6; 5 bytes from there on are not read\n"));
+    assert!(answer.said.ends_with("note: the script ends at the zero byte 6, which leaves 5 bytes unread\n"));
     assert_eq!(folder.desk(&["amend", "--write", "note", "0", "new"]).status, 0);
     assert_eq!(folder.get("note"), b"yy = 1;\0$ = ");
 }
@@ -329,7 +329,7 @@ fn a_file_that_cannot_be_read_is_named_and_is_2() {
 #[test]
 fn help_names_each_command() {
     let folder = Folder::new("help_names_each_command");
-    for words in [&["help"][..], &["--help"]] {
+    for words in [&["help"][..], &["--help"], &["show", "-h"]] {
         let answer = folder.desk(words);
         assert_eq!((answer.status, answer.complained.as_str()), (0, ""));
         for command in ["desk show FILE", "desk check FILE", "desk amend FILE N TEXTFILE"] {

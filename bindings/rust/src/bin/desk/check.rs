@@ -20,11 +20,19 @@ pub fn check(source: &Source, listed: &Listed, out: &mut impl Write) -> Result<V
 
 pub fn print_counts(source: &Source, note: &Note, out: &mut impl Write) -> io::Result<()> {
     let Counts { bytes, statements, records, tokens } = note.counts();
-    let name = &source.name;
-    writeln!(out, "{name}: accepted: {bytes} bytes, {statements} statements, {records} records, {tokens} tokens")?;
+    let counts = [(bytes, "byte"), (statements, "statement"), (records, "record"), (tokens, "token")];
+    let counts = counts.map(|(count, noun)| counted(count as usize, noun));
+    writeln!(out, "{}: accepted: {}", source.name, counts.join(", "))?;
     let behind = source.bytes.len() - note.script().len();
     if behind != 0 {
-        writeln!(out, "{name}: the script ends at the zero byte {bytes}; {behind} bytes from there on are not read")?;
+        let behind = counted(behind, "byte");
+        writeln!(out, "{}: the script ends at the zero byte {bytes}, which leaves {behind} unread", source.name)?;
     }
     Ok(())
+}
+
+/// A number with its noun.
+pub fn counted(count: usize, noun: &str) -> String {
+    let plural = if count == 1 { "" } else { "s" };
+    format!("{count} {noun}{plural}")
 }

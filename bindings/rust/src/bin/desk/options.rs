@@ -41,12 +41,16 @@ pub fn is_stdin(path: &Path) -> bool {
 #[derive(Default)]
 struct Words {
     plain: Vec<OsString>,
+    help: bool,
     write: bool,
     lists: ListFiles,
 }
 
 pub fn parse(args: impl Iterator<Item = OsString>) -> Result<Request, Failure> {
-    let Words { plain, write, lists } = sort(args)?;
+    let Words { plain, help, write, lists } = sort(args)?;
+    if help {
+        return Ok(Request::Help);
+    }
     let words: Vec<&OsStr> = plain.iter().map(OsString::as_os_str).collect();
     let Some((command, rest)) = words.split_first() else {
         return Err(usage("no command is given"));
@@ -68,9 +72,8 @@ pub fn parse(args: impl Iterator<Item = OsString>) -> Result<Request, Failure> {
     if write && !matches!(task, Task::Amend(_)) {
         return Err(usage("--write is an option of amend"));
     }
-    let request = Request::Work(task, lists);
-    one_reader_of_stdin(&request)?;
-    Ok(request)
+    one_reader_of_stdin(&task, &lists)?;
+    Ok(Request::Work(task, lists))
 }
 
 fn sort(mut args: impl Iterator<Item = OsString>) -> Result<Words, Failure> {
@@ -82,7 +85,7 @@ fn sort(mut args: impl Iterator<Item = OsString>) -> Result<Words, Failure> {
                 break;
             }
             Some("--help" | "-h") => {
-                words.plain.push("help".into());
+                words.help = true;
                 continue;
             }
             Some("--write") => {
@@ -120,10 +123,7 @@ fn change(file: &OsStr, number: &OsStr, text: &OsStr, write: bool) -> Result<Cha
 }
 
 /// Standard input can be read once.
-fn one_reader_of_stdin(request: &Request) -> Result<(), Failure> {
-    let Request::Work(task, lists) = request else {
-        return Ok(());
-    };
+fn one_reader_of_stdin(task: &Task, lists: &ListFiles) -> Result<(), Failure> {
     let mut files: Vec<&PathBuf> = match task {
         Task::Show(file) | Task::Check(file) => vec![file],
         Task::Amend(change) => vec![&change.file, &change.text],

@@ -4,7 +4,7 @@ use std::io::{self, Write};
 
 use gorembiin::{Date, Fields, Kind, Part, Place, Record, Source as Of, Statement, Which};
 
-use crate::check::print_counts;
+use crate::check::{counted, print_counts};
 use crate::failure::Failure;
 use crate::files::Source;
 use crate::listed::Listed;
@@ -29,15 +29,10 @@ fn line_feeds(bytes: &[u8]) -> usize {
 }
 
 fn print_statement(statement: &Statement, line: usize, out: &mut impl Write) -> io::Result<()> {
-    writeln!(
-        out,
-        "\nstatement {}, line {line}, bytes {}..{}: {} records, {} tokens",
-        statement.number(),
-        statement.start(),
-        statement.end(),
-        statement.records().len(),
-        statement.tokens()
-    )?;
+    let records = counted(statement.records().len(), "record");
+    let tokens = counted(statement.tokens() as usize, "token");
+    let (number, start, end) = (statement.number(), statement.start(), statement.end());
+    writeln!(out, "\nstatement {number}, line {line}, bytes {start}..{end}: {records}, {tokens}")?;
     out.write_all(quoted(statement.text()).as_bytes())?;
     for branch in statement.tree() {
         let indent = 2 + 2 * branch.depth;
