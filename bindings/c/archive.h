@@ -1,0 +1,182 @@
+/*
+ * The archive's calls for C: a note's script is read into records, single statements of it are replaced, and the names
+ * that records hold are looked up. Link libarchive.a, which the command tools/archive makes.
+ *
+ * What holds for all three calls:
+ *
+ * - All memory is the caller's. A call keeps no pointer once it has returned, allocates nothing, and has no state of its
+ *   own, so calls on different memory may run at the same time.
+ * - A slice is a pointer and a length, in bytes for uint8_t and in words for uint32_t. No pointer may be NULL, even where
+ *   the length is 0; a slice of length 0 may point anywhere else. What a call writes may overlap none of its other slices.
+ * - Nothing else is asked. Any bytes, any words and any lengths are answered, none is trusted to be in order.
+ * - A refusal changes nothing but the answer.
+ *
+ * The three lists hold names, each ended by a line feed, the last one too: at most 256 names a list, no name twice, a name
+ * of 1 to 32 bytes from 0x20 to 0x7E without the quote 0x22. Currencies have three capital letters, and USD comes first;
+ * the other two lists may be empty. Pass the same lists to all calls on one note: records name a currency by its place.
+ */
+#ifndef GOREMBIIN_ARCHIVE_H
+#define GOREMBIIN_ARCHIVE_H
+
+#include <stdbool.h>
+#include <stddef.h>
+#include <stdint.h>
+
+#ifdef __cplusplus
+extern "C" {
+#endif
+
+/* Widths, in words. */
+enum {
+    ARCHIVE_RECORD_WORDS = 7, /* kind, nodes in its subtree, direct parts, four fields; children before parents */
+    ARCHIVE_ENTRY_WORDS = 4,  /* of a statement: its first byte, the byte past its last token, records, tokens */
+    ARCHIVE_ANSWER_WORDS = 8,
+    ARCHIVE_PLACE_WORDS = 3
+};
+
+/* Limits. Slices of this size have room for every script; smaller ones will do for smaller scripts. */
+enum {
+    ARCHIVE_BYTES = 16384,
+    ARCHIVE_TOKENS = 4096,
+    ARCHIVE_RECORDS = 2048,
+    ARCHIVE_STATEMENTS = 512,
+    ARCHIVE_DEPTH = 32
+};
+
+/*
+ * The words of an answer. Lines and columns count from 1, and columns count bytes. An accepted call answers 0, 0, 1, 1
+ * and the counts of the whole script. A refused one answers a ground and its place, which is in the script for
+ * script_read and in the new text for script_amend, and then the counts: 0 for script_read, for script_amend those that
+ * it was given.
+ */
+enum {
+    ARCHIVE_NUMBER = 0, /* 0 accepted, else one of the grounds below */
+    ARCHIVE_BYTE = 1,
+    ARCHIVE_LINE = 2,
+    ARCHIVE_COLUMN = 3,
+    ARCHIVE_COUNT_BYTES = 4, /* bytes of the script that are used */
+    ARCHIVE_COUNT_STATEMENTS = 5,
+    ARCHIVE_COUNT_RECORDS = 6,
+    ARCHIVE_COUNT_TOKENS = 7
+};
+
+/*
+ * The kinds of a record, and its fields f1 to f4 where they are used. A place counts from the first byte of the record's
+ * statement. A date is the number yyyymmdd, a currency its place in the list, from 0, plus 1; of both, 0 is absent.
+ */
+enum {
+    ARCHIVE_VARIABLE = 1, /* start, length of the name */
+    ARCHIVE_CONSTANT = 2, /* high and low half of the bits of a double, then start, length of the literal without sign */
+    ARCHIVE_TRUE = 3,
+    ARCHIVE_FALSE = 4,
+    ARCHIVE_STRING = 5, /* start, length of what is between the quotes */
+    ARCHIVE_ARRAY = 6,
+    ARCHIVE_UNARY_MINUS = 7,
+    ARCHIVE_ADD = 8,
+    ARCHIVE_SUBTRACT = 9,
+    ARCHIVE_MULTIPLY = 10,
+    ARCHIVE_DIVIDE = 11,
+    ARCHIVE_POW = 12,
+    ARCHIVE_EQUAL = 13,
+    ARCHIVE_NOT_EQUAL = 14,
+    ARCHIVE_SUPERIOR = 15,
+    ARCHIVE_INFERIOR = 16,
+    ARCHIVE_SUPERIOR_OR_EQUAL = 17,
+    ARCHIVE_INFERIOR_OR_EQUAL = 18,
+    ARCHIVE_AND = 19,
+    ARCHIVE_OR = 20,
+    ARCHIVE_LN = 21,
+    ARCHIVE_EXP = 22,
+    ARCHIVE_MIN = 23,
+    ARCHIVE_MAX = 24,
+    ARCHIVE_CVG = 25,
+    ARCHIVE_FIF = 26,
+    ARCHIVE_RANGE = 27,
+    ARCHIVE_INDEX = 28,
+    ARCHIVE_APPEND = 29,
+    ARCHIVE_MEAN = 30,
+    ARCHIVE_STD = 31,
+    ARCHIVE_SPOT = 32,       /* two currencies, date */
+    ARCHIVE_EQUITY = 33,     /* start, length of the name, date */
+    ARCHIVE_DF = 34,         /* date, start of the curve's name (0 absent), its length */
+    ARCHIVE_RATE_INDEX = 35, /* start, length of the name, two dates */
+    ARCHIVE_PAYS = 36,       /* date, currency */
+    ARCHIVE_ASSIGN = 37,
+    ARCHIVE_IF = 38,      /* first_else: 0 without else, or 1 plus the statements of the first body */
+    ARCHIVE_FOR_EACH = 39 /* start, length of the loop variable */
+};
+
+/* The grounds of a refusal. */
+enum {
+    ARCHIVE_ACCEPTED = 0,
+    ARCHIVE_TOO_LONG = 1,           /* script or new text too long */
+    ARCHIVE_LIST = 2,               /* list malformed */
+    ARCHIVE_CHARACTER = 3,          /* invalid character */
+    ARCHIVE_OPEN_STRING = 4,        /* string not closed */
+    ARCHIVE_NUMBER_MALFORMED = 5,   /* number with two dots */
+    ARCHIVE_NUMBER_TOO_LONG = 6,    /* digits over 9007199254740992, or more than 15 after the dot */
+    ARCHIVE_TOO_MANY_TOKENS = 7,
+    ARCHIVE_TOKEN = 8,              /* token not allowed here, end included */
+    ARCHIVE_RESERVED = 9,           /* reserved word */
+    ARCHIVE_ARGUMENTS = 10,         /* argument count, or unknown method */
+    ARCHIVE_DATE = 11,
+    ARCHIVE_CURRENCY = 12,
+    ARCHIVE_DAY_COUNTER = 13,
+    ARCHIVE_CVG_ARGUMENT = 14,      /* cvg argument not a string */
+    ARCHIVE_TOO_DEEP = 15,
+    ARCHIVE_NO_ROOM = 16,           /* over a limit, or a lent slice is too short */
+    ARCHIVE_NO_STATEMENT = 17,      /* no such statement */
+    ARCHIVE_BAD_END = 18,           /* new text ends badly */
+    ARCHIVE_ZERO_BYTE = 19,         /* zero byte in new text */
+    ARCHIVE_DIRECTORY = 20          /* directory not in order: no reading left this memory */
+};
+
+/*
+ * Reads a script: the bytes before the first zero byte of its slice, or all.
+ *
+ * Accepted, the first words of `records` and of `directory` are the script's, as many as the answer counts; the words
+ * behind them are as they were. The script is not written. `answer` is written whole, and not read.
+ */
+void script_read(const uint8_t *script, size_t script_bytes,
+                 const uint8_t *reserved, size_t reserved_bytes,
+                 const uint8_t *currencies, size_t currencies_bytes,
+                 const uint8_t *day_counters, size_t day_counters_bytes,
+                 uint32_t *records, size_t records_words,
+                 uint32_t *directory, size_t directory_words,
+                 uint32_t answer[ARCHIVE_ANSWER_WORDS]);
+
+/*
+ * Replaces the bytes of one statement, counted from 0, by those of `text`, which may hold one statement, several or none.
+ *
+ * At entry the last four words of `answer` are the counts of the note, as script_read or the last script_amend left them,
+ * and `script`, `records` and `directory` are its memory; `script` is the whole room, of which the first bytes are used.
+ * Accepted, the three slices are what script_read of the new script would leave, room that became free is 0, and `answer`
+ * has the new counts. Refused, the slices are as they were, and `answer` still ends in the same counts. So one answer can
+ * be passed from call to call.
+ */
+void script_amend(uint8_t *script, size_t script_bytes, uint32_t statement,
+                  const uint8_t *text, size_t text_bytes,
+                  const uint8_t *reserved, size_t reserved_bytes,
+                  const uint8_t *currencies, size_t currencies_bytes,
+                  const uint8_t *day_counters, size_t day_counters_bytes,
+                  uint32_t *records, size_t records_words,
+                  uint32_t *directory, size_t directory_words,
+                  uint32_t answer[ARCHIVE_ANSWER_WORDS]);
+
+/*
+ * Where the name of a record stands: its first name, or with `second` the second currency of a Spot. `script_bytes` is the
+ * count of used bytes, and `start` the first byte of the record's statement, from the directory.
+ *
+ * `place` becomes 0 for the script or 1 for the list of currencies, then first byte, then length. A record that has no
+ * such name, or names a place outside, answers 0, 0, 0. Nothing else is written.
+ */
+void script_part(const uint8_t *script, size_t script_bytes,
+                 const uint8_t *currencies, size_t currencies_bytes,
+                 const uint32_t record[ARCHIVE_RECORD_WORDS], uint32_t start, bool second,
+                 uint32_t place[ARCHIVE_PLACE_WORDS]);
+
+#ifdef __cplusplus
+}
+#endif
+
+#endif

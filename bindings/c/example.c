@@ -1,0 +1,98 @@
+/* Reads a note, replaces a statement, has an amendment refused, and looks a name up. Exits with 1 where an answer is not
+ * the one that this example is about. */
+#include "archive.h"
+
+#include <stdio.h>
+#include <string.h>
+
+static const char reserved[] = "";
+static const char currencies[] = "USD\nEUR\n";
+static const char day_counters[] = "";
+
+/* One note: its memory, and the answer of the last call, which carries the counts to the next one. */
+struct note {
+    uint8_t script[ARCHIVE_BYTES];
+    uint32_t records[ARCHIVE_RECORDS * ARCHIVE_RECORD_WORDS];
+    uint32_t directory[ARCHIVE_STATEMENTS * ARCHIVE_ENTRY_WORDS];
+    uint32_t answer[ARCHIVE_ANSWER_WORDS];
+};
+
+static const uint8_t *bytes(const char *text)
+{
+    return (const uint8_t *)text;
+}
+
+static void read_note(struct note *n, const char *text)
+{
+    size_t length = strlen(text);
+    memcpy(n->script, text, length);
+    script_read(n->script, length, bytes(reserved), strlen(reserved), bytes(currencies), strlen(currencies),
+                bytes(day_counters), strlen(day_counters), n->records, sizeof n->records / sizeof n->records[0],
+                n->directory, sizeof n->directory / sizeof n->directory[0], n->answer);
+}
+
+static void amend_note(struct note *n, uint32_t statement, const char *text)
+{
+    script_amend(n->script, sizeof n->script, statement, bytes(text), strlen(text), bytes(reserved), strlen(reserved),
+                 bytes(currencies), strlen(currencies), bytes(day_counters), strlen(day_counters), n->records,
+                 sizeof n->records / sizeof n->records[0], n->directory, sizeof n->directory / sizeof n->directory[0],
+                 n->answer);
+}
+
+static void print_note(const struct note *n, const char *what)
+{
+    const uint32_t *a = n->answer;
+    if (a[ARCHIVE_NUMBER] == ARCHIVE_ACCEPTED) {
+        printf("%s: accepted\n", what);
+    } else {
+        printf("%s: refused on ground %u at line %u, column %u\n", what, (unsigned)a[ARCHIVE_NUMBER],
+               (unsigned)a[ARCHIVE_LINE], (unsigned)a[ARCHIVE_COLUMN]);
+    }
+    printf("  %u bytes, %u statements, %u records, %u tokens\n", (unsigned)a[ARCHIVE_COUNT_BYTES],
+           (unsigned)a[ARCHIVE_COUNT_STATEMENTS], (unsigned)a[ARCHIVE_COUNT_RECORDS],
+           (unsigned)a[ARCHIVE_COUNT_TOKENS]);
+    printf("  %.*s\n", (int)a[ARCHIVE_COUNT_BYTES], (const char *)n->script);
+}
+
+static bool holds(const struct note *n, const char *text)
+{
+    size_t length = strlen(text);
+    return n->answer[ARCHIVE_COUNT_BYTES] == length && memcmp(n->script, text, length) == 0;
+}
+
+/* Prints the name of the note's first record, and says whether it is the one expected. */
+static bool names(const struct note *n, const char *expected)
+{
+    uint32_t place[ARCHIVE_PLACE_WORDS];
+    script_part(n->script, n->answer[ARCHIVE_COUNT_BYTES], bytes(currencies), strlen(currencies), n->records,
+                n->directory[0], false, place);
+    const char *name = (place[0] == 0 ? (const char *)n->script : currencies) + place[1];
+    printf("first record: kind %u, %.*s\n", (unsigned)n->records[0], (int)place[2], name);
+    return place[2] == strlen(expected) && memcmp(name, expected, place[2]) == 0;
+}
+
+int main(void)
+{
+    static struct note n;
+    bool good = true;
+
+    read_note(&n, "rate = 0.05;\nfloor = 0.01;\npays rate in \"EUR\";");
+    print_note(&n, "read");
+    good &= n.answer[ARCHIVE_NUMBER] == ARCHIVE_ACCEPTED && n.answer[ARCHIVE_COUNT_STATEMENTS] == 3;
+
+    amend_note(&n, 1, "floor = max(0, rate - 0.02);");
+    print_note(&n, "amend statement 1");
+    good &= n.answer[ARCHIVE_NUMBER] == ARCHIVE_ACCEPTED;
+    good &= holds(&n, "rate = 0.05;\nfloor = max(0, rate - 0.02);\npays rate in \"EUR\";");
+
+    amend_note(&n, 0, "rate = ;");
+    print_note(&n, "amend statement 0");
+    good &= n.answer[ARCHIVE_NUMBER] == ARCHIVE_TOKEN && n.answer[ARCHIVE_BYTE] == 7;
+    good &= holds(&n, "rate = 0.05;\nfloor = max(0, rate - 0.02);\npays rate in \"EUR\";");
+
+    good &= names(&n, "rate");
+    if (!good) {
+        fputs("example: an answer is not the one expected\n", stderr);
+    }
+    return good ? 0 : 1;
+}

@@ -1,0 +1,24 @@
+//! Reads a note, replaces a statement, and lists what each variable is called: `cargo run --example amend`.
+
+use gorembiin::{Kind, Lists, Note, Refusal, Which};
+
+fn main() -> Result<(), Refusal> {
+    let lists = Lists { currencies: b"USD\nEUR\nCHF\n", ..Lists::default() };
+    let mut note = Note::read(b"rate = 0.05;\nfloor = 0.01;\npays rate in \"CHF\";\n", lists)?;
+
+    note.amend(1, b"floor = max(0, rate - 0.02);")?;
+    println!("{}", String::from_utf8_lossy(note.script()));
+
+    for statement in note.statements() {
+        let variables = statement.records().filter(|record| record.kind() == Some(Kind::Variable));
+        let names: Vec<_> =
+            variables.map(|record| String::from_utf8_lossy(statement.text_of(record, Which::First).bytes)).collect();
+        println!("statement {} names {}", statement.number(), names.join(", "));
+    }
+
+    // A refusal says why and where, and leaves the note as it was.
+    if let Err(refusal) = note.amend(0, b"rate = 5%;") {
+        println!("refused: {refusal}");
+    }
+    Ok(())
+}

@@ -1,0 +1,61 @@
+//! What a call answers.
+
+use std::error::Error;
+use std::fmt;
+
+use crate::foreign;
+use crate::ground::Ground;
+
+/// How much of a note's memory is used.
+#[derive(Clone, Copy, Debug, Default, PartialEq, Eq)]
+pub struct Counts {
+    /// Bytes of the script.
+    pub bytes: u32,
+    /// Top-level statements, each with an entry in the directory.
+    pub statements: u32,
+    /// Records of all statements.
+    pub records: u32,
+    /// Tokens, line breaks aside.
+    pub tokens: u32,
+}
+
+/// A call that was refused: the lent memory is as it was.
+#[derive(Clone, Copy, Debug, PartialEq, Eq)]
+pub struct Refusal {
+    /// Why.
+    pub ground: Ground,
+    /// The place, from 0, in the script that was read or in the new text of an amendment.
+    pub byte: u32,
+    /// Its line, from 1.
+    pub line: u32,
+    /// Its column, from 1, in bytes.
+    pub column: u32,
+}
+
+impl fmt::Display for Refusal {
+    fn fmt(&self, f: &mut fmt::Formatter<'_>) -> fmt::Result {
+        let number = self.ground.number();
+        if self.ground.has_place() {
+            write!(f, "line {}, column {}: ", self.line, self.column)?;
+        }
+        write!(f, "{} (ground {number})", self.ground)
+    }
+}
+
+impl Error for Refusal {}
+
+/// Sorts the words of an answer.
+///
+/// # Panics
+///
+/// Where the number is none of the library's. It is proved to answer no other, so this tells that another library was
+/// linked than the one these bindings are for.
+pub(crate) fn outcome(answer: foreign::Answer) -> Result<Counts, Refusal> {
+    let [number, byte, line, column, bytes, statements, records, tokens] = answer;
+    if number == 0 {
+        return Ok(Counts { bytes, statements, records, tokens });
+    }
+    let ground =
+        Ground::from_number(number).unwrap_or_else(|| panic!("libarchive.a answered {number}, which is no ground"));
+    Err(Refusal { ground, byte, line, column })
+}

@@ -1,0 +1,78 @@
+//! `desk amend`: a statement replaced.
+
+use std::io::{self, Write};
+
+use gorembiin::{Counts, Ground, Note};
+
+use crate::failure::Failure;
+use crate::files::{self, Source};
+use crate::listed::Listed;
+use crate::options::Change;
+use crate::refused::{read_or_tell, tell};
+use crate::visible::quoted;
+use crate::Verdict;
+
+pub fn amend(change: &Change, listed: &Listed, out: &mut impl Write) -> Result<Verdict, Failure> {
+    let source = Source::open(&change.file)?;
+    let text = Source::open(&change.text)?;
+    let Some(before) = read_or_tell(&source, listed, out)? else {
+        return Ok(Verdict::Refused);
+    };
+    let what = format!("{}, statement {}", source.name, change.statement);
+    let mut after = before.clone();
+    if let Err(refusal) = after.amend(change.statement, &text.bytes) {
+        tell(&what, &text, refusal, listed, out)?;
+        if refusal.ground == Ground::NoStatement {
+            print_numbers(&source, before.counts().statements, out)?;
+        }
+        return Ok(Verdict::Refused);
+    }
+    writeln!(out, "{what}: accepted")?;
+    print_change(&before, &after, change, &text, out)?;
+    print_counts(before.counts(), after.counts(), out)?;
+    if change.write {
+        // what is behind the script's end is not the library's, and stays
+        let behind = &source.bytes[before.script().len()..];
+        files::replace(&change.file, &[after.script(), behind].concat())?;
+        writeln!(out, "{}: written", source.name)?;
+    } else {
+        writeln!(out, "{}: not written, which takes --write", source.name)?;
+    }
+    Ok(Verdict::Accepted)
+}
+
+fn print_numbers(source: &Source, statements: u32, out: &mut impl Write) -> io::Result<()> {
+    let name = &source.name;
+    match statements.checked_sub(1) {
+        None => writeln!(out, "{name} has no statements."),
+        Some(last) => writeln!(out, "{name} has the statements 0 to {last}."),
+    }
+}
+
+fn print_change(before: &Note, after: &Note, change: &Change, text: &Source, out: &mut impl Write) -> io::Result<()> {
+    let old = before.statements().nth(change.statement as usize);
+    let old = old.map_or(&b""[..], |statement| statement.text());
+    let first = change.statement;
+    let next = first + 1 + after.counts().statements - before.counts().statements;
+    let read = match next - first {
+        0 => "no statement".to_owned(),
+        1 => format!("statement {first}"),
+        _ => format!("statements {first} to {}", next - 1),
+    };
+    write!(out, "before:\n{}", quoted(old))?;
+    write!(out, "after, {read}:\n{}", quoted(&text.bytes))
+}
+
+fn print_counts(before: Counts, after: Counts, out: &mut impl Write) -> io::Result<()> {
+    let rows = [
+        ("bytes", before.bytes, after.bytes),
+        ("statements", before.statements, after.statements),
+        ("records", before.records, after.records),
+        ("tokens", before.tokens, after.tokens),
+    ];
+    writeln!(out, "{:<10} {:>6} {:>6}", "", "before", "after")?;
+    for (name, before, after) in rows {
+        writeln!(out, "{name:<10} {before:>6} {after:>6}")?;
+    }
+    Ok(())
+}

@@ -1,0 +1,137 @@
+//! The library's C functions. All `unsafe` code of the crate is here: it turns slices into pointers and lengths.
+//!
+//! Each function is sound for all arguments. The library asks nothing of its caller but slices that are what they say and
+//! do not overlap, which Rust's references are; an empty slice has a pointer that is not null. It reads and writes within
+//! them, keeps no pointer, and has no state.
+#![allow(unsafe_code)]
+
+use crate::lists::Lists;
+use crate::RECORD_WORDS;
+
+/// Number, byte, line, column, bytes, statements, records, tokens.
+pub(crate) type Answer = [u32; 8];
+
+/// 0 for the script or 1 for the list of currencies, first byte, length.
+pub(crate) type Place = [u32; 3];
+
+extern "C" {
+    fn script_read(
+        script: *const u8,
+        script_bytes: usize,
+        reserved: *const u8,
+        reserved_bytes: usize,
+        currencies: *const u8,
+        currencies_bytes: usize,
+        day_counters: *const u8,
+        day_counters_bytes: usize,
+        records: *mut u32,
+        records_words: usize,
+        directory: *mut u32,
+        directory_words: usize,
+        answer: *mut Answer,
+    );
+
+    fn script_amend(
+        script: *mut u8,
+        script_bytes: usize,
+        statement: u32,
+        text: *const u8,
+        text_bytes: usize,
+        reserved: *const u8,
+        reserved_bytes: usize,
+        currencies: *const u8,
+        currencies_bytes: usize,
+        day_counters: *const u8,
+        day_counters_bytes: usize,
+        records: *mut u32,
+        records_words: usize,
+        directory: *mut u32,
+        directory_words: usize,
+        answer: *mut Answer,
+    );
+
+    fn script_part(
+        script: *const u8,
+        script_bytes: usize,
+        currencies: *const u8,
+        currencies_bytes: usize,
+        record: *const [u32; RECORD_WORDS],
+        start: u32,
+        second: bool,
+        place: *mut Place,
+    );
+}
+
+pub(crate) fn read(script: &[u8], lists: &Lists, records: &mut [u32], directory: &mut [u32]) -> Answer {
+    let mut answer = [0; 8];
+    // SAFETY: every pointer and length is of one live slice or array, and those that are written are borrowed alone.
+    unsafe {
+        script_read(
+            script.as_ptr(),
+            script.len(),
+            lists.reserved.as_ptr(),
+            lists.reserved.len(),
+            lists.currencies.as_ptr(),
+            lists.currencies.len(),
+            lists.day_counters.as_ptr(),
+            lists.day_counters.len(),
+            records.as_mut_ptr(),
+            records.len(),
+            directory.as_mut_ptr(),
+            directory.len(),
+            &mut answer,
+        );
+    }
+    answer
+}
+
+/// The last four words of `answer` are the counts that the memory holds, before and after.
+pub(crate) fn amend(
+    script: &mut [u8],
+    statement: u32,
+    text: &[u8],
+    lists: &Lists,
+    records: &mut [u32],
+    directory: &mut [u32],
+    answer: &mut Answer,
+) {
+    // SAFETY: as in `read`.
+    unsafe {
+        script_amend(
+            script.as_mut_ptr(),
+            script.len(),
+            statement,
+            text.as_ptr(),
+            text.len(),
+            lists.reserved.as_ptr(),
+            lists.reserved.len(),
+            lists.currencies.as_ptr(),
+            lists.currencies.len(),
+            lists.day_counters.as_ptr(),
+            lists.day_counters.len(),
+            records.as_mut_ptr(),
+            records.len(),
+            directory.as_mut_ptr(),
+            directory.len(),
+            answer,
+        );
+    }
+}
+
+pub(crate) fn part(script: &[u8], currencies: &[u8], record: &[u32; RECORD_WORDS], start: u32, second: bool) -> Place {
+    let mut place = [0; 3];
+    // SAFETY: as in `read`.
+    unsafe {
+        script_part(
+            script.as_ptr(),
+            script.len(),
+            currencies.as_ptr(),
+            currencies.len(),
+            record,
+            start,
+            second,
+            &mut place,
+        );
+    }
+    place
+}

@@ -1,0 +1,104 @@
+//! Texts that nobody chose: every one is answered, and what is accepted hangs together.
+
+mod common;
+
+use common::{assert_as_read, LISTS};
+use gorembiin::{Fields, Note, Which};
+
+/// Pieces of scripts, and bytes that have no place in one.
+const PIECES: [&[u8]; 32] = [
+    b"x",
+    b"y1",
+    b" = ",
+    b" += ",
+    b";",
+    b";\n",
+    b"\n",
+    b" ",
+    b"\r\n",
+    b"\t",
+    b"# c\n",
+    b"1",
+    b"2.5",
+    b"-",
+    b"+",
+    b"**",
+    b"(",
+    b")",
+    b"[",
+    b"]",
+    b"{ ",
+    b"} ",
+    b"if ",
+    b" else ",
+    b"for i in ",
+    b"pays ",
+    b"\"EUR\"",
+    b" in \"USD\"",
+    b"Spot(",
+    b".mean()",
+    b"$",
+    b"\xC3\xA9",
+];
+
+/// Numbers by a linear congruence, the same at each run.
+struct Dice(u64);
+
+impl Dice {
+    fn below(&mut self, bound: usize) -> usize {
+        self.0 = self.0.wrapping_mul(6_364_136_223_846_793_005).wrapping_add(1_442_695_040_888_963_407);
+        (self.0 >> 33) as usize % bound
+    }
+
+    /// Mostly statements that can be read, so that more than the first token is reached.
+    fn text(&mut self) -> Vec<u8> {
+        let mut text = Vec::new();
+        for _ in 0..self.below(5) {
+            match self.below(6) {
+                0 => text.extend(b"if x { y = -2**2; } else { pays x; }\n"),
+                1 => text.extend(b"x += Spot(\"EUR\", \"CHF\");"),
+                2 => text.extend(b"for i in [1, 2] { z pays i in \"CHF\"; } # c\n"),
+                3 => text.extend(b"\"a\";"),
+                _ => text.extend((0..self.below(6)).flat_map(|_| PIECES[self.below(PIECES.len())])),
+            }
+        }
+        text
+    }
+}
+
+/// Each tree has all records of its statement, each name is what its fields place, and the statements have all records.
+fn assert_whole(note: &Note) {
+    let mut records = 0;
+    for statement in note.statements() {
+        assert_eq!(statement.tree().count(), statement.records().len());
+        records += statement.records().len();
+        for record in statement.records() {
+            if let Fields::Name(place) | Fields::ForEach { variable: place } = record.fields() {
+                let name = &statement.text()[place.start as usize..][..place.length as usize];
+                assert_eq!(statement.text_of(record, Which::First).bytes, name);
+            }
+        }
+    }
+    assert_eq!(records, note.counts().records as usize);
+}
+
+#[test]
+fn any_text_is_answered() {
+    let mut dice = Dice(1);
+    let (mut accepted, mut amended) = (0, 0);
+    for _ in 0..3000 {
+        let Ok(mut note) = Note::read(&dice.text(), LISTS) else { continue };
+        assert_whole(&note);
+        accepted += 1;
+        for _ in 0..4 {
+            let number = dice.below(note.counts().statements as usize + 1) as u32;
+            if note.amend(number, &dice.text()).is_ok() {
+                assert_whole(&note);
+                amended += 1;
+            }
+            assert_as_read(&note);
+        }
+    }
+    // the dice must not be so unlucky that nothing is tested
+    assert!(accepted > 500 && amended > 500, "{accepted} accepted, {amended} amended");
+}

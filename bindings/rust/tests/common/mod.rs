@@ -1,0 +1,54 @@
+//! What the tests share.
+#![allow(dead_code)] // each test program uses its own part
+
+use gorembiin::{Fields, Ground, Lists, Note, Refusal, Statement, Which};
+
+/// Lists with names in all three.
+pub const LISTS: Lists =
+    Lists { reserved: b"ln\nSpot\n", currencies: b"USD\nEUR\nCHF\n", day_counters: b"Actual360\nThirty360\n" };
+
+pub fn note(script: &str) -> Note<'static> {
+    Note::read(script.as_bytes(), LISTS).unwrap()
+}
+
+pub fn refusal(ground: Ground, byte: u32, line: u32, column: u32) -> Refusal {
+    Refusal { ground, byte, line, column }
+}
+
+/// A statement's tree on one line, as `Add(x, Constant 1)`: variables by their name, constants by their value.
+pub fn tree(statement: &Statement) -> String {
+    let mut written = String::new();
+    let mut depth = 0;
+    for branch in statement.tree() {
+        if branch.depth > depth {
+            written.push('(');
+        } else if !written.is_empty() {
+            written.push_str(&")".repeat(depth - branch.depth));
+            written.push_str(", ");
+        }
+        depth = branch.depth;
+        let name = statement.text_of(branch.record, Which::First).bytes;
+        written.push_str(&match branch.record.fields() {
+            Fields::Name(_) => String::from_utf8_lossy(name).into_owned(),
+            Fields::Constant { value, .. } => value.to_string(),
+            _ => branch.record.kind().unwrap().to_string(),
+        });
+    }
+    written + &")".repeat(depth)
+}
+
+/// The tree of a script that has one statement.
+pub fn tree_of(script: &str) -> String {
+    let note = note(script);
+    assert_eq!(note.counts().statements, 1, "{script}");
+    let statement = note.statements().next().unwrap();
+    tree(&statement)
+}
+
+/// A note must be what reading its script from the start gives.
+pub fn assert_as_read(note: &Note) {
+    let fresh = Note::read(note.script(), note.lists()).unwrap();
+    assert_eq!(note.counts(), fresh.counts());
+    assert_eq!(note.record_words(), fresh.record_words());
+    assert_eq!(note.directory_words(), fresh.directory_words());
+}

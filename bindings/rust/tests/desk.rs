@@ -1,0 +1,339 @@
+//! The program `desk`, run as a user runs it.
+
+use std::fs;
+use std::io::Write;
+use std::path::{Path, PathBuf};
+use std::process::{Command, Output, Stdio};
+
+/// A folder of its own for each test, gone when the test ends.
+struct Folder(PathBuf);
+
+impl Folder {
+    fn new(test: &str) -> Self {
+        let path = Path::new(env!("CARGO_TARGET_TMPDIR")).join(test);
+        fs::remove_dir_all(&path).ok();
+        fs::create_dir_all(&path).unwrap();
+        Folder(path)
+    }
+
+    fn put(&self, name: &str, bytes: &[u8]) {
+        fs::write(self.0.join(name), bytes).unwrap();
+    }
+
+    fn get(&self, name: &str) -> Vec<u8> {
+        fs::read(self.0.join(name)).unwrap()
+    }
+
+    /// The names of all files that are there.
+    fn names(&self) -> Vec<String> {
+        let entries = fs::read_dir(&self.0).unwrap();
+        let mut names: Vec<String> = entries.map(|entry| entry.unwrap().file_name().into_string().unwrap()).collect();
+        names.sort();
+        names
+    }
+
+    fn desk(&self, words: &[&str]) -> Answer {
+        self.desk_on(words, b"")
+    }
+
+    /// Runs `desk` in the folder, with these bytes on standard input.
+    fn desk_on(&self, words: &[&str], input: &[u8]) -> Answer {
+        let mut child = Command::new(env!("CARGO_BIN_EXE_desk"))
+            .args(words)
+            .current_dir(&self.0)
+            .stdin(Stdio::piped())
+            .stdout(Stdio::piped())
+            .stderr(Stdio::piped())
+            .spawn()
+            .unwrap();
+        // a program that does not read its input may be gone by now
+        child.stdin.take().unwrap().write_all(input).ok();
+        Answer::from(child.wait_with_output().unwrap())
+    }
+}
+
+impl Drop for Folder {
+    fn drop(&mut self) {
+        fs::remove_dir_all(&self.0).ok();
+    }
+}
+
+#[derive(Debug, PartialEq)]
+struct Answer {
+    status: i32,
+    said: String,
+    complained: String,
+}
+
+impl From<Output> for Answer {
+    fn from(output: Output) -> Self {
+        Answer {
+            status: output.status.code().unwrap(),
+            said: String::from_utf8(output.stdout).unwrap(),
+            complained: String::from_utf8(output.stderr).unwrap(),
+        }
+    }
+}
+
+fn says(status: i32, said: &str) -> Answer {
+    Answer { status, said: said.to_owned(), complained: String::new() }
+}
+
+const NOTE: &[u8] = b"rate = 0.05;\nx pays rate in \"EUR\";\n";
+
+#[test]
+fn check_says_the_counts() {
+    let folder = Folder::new("check_says_the_counts");
+    folder.put("note", NOTE);
+    let accepted = "note: accepted: 35 bytes, 2 statements, 9 records, 10 tokens\n";
+    assert_eq!(folder.desk(&["check", "note"]), says(0, accepted));
+    let answer = folder.desk_on(&["check", "-"], NOTE);
+    assert_eq!(answer, says(0, &accepted.replace("note", "standard input")));
+}
+
+#[test]
+fn check_points_at_the_place() {
+    let folder = Folder::new("check_points_at_the_place");
+    let token = "refused on ground 8: This token is not allowed here, or the text ends too early.";
+    let cases: [(&[u8], &str, &str); 5] = [
+        (b"x = 1;\ny = ;\n", "line 2, column 5, byte 11", "  2 | y = ;\n    |     ^\n"),
+        // tabs stay tabs, so that both lines are as wide
+        (b"\tx =\t;", "line 1, column 6, byte 5", "  1 | \tx =\t;\n    | \t   \t^\n"),
+        // columns are bytes, and the caret is under the character
+        ("f(\"é日e\u{301}\" ;".as_bytes(), "line 1, column 2, byte 1", "  1 | f(\"é日e\u{301}\" ;\n    |  ^\n"),
+        (
+            "\"é日e\u{301}\" ) ;\r\n".as_bytes(),
+            "line 1, column 12, byte 11",
+            "  1 | \"é日e\u{301}\" ) ;\n    |        ^\n",
+        ),
+        (b"x = 1", "line 1, column 6, byte 5", "  1 | x = 1\n    |      ^\n"),
+    ];
+    for (script, place, lines) in cases {
+        folder.put("note", script);
+        let expected = format!("note: {token}\nnote: {place}:\n{lines}");
+        assert_eq!(folder.desk(&["check", "note"]), says(1, &expected));
+    }
+}
+
+#[test]
+fn a_terminal_is_not_handed_control_characters() {
+    let folder = Folder::new("a_terminal_is_not_handed_control_characters");
+    folder.put("note", b"x = \"\x1B[2J\xFF\" $;");
+    let answer = folder.desk(&["check", "note"]);
+    assert!(answer.said.ends_with("  1 | x = \"\u{241B}[2J\u{FFFD}\" $;\n    |             ^\n"), "{}", answer.said);
+}
+
+#[test]
+fn a_long_line_is_cut_around_the_place() {
+    let folder = Folder::new("a_long_line_is_cut_around_the_place");
+    folder.put("note", format!("x = {}$ {};", "1 + ".repeat(1000), "1 + ".repeat(1000)).as_bytes());
+    let said = folder.desk(&["check", "note"]).said;
+    let lines: Vec<&str> = said.lines().collect();
+    assert!(lines[2..].iter().all(|line| line.chars().count() < 130), "{said}");
+    let caret = lines[3].chars().position(|c| c == '^').unwrap();
+    assert_eq!(lines[2].chars().nth(caret), Some('$'));
+}
+
+#[test]
+fn a_script_that_is_too_long_is_told_its_length() {
+    let folder = Folder::new("a_script_that_is_too_long_is_told_its_length");
+    folder.put("note", &[b' '; 16_385]);
+    let answer = folder.desk(&["check", "note"]);
+    let expected = "note: refused on ground 1: The text is longer than the 16,384 bytes that a script may have.\n\
+                    note has 16385 bytes.\n";
+    assert_eq!(answer, says(1, expected));
+}
+
+#[test]
+fn lists_come_from_files() {
+    let folder = Folder::new("lists_come_from_files");
+    folder.put("note", b"pays cvg(\"2026-01-01\", \"2026-07-01\", \"A360\") in \"CHF\";");
+    folder.put("ccy", b"USD\nCHF\n");
+    folder.put("days", b"A360\n");
+    folder.put("taken", b"x\n");
+    assert!(folder.desk(&["check", "note"]).said.contains("ground 13"));
+    let days = ["check", "note", "--day-counters", "days"];
+    assert!(folder.desk(&days).said.contains("ground 12"));
+    let both = ["--currencies", "ccy", "check", "note", "--day-counters", "days"];
+    assert_eq!(folder.desk(&both).status, 0);
+    let reserved = folder.desk_on(&["check", "--reserved", "taken", "-"], b"x = 1;");
+    assert!(reserved.said.contains("ground 9"));
+}
+
+#[test]
+fn a_malformed_list_is_named() {
+    let folder = Folder::new("a_malformed_list_is_named");
+    folder.put("good", b"USD\n");
+    folder.put("bad", b"A360");
+    let words = ["check", "-", "--currencies", "good", "--day-counters", "bad", "--reserved", "bad"];
+    let expected = "standard input: refused on ground 2: A list of names is malformed.\n\
+                    Malformed: --reserved bad, --day-counters bad.\n";
+    assert_eq!(folder.desk(&words), says(1, expected));
+}
+
+#[test]
+fn show_prints_trees_with_names_and_places() {
+    let folder = Folder::new("show_prints_trees_with_names_and_places");
+    folder.put("note", b"# c\r\nx = Spot(\"EUR\") * -2**2;\r\npays \"a\tb\"\r\non \"2026-06-30\"");
+    let expected = "note: accepted: 58 bytes, 2 statements, 9 records, 16 tokens
+
+statement 0, line 2, bytes 5..29: 7 records, 12 tokens
+  | x = Spot(\"EUR\") * -2**2;
+  Assign
+    Variable x at 5..6
+    Multiply
+      Spot EUR in USD
+      Pow
+        Constant -2 at 24..25
+        Constant 2 at 27..28
+
+statement 1, line 3, bytes 31..58: 2 records, 4 tokens
+  | pays \"a\tb\"
+  | on \"2026-06-30\"
+  Pays on 2026-06-30
+    String \"a\tb\" at 37..40
+";
+    assert_eq!(folder.desk(&["show", "note"]), says(0, expected));
+    folder.put("note", b"x = ;");
+    let (shown, checked) = (folder.desk(&["show", "note"]), folder.desk(&["check", "note"]));
+    assert_eq!(shown.status, 1);
+    assert_eq!(shown, checked);
+}
+
+#[test]
+fn amend_prints_what_would_change() {
+    let folder = Folder::new("amend_prints_what_would_change");
+    folder.put("note", NOTE);
+    folder.put("new", b"rate = 0.06;\nfloor = 0.01;");
+    let expected = "note, statement 0: accepted
+before:
+  | rate = 0.05;
+after, statements 0 to 1:
+  | rate = 0.06;
+  | floor = 0.01;
+           before  after
+bytes          35     49
+statements      2      3
+records         9     12
+tokens         10     14
+note: not written, which takes --write
+";
+    assert_eq!(folder.desk(&["amend", "note", "0", "new"]), says(0, expected));
+    assert_eq!(folder.get("note"), NOTE);
+    let written = folder.desk(&["amend", "note", "0", "new", "--write"]);
+    assert_eq!(written.status, 0);
+    assert!(written.said.ends_with("note: written\n"));
+    assert_eq!(folder.get("note"), b"rate = 0.06;\nfloor = 0.01;\nx pays rate in \"EUR\";\n");
+    assert_eq!(folder.names(), ["new", "note"]);
+}
+
+#[test]
+fn amend_deletes_by_an_empty_text() {
+    let folder = Folder::new("amend_deletes_by_an_empty_text");
+    folder.put("note", NOTE);
+    let answer = folder.desk(&["amend", "--write", "note", "0", "-"]);
+    assert_eq!(answer.status, 0);
+    assert!(answer.said.contains("after, no statement:\n  "), "{}", answer.said);
+    assert_eq!(folder.get("note"), b"\nx pays rate in \"EUR\";\n");
+}
+
+#[test]
+fn a_refused_amendment_leaves_the_file() {
+    let folder = Folder::new("a_refused_amendment_leaves_the_file");
+    folder.put("note", NOTE);
+    folder.put("new", b"rate = 1;\nrate = ;");
+    let expected = "note, statement 1: refused on ground 8: This token is not allowed here, or the text ends too early.
+new: line 2, column 8, byte 17:
+  2 | rate = ;
+    |        ^
+";
+    assert_eq!(folder.desk(&["amend", "--write", "note", "1", "new"]), says(1, expected));
+    let expected = "note, statement 2: refused on ground 17: There is no statement with this number.
+note has the statements 0 to 1.
+";
+    assert_eq!(folder.desk(&["amend", "--write", "note", "2", "new"]), says(1, expected));
+    assert_eq!(folder.get("note"), NOTE);
+    assert_eq!(folder.names(), ["new", "note"]);
+}
+
+#[test]
+fn what_is_behind_a_zero_byte_stays() {
+    let folder = Folder::new("what_is_behind_a_zero_byte_stays");
+    folder.put("note", b"x = 1;\0$ = ");
+    folder.put("new", b"yy = 1;");
+    let answer = folder.desk(&["check", "note"]);
+    assert_eq!(answer.status, 0);
+    assert!(answer.said.ends_with("note: the script ends at the zero byte 6, which leaves 5 bytes unread\n"));
+    assert_eq!(folder.desk(&["amend", "--write", "note", "0", "new"]).status, 0);
+    assert_eq!(folder.get("note"), b"yy = 1;\0$ = ");
+}
+
+#[cfg(unix)]
+#[test]
+fn a_written_file_keeps_its_mode_and_a_link_its_file() {
+    use std::os::unix::fs::{symlink, PermissionsExt};
+    let folder = Folder::new("a_written_file_keeps_its_mode_and_a_link_its_file");
+    folder.put("note", NOTE);
+    let note = folder.0.join("note");
+    fs::set_permissions(&note, fs::Permissions::from_mode(0o640)).unwrap();
+    symlink("note", folder.0.join("link")).unwrap();
+    assert_eq!(folder.desk_on(&["amend", "--write", "link", "0", "-"], b"r;").status, 0);
+    assert!(folder.get("note").starts_with(b"r;\n"));
+    assert_eq!(fs::metadata(&note).unwrap().permissions().mode() & 0o777, 0o640);
+    assert!(fs::symlink_metadata(folder.0.join("link")).unwrap().is_symlink());
+}
+
+#[test]
+fn bad_usage_is_told_and_is_2() {
+    let folder = Folder::new("bad_usage_is_told_and_is_2");
+    folder.put("note", NOTE);
+    let cases: [(&[&str], &str); 13] = [
+        (&[], "no command is given"),
+        (&["shew", "note"], "there is no command shew"),
+        (&["show"], "show takes one file"),
+        (&["check", "note", "note"], "check takes one file"),
+        (&["check", "note", "--write"], "--write is an option of amend"),
+        (&["check", "note", "--loud"], "there is no option --loud"),
+        (&["check", "note", "--reserved"], "--reserved needs a file"),
+        (&["check", "--reserved", "a", "--reserved", "b", "note"], "--reserved is given twice"),
+        (&["amend", "note", "0"], "amend takes a file"),
+        (&["amend", "note", "first", "note"], "first is not a statement's number"),
+        (&["amend", "note", "4294967296", "note"], "4294967296 is not a statement's number"),
+        (&["amend", "-", "0", "note", "--write"], "--write needs a file"),
+        (&["amend", "-", "0", "-"], "only one file can be -"),
+    ];
+    for (words, complaint) in cases {
+        let answer = folder.desk(words);
+        assert_eq!((answer.status, answer.said.as_str()), (2, ""), "{words:?}");
+        assert!(answer.complained.contains(complaint), "{}", answer.complained);
+    }
+}
+
+#[test]
+fn a_file_that_cannot_be_read_is_named_and_is_2() {
+    let folder = Folder::new("a_file_that_cannot_be_read_is_named_and_is_2");
+    folder.put("note", NOTE);
+    let cases: [&[&str]; 4] = [
+        &["check", "gone"],
+        &["show", "--currencies", "gone", "note"],
+        &["amend", "note", "0", "gone"],
+        &["amend", "gone", "0", "note"],
+    ];
+    for words in cases {
+        let answer = folder.desk(words);
+        assert_eq!((answer.status, answer.said.as_str()), (2, ""), "{words:?}");
+        assert!(answer.complained.starts_with("desk: cannot read gone: "), "{}", answer.complained);
+    }
+}
+
+#[test]
+fn help_names_each_command() {
+    let folder = Folder::new("help_names_each_command");
+    for words in [&["help"][..], &["--help"], &["show", "-h"]] {
+        let answer = folder.desk(words);
+        assert_eq!((answer.status, answer.complained.as_str()), (0, ""));
+        for command in ["desk show FILE", "desk check FILE", "desk amend FILE N TEXTFILE"] {
+            assert!(answer.said.contains(command), "{command}");
+        }
+    }
+}
