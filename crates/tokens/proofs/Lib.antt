@@ -22,3 +22,4 @@ pub mod MarkLaws
 pub mod ScanLaws
 pub mod CursorLaws
 pub mod KindLaws
+pub mod ViewLaws

@@ -13,3 +13,4 @@ pub mod Keys
 pub mod Kinds
 pub mod Lexing
 pub mod Computing
+pub mod Views
