@@ -23,3 +23,4 @@ pub mod ScanLaws
 pub mod CursorLaws
 pub mod KindLaws
 pub mod ViewLaws
+pub mod ViewOwns
