@@ -22,7 +22,7 @@ fn behind(s: &[u8], at: usize) -> usize
 }
 
 // The place behind so many tokens from a place on.
-pub fn place_after(s: &[u8], at: usize, tokens: usize) -> usize
+fn place_after(s: &[u8], at: usize, tokens: usize) -> usize
     ensures { λ r. ⌜ r ≡ placeAfter (now (s .entry)) at tokens ⌝ }
 {
     let mut i = at;
