@@ -1,11 +1,11 @@
 -- The walk from token to token: one token at a time, and that it meets the tokens of the text.
 use mathlib.Core.Path.{_≡_, refl, sym, ap, _∙_, subst}
 use mathlib.Core.Bool.{Bool, true, false}
-use mathlib.Core.List.{List, [], _∷_, _++_}
+use mathlib.Core.List.{List, [], _∷_}
 use Prim.Native.Nat.{ℕ, zero, suc, _+_, _-_, _≤_, _<_}
 use native.Mathlib.Omega.{arith}
 use lib.Dec.{eqb, leb}
-use lib.ListN.{length, getD, take, drop}
+use lib.ListN.{length, getD, drop}
 use borrow.Author.Tests.{eqb-true, eqb-false, leb-true, leb-false, lt-leb}
 use Rattle.tokens.specs.Tokens.{Token, Lexed, lexed, refused, before, final, finished, scan, tokens}
 use Rattle.tokens.specs.Kinds.{kindOf, kindBy}
@@ -14,6 +14,7 @@ use Rattle.tokens.specs.Views.{passed, placeAfter, tokenAfter}
 use Rattle.tokens.specs.declared.lexing.Mark.{Mark}
 use Rattle.tokens.specs.declared.scanning.Found.{Found}
 use Rattle.tokens.specs.declared.scanning.Found.the-variants as found
+use Rattle.tokens.proofs.MarkLaws.{start-at}
 use Rattle.tokens.proofs.ScanLaws.{mark-again, end-mark, scan-end, scan-fault, scan-token, token-within, token-end, mark-within, step-fault}
 
 -- ---- one token at a time
@@ -43,27 +44,27 @@ module _ (s : List ℕ) where
 abbrev pub foundOf : Token → Found
 foundOf t = found.Token (record { start = t .from; end = t .from + length (t .text); kind = kindOf (t .kind) (t .text) })
 
--- x is token k of these, and the end where they are fewer; where the text of n bytes is refused, x refuses it on no other ground and at no other place
-abbrev pub Agrees : ℕ → ℕ → Lexed → Found → Type 0
-Agrees n k (lexed ts) x = x ≡ foundOf (getD ts k (final n))
-Agrees n k (refused f p) (found.Token t) = Unit {0}
-Agrees n k (refused f p) (found.Refused g r) = (g ≡ f) × (r ≡ p)
+-- x is token k of these, and the end where they are fewer. Where the text of n bytes is refused, x is that refusal: at the latest behind m tokens
+abbrev pub Agrees : ℕ → ℕ → ℕ → Lexed → Found → Type 0
+Agrees n m k (lexed ts) x = x ≡ foundOf (getD ts k (final n))
+Agrees n m k (refused f p) (found.Token t) = k < m
+Agrees n m k (refused f p) (found.Refused g r) = (g ≡ f) × (r ≡ p)
 
-agrees-first : (n : ℕ) (t : Token) (l : Lexed) → Agrees n 0 (finished n (before t l)) (foundOf t)
-agrees-first n t (lexed ts) = refl
-agrees-first n t (refused f p) = tt
+agrees-first : (n m : ℕ) (t : Token) (l : Lexed) → 0 < m → Agrees n m 0 (finished n (before t l)) (foundOf t)
+agrees-first n m t (lexed ts) h = refl
+agrees-first n m t (refused f p) h = h
 
-agrees-later : (n k : ℕ) (t : Token) (l : Lexed) (x : Found) → Agrees n k (finished n l) x → Agrees n (suc k) (finished n (before t l)) x
-agrees-later n k t (lexed ts) x a = a
-agrees-later n k t (refused f p) (found.Token u) a = a
-agrees-later n k t (refused f p) (found.Refused g r) a = a
+agrees-later : (n m k : ℕ) (t : Token) (l : Lexed) (x : Found) → Agrees n (m - 1) k (finished n l) x → Agrees n m (suc k) (finished n (before t l)) x
+agrees-later n m k t (lexed ts) x a = a
+agrees-later n m k t (refused f p) (found.Token u) a = omega arith
+agrees-later n m k t (refused f p) (found.Refused g r) a = a
 
 ends-alone : (n k : ℕ) → getD (final n ∷ []) k (final n) ≡ final n
 ends-alone n zero = refl
 ends-alone n (suc k) = refl
 
-agrees-refused : (n k f p : ℕ) (x : Found) → found.Refused f p ≡ x → Agrees n k (refused f p) x
-agrees-refused n k f p x e = subst (Agrees n k (refused f p)) e (refl, refl)
+agrees-refused : (n m k f p : ℕ) (x : Found) → found.Refused f p ≡ x → Agrees n m k (refused f p) x
+agrees-refused n m k f p x e = subst (Agrees n m k (refused f p)) e (refl, refl)
 
 module _ (s : List ℕ) (at : ℕ) where
   abbrev N : Mark
@@ -98,40 +99,43 @@ module _ (s : List ℕ) (at : ℕ) where
         let q : length s ≡ length s + 0 = omega arith in
         ap (foundBy s) (end-mark s at z .1 ∙ ap ended end-start) ∙ ap (λ (p : ℕ). found.Token (record { start = length s; end = p; kind = kindBy 0 })) q
 
-    agrees-end : (k : ℕ) → Agrees (length s) k (finished (length s) (scan 0 at (drop at s))) (stepAt s (placeAfter s at k))
-    agrees-end k =
+    agrees-end : (m k : ℕ) → Agrees (length s) m k (finished (length s) (scan 0 at (drop at s))) (stepAt s (placeAfter s at k))
+    agrees-end m k =
         let p : passed (stepAt s at) ≡ N .start = ap passed step-end ∙ omega (arith, end-start) in
         rw (scan-end s at z) (sym (stays p k) ∙ (step-end ∙ ap foundOf (sym (ends-alone (length s) k))))
 
-  agrees-fault : 100 ≤ N .code → (k : ℕ) → Agrees (length s) k (finished (length s) (scan 0 at (drop at s))) (stepAt s (placeAfter s at k))
-  agrees-fault z k =
+  agrees-fault : 100 ≤ N .code → (m k : ℕ) → Agrees (length s) m k (finished (length s) (scan 0 at (drop at s))) (stepAt s (placeAfter s at k))
+  agrees-fault z m k =
       let r = step-fault s at N refl z in
-      rw (scan-fault s at z) (agrees-refused (length s) k (N .code - 100) (N .start) (stepAt s (placeAfter s at k)) (r ∙ stays (sym (ap passed r)) k))
+      rw (scan-fault s at z) (agrees-refused (length s) m k (N .code - 100) (N .start) (stepAt s (placeAfter s at k)) (r ∙ stays (sym (ap passed r)) k))
 
   module _ (some : N .code ≡ 0 → ⊥) (whole : N .code < 100) where
     step-token : foundOf (tokenOf s N) ≡ stepAt s at
     unfolding stepAt
     step-token = rw (lt-leb 100 (N .code) whole, token-end s at some whole)
 
-    agrees-here : Agrees (length s) 0 (finished (length s) (scan 0 at (drop at s))) (stepAt s at)
-    agrees-here = rw (scan-token s at some whole, ← step-token) (agrees-first (length s) (tokenOf s N) (scan 0 (N .end) (drop (N .end) s)))
+    agrees-here : (m : ℕ) → 0 < m → Agrees (length s) m 0 (finished (length s) (scan 0 at (drop at s))) (stepAt s at)
+    agrees-here m h = rw (scan-token s at some whole, ← step-token) (agrees-first (length s) m (tokenOf s N) (scan 0 (N .end) (drop (N .end) s)) h)
 
-    agrees-on : (k : ℕ) → Agrees (length s) k (finished (length s) (scan 0 (N .end) (drop (N .end) s))) (stepAt s (placeAfter s (N .end) k))
-        → Agrees (length s) (suc k) (finished (length s) (scan 0 at (drop at s))) (stepAt s (placeAfter s at (suc k)))
+    agrees-on : (m k : ℕ) → Agrees (length s) (m - 1) k (finished (length s) (scan 0 (N .end) (drop (N .end) s))) (stepAt s (placeAfter s (N .end) k))
+        → Agrees (length s) m (suc k) (finished (length s) (scan 0 at (drop at s))) (stepAt s (placeAfter s at (suc k)))
     unfolding placeAfter
-    agrees-on k a =
+    agrees-on m k a =
         let e : passed (stepAt s at) ≡ N .end = ap passed (sym step-token) ∙ token-end s at some whole in
-        rw (scan-token s at some whole, e) (agrees-later (length s) k (tokenOf s N) (scan 0 (N .end) (drop (N .end) s)) (stepAt s (placeAfter s (N .end) k)) a)
+        rw (scan-token s at some whole, e) (agrees-later (length s) m k (tokenOf s N) (scan 0 (N .end) (drop (N .end) s)) (stepAt s (placeAfter s (N .end) k)) a)
 
--- so the tokens from a place on are met
-agrees : (s : List ℕ) (k at : ℕ) → at ≤ length s → Agrees (length s) k (finished (length s) (scan 0 at (drop at s))) (stepAt s (placeAfter s at k))
+-- the tokens from a place on, with m bytes or fewer ahead
+agrees : (s : List ℕ) (k m at : ℕ) → at ≤ length s → length s ≤ at + m → Agrees (length s) m k (finished (length s) (scan 0 at (drop at s))) (stepAt s (placeAfter s at k))
 unfolding placeAfter
-agrees s zero at h = by-code s at _ (λ z. agrees-end s at h z 0) (λ z. agrees-fault s at z 0) (agrees-here s at)
-agrees s (suc k) at h =
-    let on = agrees s k (markAt s at .end) in
-    by-code s at _ (λ z. agrees-end s at h z (suc k)) (λ z. agrees-fault s at z (suc k)) (λ some whole. agrees-on s at some whole k (on (token-within s at some whole .1)))
+agrees s zero m at h l =
+    by-code s at _ (λ z. agrees-end s at h z m 0) (λ z. agrees-fault s at z m 0) (λ some whole.
+    agrees-here s at some whole m (omega (arith, start-at s at, token-within s at some whole)))
+agrees s (suc k) m at h l =
+    let on = agrees s k (m - 1) (markAt s at .end) in
+    by-code s at _ (λ z. agrees-end s at h z m (suc k)) (λ z. agrees-fault s at z m (suc k)) (λ some whole.
+    agrees-on s at some whole m k (on (token-within s at some whole .1) (omega (arith, start-at s at, token-within s at some whole))))
 
--- the token behind k others is the one that the text's tokens have there
-pub tokens-met : (s : List ℕ) (k : ℕ) → Agrees (length s) k (tokens s) (tokenAfter s k)
+-- the token behind k others is the one that the text's tokens have there; a refused text is refused at the latest behind as many as it has bytes
+pub tokens-met : (s : List ℕ) (k : ℕ) → Agrees (length s) (length s) k (tokens s) (tokenAfter s k)
 unfolding tokens
-tokens-met s k = agrees s k 0 (omega arith)
+tokens-met s k = agrees s k (length s) 0 (omega arith) (omega arith)

@@ -1,11 +1,12 @@
-// A view of a lent script: the script and a place in it.
+// A view of a lent script. Functions over a struct that holds a slice are proved by hand, so they are few and thin; a
+// caller with a plain slice asks `token_after`.
 use crate::scanning::Found;
 use crate::scanning::step;
 ghost use mathlib.Core.Path.{_≡_};
 ghost use Rattle.tokens.specs.Lexing.{stepAt};
 ghost use Rattle.tokens.specs.Views.{passed, placeAfter, viewAt, moved, tokenAfter};
 
-// The script as it was lent, and a place in it.
+// The script as it was lent, and a place in it. As to the token step, the text's length alone ends it.
 pub struct View<'a> {
     pub script: &'a [u8],
     pub at: usize,
@@ -65,7 +66,7 @@ impl<'a> View<'a> {
     }
 }
 
-// The token of a script behind so many others, Newlines among them: from 0, and the end where there are fewer.
+// The token of a script behind so many others, Newlines among them. The end and a refused place are not passed.
 pub fn token_after(script: &[u8], skipped: usize) -> Found
     ensures { λ r. ⌜ r ≡ tokenAfter (now (script .entry)) skipped ⌝ }
 {
