@@ -26,6 +26,7 @@ module _ (s : List ℕ) where
   after-same at zero e = refl
   after-same at (suc k) e = after-same at k e ∙ ap (λ (p : ℕ). placeAfter s p k) (sym e)
 
+  -- the first of some tokens is passed, and the others are left
   pub after-more : (at p k : ℕ) → p ≡ passed (stepAt s at) → 0 < k → placeAfter s p (k - 1) ≡ placeAfter s at k
   unfolding placeAfter
   after-more at p zero e h = absurd (omega arith)
@@ -44,7 +45,7 @@ module _ (s : List ℕ) where
 abbrev pub foundOf : Token → Found
 foundOf t = found.Token (record { start = t .from; end = t .from + length (t .text); kind = kindOf (t .kind) (t .text) })
 
--- x is token k of these, and the end where they are fewer. Where the text of n bytes is refused, x is that refusal: at the latest behind m tokens
+-- of a text of n bytes: x is its token k, and the end where it has fewer. Where the text is refused, x is a token, and that only before the m-th, or that refusal
 abbrev pub Agrees : ℕ → ℕ → ℕ → Lexed → Found → Type 0
 Agrees n m k (lexed ts) x = x ≡ foundOf (getD ts k (final n))
 Agrees n m k (refused f p) (found.Token t) = k < m
@@ -83,7 +84,7 @@ module _ (s : List ℕ) (at : ℕ) where
   unfolding stepAt
   step-again = ap (foundBy s) (mark-again s at)
 
-  -- where the step leads to where it started, so do many
+  -- where one step gets no further than the start of what stands there, so do many, and the answer stays
   stays : passed (stepAt s at) ≡ N .start → (k : ℕ) → stepAt s at ≡ stepAt s (placeAfter s at k)
   unfolding placeAfter
   stays e zero = refl
@@ -135,7 +136,7 @@ agrees s (suc k) m at h l =
     by-code s at _ (λ z. agrees-end s at h z m (suc k)) (λ z. agrees-fault s at z m (suc k)) (λ some whole.
     agrees-on s at some whole m k (on (token-within s at some whole .1) (omega (arith, start-at s at, token-within s at some whole))))
 
--- the token behind k others is the one that the text's tokens have there; a refused text is refused at the latest behind as many as it has bytes
+-- the token behind k others is the one that the text's tokens have there; in a refused text the refusal comes at the latest behind as many as it has bytes
 pub tokens-met : (s : List ℕ) (k : ℕ) → Agrees (length s) (length s) k (tokens s) (tokenAfter s k)
 unfolding tokens
 tokens-met s k = agrees s k (length s) 0 (omega arith) (omega arith)
