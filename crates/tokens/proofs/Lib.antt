@@ -22,3 +22,5 @@ pub mod MarkLaws
 pub mod ScanLaws
 pub mod CursorLaws
 pub mod KindLaws
+pub mod ViewLaws
+pub mod ViewOwns

@@ -99,7 +99,7 @@ pub data Stands (s : List ℕ) (m : Mark) : Type 0 where
   faulty : (f : ℕ) → m .start < length s → lexemeAt s (m .start) ≡ fault f → m ≡ markOf (m .start) (fault f) → Stands s m
 
 -- from a mark's start on the same mark comes
-mark-again : (s : List ℕ) (at : ℕ) → markAt s (markAt s at .start) ≡ markAt s at
+pub mark-again : (s : List ℕ) (at : ℕ) → markAt s (markAt s at .start) ≡ markAt s at
 unfolding markAt markFrom
 mark-again s at = sym (skip-at markFrom (λ k p b bs. refl) (λ p b bs n e. rw (e, markFrom)) s at)
 
@@ -157,15 +157,19 @@ module _ (s : List ℕ) (at : ℕ) where
       let q : N .start + 1 + (n - 1) ≡ N .start + n = omega arith in
       scan-drop (n - 1) (suc (N .start)) (drop (N .start + 1) s) ∙ (rw (drop-drop (n - 1) (N .start + 1) s, p, q))
 
+  -- 0 is the mark of the end
+  pub end-mark : N .code ≡ 0 → (length s ≤ N .start) × (N ≡ final (N .start))
+  end-mark z = go (stands s at)
+    where
+      go : Stands s N → (length s ≤ N .start) × (N ≡ final (N .start))
+      go (over h q) = (h, q)
+      go (token κ n h e q) = absurd (omega (arith, z, ap (λ (m : Mark). m .code) q, (subst (Sound _ _) e (sound (getD s (N .start) 0) (drop (N .start + 1) s))) .1))
+      go (faulty f h e q) = absurd (omega (arith, z, ap (λ (m : Mark). m .code) q))
+
   -- at the end there is no token
   pub scan-end : N .code ≡ 0 → scan 0 at (drop at s) ≡ lexed []
   unfolding scan
-  scan-end z = go (stands s at)
-    where
-      go : Stands s N → scan 0 at (drop at s) ≡ lexed []
-      go (over h q) = scan-start ∙ (rw (drop-of-length-le s h))
-      go (token κ n h e q) = absurd (omega (arith, z, ap (λ (m : Mark). m .code) q, (subst (Sound _ _) e (sound (getD s (N .start) 0) (drop (N .start + 1) s))) .1))
-      go (faulty f h e q) = absurd (omega (arith, z, ap (λ (m : Mark). m .code) q))
+  scan-end z = scan-start ∙ (rw (drop-of-length-le s (end-mark z .0)))
 
   -- a fault refuses the text
   pub scan-fault : 100 ≤ N .code → scan 0 at (drop at s) ≡ refused (N .code - 100) (N .start)
@@ -204,6 +208,10 @@ module _ (s : List ℕ) (at : ℕ) where
             let l : N .end ≡ N .start + n = ap (λ (m : Mark). m .end) q in
             (omega arith, omega (arith, length-drop (N .start + 1) s))
         go (faulty f h e q) = absurd (omega (arith, whole, ap (λ (m : Mark). m .code) q))
+
+    -- its bytes lead from its start to its end
+    pub token-end : N .start + length (take (N .end - N .start) (drop (N .start) s)) ≡ N .end
+    token-end = omega (arith, length-take (N .end - N .start) (drop (N .start) s), length-drop (N .start) s, token-within)
 
   -- a mark ends within what its place and its text are within, and its number is a byte
   pub mark-within : (n : ℕ) → at ≤ n → length s ≤ n → (N .start ≤ n) × (N .end ≤ n) × (N .code < 256)
@@ -259,7 +267,7 @@ module _ (s : List ℕ) (at n last : ℕ) (m : Mark) (is : m ≡ markAt s at) wh
     pub summary-token : (m .code ≡ 55 → ⊥) → Rest n last at ≡ Rest (n + 1) (m .end) (m .end)
     summary-token no-line =
         let c : counts (tokenOf s m) ≡ true = rw newline-is (ap not (ne-eqb 55 (m .code) (λ e. no-line (sym e)))) in
-        let l : m .start + length (take (m .end - m .start) (drop (m .start) s)) ≡ m .end = omega (arith, length-take (m .end - m .start) (drop (m .start) s), length-drop (m .start) s, inside) in
+        let l : m .start + length (take (m .end - m .start) (drop (m .start) s)) ≡ m .end = rw is (token-end s at (rw is at some) (rw is at whole)) in
         behind ∙ (summary-before n last (length s) (tokenOf s m) (scan 0 (m .end) (drop (m .end) s)) ∙ (rw (c, l)))
 
     pub summary-line : m .code ≡ 55 → Rest n last at ≡ Rest n last (m .end)

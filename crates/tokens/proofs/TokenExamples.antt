@@ -12,6 +12,7 @@ use Rattle.tokens.specs.Numbers.{value}
 use Rattle.tokens.specs.Places.{placeOf}
 use Rattle.tokens.specs.Tokens.{Token, Lexed, lexed, refused, entry, code, signs, keywords, others, final, tokens}
 use Rattle.tokens.specs.Lexing.{scriptEnd, markAt, stepAt, scanOf, cursorAt, advanced}
+use Rattle.tokens.specs.Views.{tokenAfter}
 use Rattle.tokens.specs.Computing.{computing}
 use Rattle.tokens.specs.declared.kinds.Literal.the-variants.{Number, Truth}
 use Rattle.tokens.specs.declared.kinds.Kind.the-variants as kind
@@ -272,6 +273,26 @@ step-end = refl
 step-refused : stepAt (bytes "a \"b") 1 ≡ found.Refused 4 2
 unfolding computing
 step-refused = refl
+
+-- ---- the token behind so many others
+
+after-none : tokenAfter text 0 ≡ found.Token (record { start = 0; end = 1; kind = kind.Identifier })
+unfolding computing
+after-none = refl
+
+-- Newlines are among those passed
+after-three : tokenAfter text 3 ≡ found.Token (record { start = 5; end = 8; kind = kind.Value (Number (value (bytes "0.1"))) })
+unfolding computing
+after-three = refl
+
+-- the end and a refused place are not passed
+after-all : tokenAfter text 9 ≡ found.Token (record { start = 13; end = 13; kind = kind.Eof })
+unfolding computing
+after-all = refl
+
+after-refused : tokenAfter (bytes "a \"b") 3 ≡ found.Refused 4 2
+unfolding computing
+after-refused = refl
 
 -- ---- the scan of a whole text
 

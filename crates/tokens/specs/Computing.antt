@@ -9,7 +9,8 @@ use Rattle.tokens.specs.Tokens.{entry, code, word, numeral, quoted, sign
 use Rattle.tokens.specs.Keys.{pack, lookup, keyed, keyOf, keywordBy, pairBy, loneBy}
 use Rattle.tokens.specs.Kinds.{kindBy}
 use Rattle.tokens.specs.Lexing.{scriptEnd, markFrom, markAt, stepAt, scanOf, settleFrom, cursorAt, advanced}
+use Rattle.tokens.specs.Views.{placeAfter}
 
 unfoldable pub computing : Unit {0}
-unfolding ofInt div toBits neg bytes leading same begins every count script line since column push names place distinct goodNames goodList goodLists digits decimals numberFault value valueOf date entry code word numeral quoted sign lexeme scan tokens endOf pack lookup keyed keyOf keywordBy pairBy loneBy kindBy scriptEnd markFrom markAt stepAt scanOf settleFrom cursorAt advanced
+unfolding ofInt div toBits neg bytes leading same begins every count script line since column push names place distinct goodNames goodList goodLists digits decimals numberFault value valueOf date entry code word numeral quoted sign lexeme scan tokens endOf pack lookup keyed keyOf keywordBy pairBy loneBy kindBy scriptEnd markFrom markAt stepAt scanOf settleFrom cursorAt advanced placeAfter
 computing = tt

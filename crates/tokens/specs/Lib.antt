@@ -12,4 +12,5 @@ pub mod Tokens
 pub mod Keys
 pub mod Kinds
 pub mod Lexing
+pub mod Views
 pub mod Computing

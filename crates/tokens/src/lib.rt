@@ -10,4 +10,5 @@ pub mod numbers;
 pub mod places;
 pub mod scanning;
 pub mod text;
+pub mod views;
 pub mod words;
