@@ -67,7 +67,7 @@ pub fn compare(run: &Run) -> Result<Trace, String> {
             text: &step.text,
         };
         if let Ok(text) = std::str::from_utf8(&step.text) {
-            reading::compare(text, Room::FULL)
+            reading::compare(text, Room::ample(text.len()))
                 .map_err(|found| format!("{text:?} alone: {found}"))?;
         }
         let expected = outcome(

@@ -1,7 +1,8 @@
 //! The archive's records in the common form, and what must hold of their words.
+use crate::lookups;
 use crate::scan::{Kind, Piece};
 use crate::tree::{Fact, Tree};
-use calls::{part, Part, ENTRY, RECORD};
+use calls::{part, ENTRY, RECORD};
 
 /// What a call left, cut to what is used.
 pub struct Held<'a> {
@@ -17,12 +18,6 @@ struct Record<'a> {
     words: &'a [u32; RECORD],
     start: usize,
 }
-
-const NONE: Part = Part {
-    in_list: false,
-    first: 0,
-    length: 0,
-};
 
 /// Start and end of each statement, with its tree.
 pub type Statement = (usize, usize, Tree);
@@ -129,14 +124,9 @@ impl Record<'_> {
 
     /// The name that the lookup hands back, which must be the one that the record's words say.
     fn name(&self, held: &Held, second: bool) -> Result<String, String> {
-        let got = part(
-            held.script,
-            held.currencies,
-            self.words,
-            self.start as u32,
-            second,
-        );
-        if got != self.rule(held.currencies, second) {
+        let start = self.start as u32;
+        let got = part(held.script, held.currencies, self.words, start, second);
+        if got != lookups::rule(held.script, held.currencies, self.words, start, second) {
             return Err(format!("the lookup of {:?} hands back {got:?}", self.words));
         }
         let source = if got.in_list {
@@ -148,22 +138,6 @@ impl Record<'_> {
             .get(got.first..got.first + got.length)
             .ok_or("a name outside")?;
         String::from_utf8(bytes.to_vec()).map_err(|error| error.to_string())
-    }
-
-    fn rule(&self, currencies: &[u8], second: bool) -> Part {
-        let [kind, _, _, f1, f2, f3, _] = *self.words;
-        let in_script = |first: u32, length: u32| Part {
-            in_list: false,
-            first: self.start + first as usize,
-            length: length as usize,
-        };
-        match (kind, second) {
-            (1 | 5 | 33 | 35 | 39, false) => in_script(f1, f2),
-            (34, false) if f2 != 0 => in_script(f2, f3),
-            (32, false) => in_list(currencies, f1),
-            (32, true) | (36, false) => in_list(currencies, f2),
-            _ => NONE,
-        }
     }
 
     /// Whether this is the literal of a constant, its sign aside.
@@ -203,24 +177,4 @@ impl Record<'_> {
             Err(format!("{:?} has another place than its token", self.words))
         }
     }
-}
-
-/// Where the currency of this number, from 1, stands in the list.
-fn in_list(currencies: &[u8], number: u32) -> Part {
-    let mut first = 0;
-    for (k, name) in currencies
-        .split_inclusive(|byte| *byte == b'\n')
-        .enumerate()
-    {
-        if k + 1 == number as usize {
-            let length = name.len() - 1;
-            return Part {
-                in_list: true,
-                first,
-                length,
-            };
-        }
-        first += name.len();
-    }
-    NONE
 }

@@ -79,9 +79,14 @@ const NUMBERS: [&str; 12] = [
     "100",
     "9007199254740992",
     "0.1",
-    "4503599627370497.5",
+    "900719925474099.2",
     "1.000000000000001",
     "123456.789",
+];
+const LONG_NUMBERS: [&str; 3] = [
+    "9007199254740993",
+    "0.0000000000000000",
+    "90071992547409.921",
 ];
 /// Every token that stands alone, for damage.
 const TOKENS: [&str; 52] = [
@@ -206,8 +211,7 @@ impl Writer<'_> {
 
     fn number(&mut self) {
         if self.random.once_in(2) {
-            let number = self.random.pick(&NUMBERS);
-            self.put(number);
+            self.of(&NUMBERS, &LONG_NUMBERS);
             return;
         }
         let whole = self.random.below(100_000);

@@ -5,6 +5,8 @@ mod from_records;
 mod from_rust;
 mod generate;
 mod limits;
+mod lists;
+mod lookups;
 mod memory;
 mod random;
 mod reading;

@@ -60,6 +60,14 @@ impl Room {
         directory: calls::MOST_STATEMENTS * ENTRY,
     };
 
+    /// Room for whatever a text of this length can be read as, within the capacities: a token makes two records at most.
+    pub fn ample(length: usize) -> Self {
+        Self::of(
+            calls::MOST_RECORDS.min(2 * length + 1),
+            calls::MOST_STATEMENTS.min(length),
+        )
+    }
+
     /// Room for so many records and statements at most.
     pub fn of(records: usize, statements: usize) -> Self {
         Self {

@@ -37,7 +37,7 @@ pub fn section(time: Duration, seed: u64) -> Section {
 pub fn run(random: &mut Random) -> Run {
     let (script, statements) = base(random);
     let spare = [0, 8, 64, 400, 400][random.below(5)];
-    let room = match random.below(4) {
+    let room = match random.below(8) {
         0 => Room {
             records: random.below(60 * RECORD),
             directory: random.below(10 * ENTRY),
@@ -65,7 +65,7 @@ fn base(random: &mut Random) -> (String, usize) {
         return (full(random), 3);
     }
     loop {
-        let statements = random.below(6);
+        let statements = 1 + random.below(5);
         let items = generate::script(random, statements);
         let script = generate::text(&items, random);
         if oracle::read(&script).is_ok() || random.once_in(20) {

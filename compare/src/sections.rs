@@ -2,6 +2,8 @@
 use crate::damage;
 use crate::generate;
 use crate::limits;
+use crate::lists;
+use crate::lookups;
 use crate::memory::Room;
 use crate::random::Random;
 use crate::reading::{self, Same};
@@ -12,11 +14,13 @@ use crate::towers;
 use std::process::ExitCode;
 use std::time::{Duration, Instant};
 
-/// Hundredths of the time: each alphabet, scripts, damaged scripts, towers, amendments.
+/// Hundredths of the time.
 const EACH_ALPHABET: u64 = 7;
-const SCRIPTS: u64 = 16;
-const DAMAGED: u64 = 16;
-const TOWERS: u64 = 4;
+const SCRIPTS: u64 = 15;
+const DAMAGED: u64 = 15;
+const TOWERS: u64 = 3;
+const LISTS: u64 = 2;
+const LOOKUPS: u64 = 1;
 const AMENDMENTS: u64 = 22;
 
 /// At most so many constructs in one another.
@@ -37,6 +41,16 @@ pub fn all(seconds: u64, seed: u64) -> ExitCode {
     let section = damaged(share(DAMAGED), seed, &mut tally);
     tally.add(section);
     let section = deep(share(TOWERS), seed);
+    tally.add(section);
+    let mut section = Section::new("lists");
+    until(share(LISTS), seed, |random| {
+        lists::compare(random, &mut section)
+    });
+    tally.add(section);
+    let mut section = Section::new("lookups");
+    until(share(LOOKUPS), seed, |random| {
+        lookups::compare(random, &mut section)
+    });
     tally.add(section);
     tally.add(runs::section(share(AMENDMENTS), seed));
     tally.print();

@@ -95,9 +95,9 @@ fn is_in_order(state: &State) -> bool {
         && entries(state).map(|entry| entry[3]).sum::<usize>() == tokens
 }
 
-/// Reading alone has full room; a text for which that is too small passes here and has no room in the totals.
+/// A text for which the capacities are too small (16) is not refused here; it has no room in the totals.
 fn read_alone(text: &[u8]) -> Result<Alone, String> {
-    let mut memory = Memory::new(text, Room::FULL, &LISTS);
+    let mut memory = Memory::new(text, Room::ample(text.len()), &LISTS);
     let answer = memory.read()?;
     let contents = memory.contents();
     Ok(Alone { answer, contents })

@@ -16,6 +16,7 @@ pub struct Section {
     pub by_rust: [u64; GROUNDS],
     pub by_rule: [u64; GROUNDS],
     pub amended: [u64; GROUNDS],
+    pub looked_up: u64,
     pub outside: u64,
     pub differ: u64,
 }
@@ -28,6 +29,7 @@ impl Section {
             by_rust: [0; GROUNDS],
             by_rule: [0; GROUNDS],
             amended: [0; GROUNDS],
+            looked_up: 0,
             outside: 0,
             differ: 0,
         }
@@ -53,7 +55,7 @@ impl Section {
             .iter()
             .chain(&self.by_rule)
             .chain(&self.amended);
-        all.sum::<u64>() + self.differ
+        all.sum::<u64>() + self.looked_up + self.differ
     }
 }
 
@@ -89,7 +91,7 @@ impl Tally {
                 "| {} | {} | {accepted} | {} | {} | {} | {} |",
                 section.name,
                 section.compared(),
-                section.compared() - accepted - section.differ,
+                section.compared() - accepted - section.looked_up - section.differ,
                 section.outside,
                 section.differ,
                 section.remark

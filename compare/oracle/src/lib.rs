@@ -2,8 +2,10 @@
 //!
 //! Dates, currencies and day counters are judged by the shims, so that the lists lent to the archive can be the same.
 
+mod count;
 mod shims;
 
+pub use count::nodes;
 pub use currencies::currency::Currency;
 pub use scripting::nodes::node;
 pub use scripting::nodes::node::Node;
