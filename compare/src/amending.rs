@@ -31,7 +31,7 @@ pub struct Run {
     pub steps: Vec<Step>,
 }
 
-/// What was left after each call, with its answer.
+/// The state before the first step and after each, with the answer that has its counts.
 pub type Trace = Vec<(Answer, Contents)>;
 
 /// Byte that fills the room behind a script and its zero byte.
@@ -49,16 +49,16 @@ impl Run {
     }
 }
 
-/// Runs the read and the steps. The first answer is that of the read, which is compared by itself elsewhere.
+/// Runs the read and the steps. The read is compared by itself elsewhere.
 pub fn compare(run: &Run) -> Result<Trace, String> {
     let mut memory = Memory::new(&run.lent(), run.room, &LISTS);
     let mut answer = memory.read()?;
-    let mut trace = vec![(answer, memory.contents())];
     let mut as_read = answer[0] == 0;
     if let Some(harm) = run.harm {
         memory = harmed(&memory, harm, &mut answer);
         as_read = false;
     }
+    let mut trace = vec![(answer, memory.contents())];
     for step in &run.steps {
         let before = memory.contents();
         let counts = answer[4..].try_into().expect("four counts");

@@ -1,6 +1,20 @@
 //! Damage to scripts.
-use crate::generate::{any_token, Item};
+use crate::generate::{any_token, script, text, Item};
 use crate::random::Random;
+
+/// A script with damage to some tokens and some characters.
+pub fn any(random: &mut Random) -> String {
+    let statements = 1 + random.below(4);
+    let mut items = script(random, statements);
+    for _ in 0..random.below(3) {
+        tokens(&mut items, random);
+    }
+    let mut text = text(&items, random);
+    for _ in 0..random.below(3) {
+        characters(&mut text, random);
+    }
+    text
+}
 
 /// A token deleted, doubled, swapped with another or replaced.
 pub fn tokens(items: &mut Vec<Item>, random: &mut Random) {

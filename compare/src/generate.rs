@@ -83,10 +83,13 @@ const NUMBERS: [&str; 12] = [
     "1.000000000000001",
     "123456.789",
 ];
-const LONG_NUMBERS: [&str; 3] = [
+const ODD_NUMBERS: [&str; 6] = [
     "9007199254740993",
     "0.0000000000000000",
     "90071992547409.921",
+    "1.2.3",
+    "1..",
+    "99999999999999999999.9.9",
 ];
 /// Every token that stands alone, for damage.
 const TOKENS: [&str; 52] = [
@@ -146,6 +149,13 @@ const TOKENS: [&str; 52] = [
 
 pub fn any_token(random: &mut Random) -> &'static str {
     random.pick(&TOKENS)
+}
+
+/// A script of a few statements.
+pub fn any(random: &mut Random) -> String {
+    let statements = random.below(7);
+    let items = script(random, statements);
+    text(&items, random)
 }
 
 /// The items of a script with so many statements.
@@ -211,7 +221,7 @@ impl Writer<'_> {
 
     fn number(&mut self) {
         if self.random.once_in(2) {
-            self.of(&NUMBERS, &LONG_NUMBERS);
+            self.of(&NUMBERS, &ODD_NUMBERS);
             return;
         }
         let whole = self.random.below(100_000);

@@ -62,7 +62,7 @@ pub fn is_well_formed(list: &[u8], is_currencies: bool) -> bool {
         (1..=MOST_LENGTH).contains(&name.len()) && printable && (!is_currencies || capitals)
     };
     names.len() <= MOST_NAMES
-        && names.iter().all(|name| is_name(name))
+        && names.iter().all(is_name)
         && names.iter().collect::<HashSet<_>>().len() == names.len()
         && (!is_currencies || names[0] == b"USD")
 }

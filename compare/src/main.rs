@@ -21,6 +21,7 @@ mod splice;
 mod tally;
 mod towers;
 mod tree;
+mod vectors;
 mod verdict;
 
 use std::process::ExitCode;

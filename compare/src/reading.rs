@@ -19,7 +19,7 @@ pub enum Same {
 }
 
 /// At most 32 constructs stand in one another.
-const DEPTH: usize = 32;
+pub const DEPTH: usize = 32;
 
 /// Reads a script in such room on both sides, or says what differs.
 pub fn compare(script: &str, room: Room) -> Result<Same, String> {

@@ -6,7 +6,7 @@ use crate::lists;
 use crate::lookups;
 use crate::memory::Room;
 use crate::random::Random;
-use crate::reading::{self, Same};
+use crate::reading::{self, Same, DEPTH};
 use crate::runs;
 use crate::sequences::{self, ALPHABETS};
 use crate::tally::{Section, Tally};
@@ -22,9 +22,6 @@ const TOWERS: u64 = 3;
 const LISTS: u64 = 2;
 const LOOKUPS: u64 = 1;
 const AMENDMENTS: u64 = 22;
-
-/// At most so many constructs in one another.
-const DEPTH: usize = 32;
 
 pub fn all(seconds: u64, seed: u64) -> ExitCode {
     println!("{seconds} seconds, seed {seed}\n");
@@ -79,7 +76,7 @@ fn until(time: Duration, seed: u64, mut run: impl FnMut(&mut Random)) {
 }
 
 /// Mostly room for all that random scripts have; else a little room, so that some do not fit.
-fn room(random: &mut Random) -> Room {
+pub fn room(random: &mut Random) -> Room {
     if !random.once_in(8) {
         return Room::of(400, 16);
     }
@@ -92,9 +89,7 @@ fn room(random: &mut Random) -> Room {
 fn scripts(time: Duration, seed: u64, tally: &mut Tally) -> Section {
     let mut section = Section::new("random scripts");
     until(time, seed, |random| {
-        let statements = random.below(7);
-        let items = generate::script(random, statements);
-        let script = generate::text(&items, random);
+        let script = generate::any(random);
         let found = reading::compare(&script, room(random));
         tally.take(&mut section, &script, found);
     });
@@ -104,15 +99,7 @@ fn scripts(time: Duration, seed: u64, tally: &mut Tally) -> Section {
 fn damaged(time: Duration, seed: u64, tally: &mut Tally) -> Section {
     let mut section = Section::new("damaged scripts");
     until(time, seed, |random| {
-        let statements = 1 + random.below(4);
-        let mut items = generate::script(random, statements);
-        for _ in 0..random.below(3) {
-            damage::tokens(&mut items, random);
-        }
-        let mut script = generate::text(&items, random);
-        for _ in 0..random.below(3) {
-            damage::characters(&mut script, random);
-        }
+        let script = damage::any(random);
         let found = reading::compare(&script, room(random));
         tally.take(&mut section, &script, found);
     });

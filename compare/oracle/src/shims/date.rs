@@ -34,7 +34,7 @@ fn number(digits: &[u8]) -> Option<u32> {
 }
 
 fn days_of(year: u32, month: u32) -> u32 {
-    let leap = year % 4 == 0 && (year % 100 != 0 || year % 400 == 0);
+    let leap = matches!((year % 4, year % 100, year % 400), (_, _, 0) | (0, 1.., _));
     match month {
         2 => 28 + u32::from(leap),
         4 | 6 | 9 | 11 => 30,
