@@ -1,5 +1,5 @@
 //! Random runs of amendments.
-use crate::amending::{compare, Harm, Run, Step};
+use crate::amending::{self, Harm, Run, Step};
 use crate::damage;
 use crate::generate;
 use crate::memory::Room;
@@ -7,30 +7,20 @@ use crate::random::Random;
 use crate::reduce;
 use crate::tally::Section;
 use calls::{ENTRY, MOST_BYTES, RECORD};
-use std::time::{Duration, Instant};
 
-/// Runs of calls until the time is over. Each call counts.
-pub fn section(time: Duration, seed: u64) -> Section {
-    let mut section = Section::new("amendments");
-    let begin = Instant::now();
-    let mut random = Random::new(seed);
-    let mut runs = 0u64;
-    while begin.elapsed() < time {
-        let run = run(&mut random);
-        runs += 1;
-        match compare(&run) {
-            Ok(trace) => trace[1..].iter().for_each(|(answer, _)| {
-                section.amended[answer[0] as usize] += 1;
-            }),
-            Err(_) => {
-                if section.differs() {
-                    show(&run);
-                }
+/// One run. Each of its amendments counts.
+pub fn compare(random: &mut Random, section: &mut Section) {
+    let run = run(random);
+    match amending::compare(&run) {
+        Ok(trace) => trace[1..].iter().for_each(|(answer, _)| {
+            section.amended[answer[0] as usize] += 1;
+        }),
+        Err(_) => {
+            if section.differs() {
+                show(&run);
             }
         }
     }
-    section.remark = format!("calls, in {runs} runs");
-    section
 }
 
 /// A script that is read, and up to six amendments of it.
@@ -150,44 +140,49 @@ fn harm(random: &mut Random) -> Harm {
 
 /// Reduces a run that differs and prints it.
 fn show(run: &Run) {
-    let steps = reduce::list(&run.steps, |steps| {
-        compare(&Run {
-            steps: steps.to_vec(),
+    let small = reduced(run);
+    let Run {
+        script,
+        spare,
+        room,
+        harm,
+        steps,
+    } = &small;
+    println!("DIFFERS in amendments: {script:?}, {spare} bytes behind it, {room:?}, {harm:?}");
+    for step in steps {
+        let text = String::from_utf8_lossy(&step.text);
+        println!("  statement {} by {text:?}", step.statement);
+    }
+    println!("  {}", amending::compare(&small).err().unwrap_or_default());
+}
+
+/// Fewer steps first, then a shorter script, then shorter texts.
+fn reduced(run: &Run) -> Run {
+    let differs = |run: Run| amending::compare(&run).is_err();
+    let mut small = run.clone();
+    small.steps = reduce::list(&run.steps, |steps| {
+        let steps = steps.to_vec();
+        differs(Run {
+            steps,
             ..run.clone()
         })
-        .is_err()
     });
-    let mut small = Run {
-        steps,
-        ..run.clone()
-    };
-    small.script = reduce::text(&small.script, |script| {
-        compare(&Run {
-            script: script.to_string(),
+    small.script = reduce::text(&run.script, |script| {
+        let script = script.to_string();
+        differs(Run {
+            script,
             ..small.clone()
         })
-        .is_err()
     });
     for k in 0..small.steps.len() {
-        if let Ok(text) = String::from_utf8(small.steps[k].text.clone()) {
-            let with = |text: &str| {
-                let mut other = small.clone();
-                other.steps[k].text = text.as_bytes().to_vec();
-                other
-            };
-            small = with(&reduce::text(&text, |text| compare(&with(text)).is_err()));
+        let with = |text: &str| {
+            let mut other = small.clone();
+            other.steps[k].text = text.as_bytes().to_vec();
+            other
+        };
+        if let Ok(text) = std::str::from_utf8(&small.steps[k].text) {
+            small = with(&reduce::text(text, |text| differs(with(text))));
         }
     }
-    println!(
-        "DIFFERS in amendments: {:?}, spare {}, {:?}, {:?}",
-        small.script, small.spare, small.room, small.harm
-    );
-    for step in &small.steps {
-        println!(
-            "  statement {} by {:?}",
-            step.statement,
-            String::from_utf8_lossy(&step.text)
-        );
-    }
-    println!("  {}", compare(&small).err().unwrap_or_default());
+    small
 }

@@ -28,28 +28,31 @@ pub fn all(seconds: u64, seed: u64) -> ExitCode {
     let share = |hundredths: u64| Duration::from_millis(seconds * hundredths * 10);
     let mut tally = Tally::default();
     for alphabet in &ALPHABETS {
-        let section = sequences::run(alphabet, share(EACH_ALPHABET), &mut tally);
-        tally.add(section);
+        tally.add(sequences::run(alphabet, share(EACH_ALPHABET)));
     }
-    let section = at_limits(&mut tally);
-    tally.add(section);
-    let section = scripts(share(SCRIPTS), seed, &mut tally);
-    tally.add(section);
-    let section = damaged(share(DAMAGED), seed, &mut tally);
-    tally.add(section);
-    let section = deep(share(TOWERS), seed);
-    tally.add(section);
-    let mut section = Section::new("lists");
-    until(share(LISTS), seed, |random| {
-        lists::compare(random, &mut section)
-    });
-    tally.add(section);
-    let mut section = Section::new("lookups");
-    until(share(LOOKUPS), seed, |random| {
-        lookups::compare(random, &mut section)
-    });
-    tally.add(section);
-    tally.add(runs::section(share(AMENDMENTS), seed));
+    tally.add(at_limits());
+    tally.add(random(
+        "random scripts",
+        share(SCRIPTS),
+        seed,
+        |random, section| {
+            let script = generate::any(random);
+            section.compare(&script, room(random));
+        },
+    ));
+    tally.add(random(
+        "damaged scripts",
+        share(DAMAGED),
+        seed,
+        |random, section| {
+            let script = damage::any(random);
+            section.compare(&script, room(random));
+        },
+    ));
+    tally.add(random("depth 28 to 36", share(TOWERS), seed, deep));
+    tally.add(random("lists", share(LISTS), seed, lists::compare));
+    tally.add(random("lookups", share(LOOKUPS), seed, lookups::compare));
+    tally.add(random("amendments", share(AMENDMENTS), seed, runs::compare));
     tally.print();
     match tally.differ() {
         0 => ExitCode::SUCCESS,
@@ -57,22 +60,28 @@ pub fn all(seconds: u64, seed: u64) -> ExitCode {
     }
 }
 
-fn at_limits(tally: &mut Tally) -> Section {
+fn at_limits() -> Section {
     let mut section = Section::new("scripts at the limits");
     for script in limits::scripts() {
-        let found = reading::compare(&script, Room::FULL);
-        tally.take(&mut section, &script, found);
+        section.compare(&script, Room::FULL);
     }
     section
 }
 
-/// Runs with seeds that follow each other until the time is over.
-fn until(time: Duration, seed: u64, mut run: impl FnMut(&mut Random)) {
+/// Random cases of one kind until the time is over.
+fn random(
+    name: &str,
+    time: Duration,
+    seed: u64,
+    mut compare: impl FnMut(&mut Random, &mut Section),
+) -> Section {
     let begin = Instant::now();
+    let mut section = Section::new(name);
     let mut random = Random::new(seed);
     while begin.elapsed() < time {
-        run(&mut random);
+        compare(&mut random, &mut section);
     }
+    section
 }
 
 /// Mostly room for all that random scripts have; else a little room, so that some do not fit.
@@ -86,43 +95,20 @@ pub fn room(random: &mut Random) -> Room {
     }
 }
 
-fn scripts(time: Duration, seed: u64, tally: &mut Tally) -> Section {
-    let mut section = Section::new("random scripts");
-    until(time, seed, |random| {
-        let script = generate::any(random);
-        let found = reading::compare(&script, room(random));
-        tally.take(&mut section, &script, found);
-    });
-    section
-}
-
-fn damaged(time: Duration, seed: u64, tally: &mut Tally) -> Section {
-    let mut section = Section::new("damaged scripts");
-    until(time, seed, |random| {
-        let script = damage::any(random);
-        let found = reading::compare(&script, room(random));
-        tally.take(&mut section, &script, found);
-    });
-    section
-}
-
-/// Scripts whose depth is known: 15 at the construct that is one too deep, and only there.
-fn deep(time: Duration, seed: u64) -> Section {
-    let mut section = Section::new("depth 28 to 36");
-    until(time, seed, |random| {
-        let storeys = DEPTH - 4 + random.below(9);
-        let (script, opening) = towers::tower(random, storeys);
-        let expected = opening.get(DEPTH).map_or([0, 0], |byte| [15, *byte as u32]);
-        match reading::compare(&script, Room::FULL) {
-            Ok(same @ (Same::AsRust(answer) | Same::ByRule(answer))) if answer[..2] == expected => {
-                section.count(same);
-            }
-            found => {
-                if section.differs() {
-                    println!("DIFFERS in depth: {script:?}\n  {found:?}, expected {expected:?}");
-                }
+/// A script whose depth is known: 15 at the construct that is one too deep, and only there.
+fn deep(random: &mut Random, section: &mut Section) {
+    let storeys = DEPTH - 4 + random.below(9);
+    let (script, opening) = towers::tower(random, storeys);
+    let expected = opening.get(DEPTH).map_or([0, 0], |byte| [15, *byte as u32]);
+    match reading::compare(&script, Room::FULL) {
+        Ok(same @ (Same::AsRust(answer) | Same::ByRule(answer))) if answer[..2] == expected => {
+            section.count(same);
+        }
+        found => {
+            if section.differs() {
+                println!("DIFFERS in {}: {script:?}", section.name);
+                println!("  {found:?}, expected {expected:?}");
             }
         }
-    });
-    section
+    }
 }

@@ -1,7 +1,7 @@
 //! Every sequence over an alphabet, in order of length.
 use crate::memory::Room;
-use crate::reading::{compare, Same};
-use crate::tally::{Section, Tally};
+use crate::reading::Same;
+use crate::tally::Section;
 use std::time::{Duration, Instant};
 
 pub struct Alphabet {
@@ -163,7 +163,7 @@ pub const ALPHABETS: [Alphabet; 6] = [
 ];
 
 /// Runs sequences by length until the time is over. The row says up to which length all were compared.
-pub fn run(alphabet: &Alphabet, time: Duration, tally: &mut Tally) -> Section {
+pub fn run(alphabet: &Alphabet, time: Duration) -> Section {
     let begin = Instant::now();
     let mut section = Section::new(alphabet.name);
     let mut open: Vec<String> = vec![String::new()];
@@ -176,11 +176,10 @@ pub fn run(alphabet: &Alphabet, time: Duration, tally: &mut Tally) -> Section {
             }
             for letter in alphabet.letters {
                 let script = joined(prefix, alphabet.between, letter);
-                let found = compare(&script, Room::of(64, 16));
-                if complete < alphabet.whole || !is_settled(&found, &script) {
-                    longer.push(script.clone());
+                let found = section.compare(&script, Room::of(64, 16));
+                if complete < alphabet.whole || !is_settled(found, &script) {
+                    longer.push(script);
                 }
-                tally.take(&mut section, &script, found);
             }
         }
         complete += 1;
@@ -208,9 +207,9 @@ fn remark(alphabet: &Alphabet, complete: usize) -> String {
 }
 
 /// Refused before the end of the script.
-fn is_settled(found: &Result<Same, String>, script: &str) -> bool {
+fn is_settled(found: Option<Same>, script: &str) -> bool {
     match found {
-        Ok(Same::AsRust(answer)) => answer[0] != 0 && (answer[1] as usize) < script.len(),
+        Some(Same::AsRust(answer)) => answer[0] != 0 && (answer[1] as usize) < script.len(),
         _ => false,
     }
 }

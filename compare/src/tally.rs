@@ -35,6 +35,22 @@ impl Section {
         }
     }
 
+    /// Reads a script on both sides and counts it; reduces and shows it where the sides differ.
+    pub fn compare(&mut self, script: &str, room: Room) -> Option<Same> {
+        match reading::compare(script, room) {
+            Ok(same) => {
+                self.count(same);
+                Some(same)
+            }
+            Err(_) => {
+                if self.differs() {
+                    show(&self.name, script, room);
+                }
+                None
+            }
+        }
+    }
+
     pub fn count(&mut self, same: Same) {
         match same {
             Same::AsRust(answer) => self.by_rust[answer[0] as usize] += 1,
@@ -65,15 +81,6 @@ pub struct Tally {
 }
 
 impl Tally {
-    /// Counts what was found of a script that was read in this room; reduces and shows it where it differs.
-    pub fn take(&mut self, section: &mut Section, script: &str, found: Result<Same, String>) {
-        match found {
-            Ok(same) => section.count(same),
-            Err(_) if section.differs() => show(&section.name, script),
-            Err(_) => {}
-        }
-    }
-
     pub fn add(&mut self, section: Section) {
         self.sections.push(section);
     }
@@ -117,16 +124,12 @@ impl Tally {
 }
 
 /// Reduces a script that differs and prints it.
-fn show(section: &str, script: &str) {
-    let room = Room::FULL;
+fn show(section: &str, script: &str, room: Room) {
     let reduced = reduce::text(script, |text| reading::compare(text, room).is_err());
-    let found = reading::compare(&reduced, room);
-    println!("DIFFERS in {section}: {reduced:?}");
+    println!("DIFFERS in {section}: {reduced:?}, {room:?}");
     println!("  from {script:?}");
     println!(
         "  {}",
-        found
-            .err()
-            .unwrap_or_else(|| "only in the room of the first run".to_string())
+        reading::compare(&reduced, room).err().unwrap_or_default()
     );
 }
