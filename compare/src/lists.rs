@@ -3,16 +3,20 @@ use crate::memory::{Memory, Room};
 use crate::random::Random;
 use crate::rules::LISTS;
 use crate::tally::Section;
-use calls::{Answer, Lists};
+use calls::{Answer, Change, Lists};
 use std::collections::HashSet;
 
 const MOST_NAMES: usize = 256;
 const MOST_LENGTH: usize = 32;
 
-/// The answer of any read with a list that is malformed.
-const MALFORMED: Answer = [2, 0, 1, 1, 0, 0, 0, 0];
+/// The script that is read, and the text that takes its place. No list that is made here has these names.
+const SCRIPT: &[u8] = b"Q;";
+const TEXT: &[u8] = b"R;";
 
-/// Reads a short script with lists of which one was made at random.
+/// What both are read as: bytes, statements, records, tokens.
+const COUNTS: [u32; 4] = [2, 1, 1, 2];
+
+/// Reads a short script, and amends it, with lists of which one was made at random.
 pub fn compare(random: &mut Random, section: &mut Section) {
     let list = list(random);
     let mut lists = LISTS;
@@ -22,24 +26,58 @@ pub fn compare(random: &mut Random, section: &mut Section) {
         (false, true) => lists.reserved = &list,
         (false, false) => lists.day_counters = &list,
     }
-    let expected = if is_well_formed(&list, is_currencies) {
-        [0, 0, 1, 1, 2, 1, 1, 2]
-    } else {
-        MALFORMED
-    };
-    match read(&lists) {
-        Ok(answer) if answer == expected => section.by_rule[answer[0] as usize] += 1,
-        found => {
+    let is_good = is_well_formed(&list, is_currencies);
+    match read(&lists, is_good).and_then(|()| amend(&lists, is_good)) {
+        Ok(()) => {
+            let ground = if is_good { 0 } else { 2 };
+            section.by_rule[ground] += 1;
+            section.amended[ground] += 1;
+        }
+        Err(found) => {
             if section.differs() {
                 let list = String::from_utf8_lossy(&list);
-                println!("DIFFERS in lists: {list:?}\n  {found:?}, expected {expected:?}");
+                println!("DIFFERS in lists: {list:?}, currencies {is_currencies}\n  {found}");
             }
         }
     }
 }
 
-fn read(lists: &Lists) -> Result<Answer, String> {
-    Memory::new(b"Q;", Room::of(1, 1), lists).read()
+fn answer(is_good: bool, refused: [u32; 4]) -> Answer {
+    let ground = if is_good { 0 } else { 2 };
+    let [bytes, statements, records, tokens] = if is_good { COUNTS } else { refused };
+    [ground, 0, 1, 1, bytes, statements, records, tokens]
+}
+
+fn same<T: PartialEq + std::fmt::Debug>(got: &T, expected: &T) -> Result<(), String> {
+    if got == expected {
+        Ok(())
+    } else {
+        Err(format!("{got:?}, expected {expected:?}"))
+    }
+}
+
+fn read(lists: &Lists, is_good: bool) -> Result<(), String> {
+    let mut memory = Memory::new(SCRIPT, Room::of(1, 1), lists);
+    let before = memory.contents();
+    same(&memory.read()?, &answer(is_good, [0; 4]))?;
+    same(&(memory.contents() != before), &is_good)
+}
+
+/// Of a state that was read with other lists.
+fn amend(lists: &Lists, is_good: bool) -> Result<(), String> {
+    let mut first = Memory::new(SCRIPT, Room::of(1, 1), &LISTS);
+    first.read()?;
+    let mut expected = first.contents();
+    let mut memory = Memory::holding(&expected, lists);
+    let change = Change {
+        statement: 0,
+        text: TEXT,
+    };
+    same(&memory.amend(change, &COUNTS)?, &answer(is_good, COUNTS))?;
+    if is_good {
+        expected.script = TEXT.to_vec();
+    }
+    same(&memory.contents(), &expected)
 }
 
 /// Each name ends in a line feed, has 1 to 32 bytes of 0x20 to 0x7E without quote, and stands there once. Currencies have

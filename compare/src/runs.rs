@@ -4,8 +4,10 @@ use crate::damage;
 use crate::generate;
 use crate::memory::Room;
 use crate::random::Random;
+use crate::reading::DEPTH;
 use crate::reduce;
 use crate::tally::Section;
+use crate::towers::tower;
 use calls::{ENTRY, MOST_BYTES, RECORD};
 
 /// One run. Each of its amendments counts.
@@ -85,9 +87,21 @@ fn step(random: &mut Random, statements: usize) -> Step {
 
 /// A new text: mostly statements that end well.
 fn text(random: &mut Random) -> String {
+    if random.once_in(200) {
+        return [
+            " ".repeat(MOST_BYTES + 1),
+            ";".repeat(4_097),
+            "x;".repeat(513),
+        ][random.below(3)]
+        .clone();
+    }
+    if random.once_in(40) {
+        let storeys = DEPTH - 1 + random.below(4);
+        return tower(random, storeys).0;
+    }
+    let beginnings = ["", "", "\n", " ", "# c\n", "\r\n"];
     let good = ["", "\n", "# c\n", "\r\n"];
     let bad = [" ", "# c", "\t", "pays 1", ";", "x", "\0"];
-    let beginnings = ["", "", "\n", " ", "# c\n", "\r\n"];
     let statements = random.below(4);
     let mut items = generate::script(random, statements);
     if random.once_in(8) {
@@ -99,16 +113,7 @@ fn text(random: &mut Random) -> String {
         damage::characters(&mut text, random);
     }
     let endings: &[&str] = if random.once_in(4) { &bad } else { &good };
-    text += random.pick(endings);
-    if random.once_in(300) {
-        text = [
-            " ".repeat(MOST_BYTES + 1),
-            ";".repeat(4_097),
-            "x;".repeat(513),
-        ][random.below(3)]
-        .clone();
-    }
-    text
+    text + random.pick(endings)
 }
 
 fn harm(random: &mut Random) -> Harm {
