@@ -9,8 +9,9 @@ pub struct Alphabet {
     /// What stands between two letters.
     pub between: &'static str,
     pub letters: &'static [&'static str],
-    /// Up to this length every sequence is made longer. Beyond it, one that is refused before its end is not: what
-    /// follows plays no part in such a refusal, since reading goes from left to right and no letter is faulty in itself.
+    /// Up to this length every sequence is compared. Beyond it, none that begins with one that is refused before its
+    /// end: what follows plays no part in such a refusal, since reading goes from left to right and no letter is faulty
+    /// in itself.
     pub whole: usize,
 }
 
@@ -177,7 +178,7 @@ pub fn run(alphabet: &Alphabet, time: Duration) -> Section {
             for letter in alphabet.letters {
                 let script = joined(prefix, alphabet.between, letter);
                 let found = section.compare(&script, Room::of(64, 16));
-                if complete < alphabet.whole || !is_settled(found, &script) {
+                if complete + 1 < alphabet.whole || !is_settled(found, &script) {
                     longer.push(script);
                 }
             }
