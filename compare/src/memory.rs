@@ -69,7 +69,7 @@ impl Room {
     }
 
     /// Room for so many records and statements at most.
-    pub fn of(records: usize, statements: usize) -> Self {
+    pub const fn of(records: usize, statements: usize) -> Self {
         Self {
             records: records * RECORD,
             directory: statements * ENTRY,

@@ -2,7 +2,6 @@
 use crate::amending::{self, Run};
 use crate::damage;
 use crate::generate;
-use crate::limits;
 use crate::memory::Room;
 use crate::random::Random;
 use crate::reading::{compare_memory, Same, DEPTH};
@@ -12,11 +11,12 @@ use crate::towers::tower;
 use crate::vectors;
 use std::process::ExitCode;
 
-/// Longer cases are left out, so that the file stays small.
-const LONGEST: usize = 1_200;
+/// Longer cases are left out, and longer scripts and texts, so that the file stays small and is replayed soon.
+const LONGEST: usize = 900;
+const LONGEST_TEXT: usize = 250;
 
 /// Cases that are tried for each that is asked for.
-const TRIES: usize = 200;
+const TRIES: usize = 600;
 
 /// How many of each ground are taken: more that are accepted than refused.
 struct Quota {
@@ -62,11 +62,7 @@ fn script(random: &mut Random) -> String {
             let storeys = DEPTH - 1 + random.below(4);
             tower(random, storeys).0
         }
-        1 => {
-            let scripts = limits::scripts();
-            scripts[random.below(scripts.len())].clone()
-        }
-        2 | 3 => generate::any(random),
+        1 | 2 => generate::any(random),
         _ => damage::any(random),
     }
 }
@@ -82,7 +78,7 @@ fn small(room: Room) -> Room {
 
 fn reads(seed: u64, count: usize) -> Result<(), String> {
     let mut random = Random::new(seed);
-    let mut quota = Quota::new(count / 4, count / 16);
+    let mut quota = Quota::new(count * 7 / 20, count / 20);
     let mut written = 0;
     for _ in 0..count * TRIES {
         let script = script(&mut random);
@@ -94,7 +90,8 @@ fn reads(seed: u64, count: usize) -> Result<(), String> {
         };
         let title = format!("compared read {}, ground {}", written + 1, answer[0]);
         let case = vectors::read(&title, &script, room, answer, &left);
-        if case.len() <= LONGEST && quota.takes(&answer[..1]) {
+        let is_short = case.len() <= LONGEST && script.len() <= LONGEST_TEXT;
+        if is_short && quota.takes(&answer[..1]) {
             print!("{case}");
             written += 1;
         }
@@ -116,7 +113,10 @@ fn amendments(seed: u64, count: usize) -> Result<(), String> {
         let trace = amending::compare(&run).map_err(|found| format!("{run:?}: {found}"))?;
         let grounds: Vec<u32> = trace[1..].iter().map(|(answer, _)| answer[0]).collect();
         let case = vectors::run(&format!("compared run {}", written + 1), &run, &trace);
-        if case.len() <= LONGEST && quota.takes(&grounds) {
+        let texts = run.steps.iter().map(|step| step.text.len());
+        let longest = texts.fold(run.script.len(), usize::max);
+        let is_short = case.len() <= LONGEST && longest <= LONGEST_TEXT;
+        if is_short && quota.takes(&grounds) {
             print!("{case}");
             written += 1;
         }

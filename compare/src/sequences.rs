@@ -163,10 +163,14 @@ pub const ALPHABETS: [Alphabet; 6] = [
     },
 ];
 
+/// More than sequences of these lengths need.
+const ROOM: Room = Room::of(64, 16);
+
 /// Runs sequences by length until the time is over. The row says up to which length all were compared.
 pub fn run(alphabet: &Alphabet, time: Duration) -> Section {
     let begin = Instant::now();
     let mut section = Section::new(alphabet.name);
+    section.compare("", ROOM);
     let mut open: Vec<String> = vec![String::new()];
     let mut complete = 0;
     'longer: while !open.is_empty() {
@@ -177,7 +181,7 @@ pub fn run(alphabet: &Alphabet, time: Duration) -> Section {
             }
             for letter in alphabet.letters {
                 let script = joined(prefix, alphabet.between, letter);
-                let found = section.compare(&script, Room::of(64, 16));
+                let found = section.compare(&script, ROOM);
                 if complete + 1 < alphabet.whole || !is_settled(found, &script) {
                     longer.push(script);
                 }
@@ -201,7 +205,7 @@ fn joined(prefix: &str, between: &str, letter: &str) -> String {
 fn remark(alphabet: &Alphabet, complete: usize) -> String {
     let (letters, whole) = (alphabet.letters.len(), complete.min(alphabet.whole));
     if complete > whole {
-        format!("length 0 to {whole} over {letters} letters: all; to {complete}: all but those that begin with a refused one")
+        format!("length 0 to {whole} over {letters} letters: all; to {complete}: all that begin with none refused before its end")
     } else {
         format!("length 0 to {whole} over {letters} letters: all")
     }
