@@ -3,7 +3,7 @@
 GOREMBIIN_RUST=$(CDPATH='' cd -- "$1" && pwd)
 if [ -z "${GOREMBIIN_ARCHIVE:-}" ]; then
     library=$("$here/../tools/archive")
-    GOREMBIIN_ARCHIVE=$(dirname -- "$library")
+    GOREMBIIN_ARCHIVE=${library%/*}
 fi
 GOREMBIIN_ARCHIVE=$(CDPATH='' cd -- "$GOREMBIIN_ARCHIVE" && pwd)
 export GOREMBIIN_RUST GOREMBIIN_ARCHIVE

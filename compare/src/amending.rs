@@ -5,7 +5,7 @@ use crate::rules::LISTS;
 use crate::splice::{outcome, Outcome, State};
 use calls::{Answer, Change, ENTRY, RECORD};
 
-/// The statement that is replaced, and by what. The text need not be text: it may hold any bytes.
+/// The statement that is replaced, and by which bytes.
 #[derive(Debug, Clone, PartialEq)]
 pub struct Step {
     pub statement: u32,
@@ -49,10 +49,11 @@ impl Run {
     }
 }
 
-/// Runs the read and the steps. The read is compared by itself elsewhere.
+/// Runs the read and the steps.
 pub fn compare(run: &Run) -> Result<Trace, String> {
     let mut memory = Memory::new(&run.lent(), run.room, &LISTS);
     let mut answer = memory.read()?;
+    alone(run, &memory, answer)?;
     let mut as_read = answer[0] == 0;
     if let Some(harm) = run.harm {
         memory = harmed(&memory, harm, &mut answer);
@@ -66,17 +67,7 @@ pub fn compare(run: &Run) -> Result<Trace, String> {
             statement: step.statement,
             text: &step.text,
         };
-        if let Ok(text) = std::str::from_utf8(&step.text) {
-            reading::compare(text, Room::ample(text.len()))
-                .map_err(|found| format!("{text:?} alone: {found}"))?;
-        }
-        let expected = outcome(
-            &State {
-                contents: &before,
-                counts,
-            },
-            change,
-        )?;
+        let expected = expected(&before, counts, change)?;
         answer = memory.amend(change, &counts)?;
         same(&memory, answer, &expected)?;
         if as_read && answer[0] == 0 {
@@ -85,6 +76,24 @@ pub fn compare(run: &Run) -> Result<Trace, String> {
         trace.push((answer, memory.contents()));
     }
     Ok(trace)
+}
+
+/// The script in a slice of its own is read so too, and compared with the Rust.
+fn alone(run: &Run, memory: &Memory, answer: Answer) -> Result<(), String> {
+    let (same, contents) = reading::compare_memory(&run.script, run.room)?;
+    let as_alone = match same {
+        Same::AsRust(alone) | Same::ByRule(alone) => alone == answer,
+        Same::Outside => true,
+    };
+    let same_words =
+        contents.records == memory.records() && contents.directory == memory.directory();
+    if as_alone && same_words {
+        Ok(())
+    } else {
+        Err(format!(
+            "answer {answer:?}, and without room behind it {same:?}"
+        ))
+    }
 }
 
 fn harmed(memory: &Memory, harm: Harm, answer: &mut Answer) -> Memory<'static> {
@@ -100,11 +109,20 @@ fn harmed(memory: &Memory, harm: Harm, answer: &mut Answer) -> Memory<'static> {
     Memory::holding(&contents, &LISTS)
 }
 
+/// What the rules say. The text read alone is compared with the Rust.
+fn expected(contents: &Contents, counts: [u32; 4], change: Change) -> Result<Outcome, String> {
+    if let Ok(text) = std::str::from_utf8(change.text) {
+        reading::compare(text, Room::ample(text.len()))
+            .map_err(|found| format!("{text:?} alone: {found}"))?;
+    }
+    outcome(&State { contents, counts }, change)
+}
+
 fn same(memory: &Memory, answer: Answer, expected: &Outcome) -> Result<(), String> {
-    let wrong = expected.answer;
-    if answer != wrong {
+    let rules = expected.answer;
+    if answer != rules {
         return Err(format!(
-            "the archive answers {answer:?}, the rules {wrong:?}"
+            "the archive answers {answer:?}, the rules {rules:?}"
         ));
     }
     let contents = &expected.contents;

@@ -153,7 +153,7 @@ impl Record<'_> {
     fn check_place(&self, held: &Held, passed: &mut usize) -> Result<(), String> {
         let [kind, _, _, f1, f2, f3, f4] = *self.words;
         let (token, quote, first, length) = match kind {
-            1 => (Kind::Name, 0, f1, f2),
+            1 | 39 => (Kind::Name, 0, f1, f2),
             2 => (Kind::Number, 0, f3, f4),
             5 | 33 | 35 => (Kind::Text, 1, f1, f2),
             34 if f2 != 0 => (Kind::Text, 1, f2, f3),
@@ -165,12 +165,15 @@ impl Record<'_> {
             .pieces
             .binary_search_by_key(&start, |piece| piece.start)
             .is_ok_and(|k| held.pieces[k].kind == token && held.pieces[k].end == end);
-        let ascends = if kind == 1 {
-            start + 1 >= *passed
-        } else {
-            start >= *passed
+        // A loop's record stands behind those of its body.
+        let ascends = match kind {
+            39 => true,
+            1 => start + 1 >= *passed,
+            _ => start >= *passed,
         };
-        *passed = start + 1;
+        if kind != 39 {
+            *passed = start + 1;
+        }
         if stands && ascends && (kind != 2 || self.is_value(&held.script[start..end])) {
             Ok(())
         } else {

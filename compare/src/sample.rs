@@ -44,8 +44,8 @@ impl Quota {
 }
 
 pub fn write(seed: u64, count: usize) -> ExitCode {
-    println!("# Made by `compare sample {seed} {count}`. Each answer was found equal with the unchanged Rust, or with the");
-    println!("# rules where the Rust has none; see FORMAT.md.");
+    println!("# Made by `compare/run RUSTFOLDER sample {seed} {count}`. Each answer was found equal with the unchanged Rust, or");
+    println!("# with the rules where the Rust has none; see FORMAT.md.");
     print!("{}", vectors::definitions());
     match reads(seed, count * 2 / 3).and_then(|()| amendments(seed, count - count * 2 / 3)) {
         Ok(()) => ExitCode::SUCCESS,
