@@ -6,6 +6,7 @@ use crate::memory::Room;
 use crate::random::Random;
 use crate::reading::DEPTH;
 use crate::reduce;
+use crate::scan::scan;
 use crate::tally::Section;
 use crate::towers::tower;
 use calls::{ENTRY, MOST_BYTES, RECORD};
@@ -29,7 +30,7 @@ pub fn compare(random: &mut Random, section: &mut Section) {
 pub fn run(random: &mut Random) -> Run {
     let (script, statements) = base(random);
     let spare = [0, 8, 64, 400, 400][random.below(5)];
-    let room = match random.below(8) {
+    let room = match random.below(12) {
         0 => Room {
             records: random.below(60 * RECORD),
             directory: random.below(10 * ENTRY),
@@ -60,7 +61,8 @@ fn base(random: &mut Random) -> (String, usize) {
         let statements = 1 + random.below(5);
         let items = generate::script(random, statements);
         let script = generate::text(&items, random);
-        if oracle::read(&script).is_ok() || random.once_in(20) {
+        let is_read = scan(script.as_bytes()).fault.is_none() && oracle::read(&script).is_ok();
+        if is_read || random.once_in(40) {
             return (script, statements);
         }
     }
@@ -102,7 +104,7 @@ fn text(random: &mut Random) -> String {
     let beginnings = ["", "", "\n", " ", "# c\n", "\r\n"];
     let good = ["", "\n", "# c\n", "\r\n"];
     let bad = [" ", "# c", "\t", "pays 1", ";", "x", "\0"];
-    let statements = random.below(4);
+    let statements = [0, 1, 1, 1, 1, 1, 2, 3][random.below(8)];
     let mut items = generate::script(random, statements);
     if random.once_in(8) {
         damage::tokens(&mut items, random);
