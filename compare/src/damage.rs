@@ -1,6 +1,7 @@
 //! Damage to scripts.
-use crate::generate::{any_token, script, text, Item};
+use crate::generate::{any_token, script, Item};
 use crate::random::Random;
+use crate::spacing::text;
 
 /// A script with damage to some tokens and some characters.
 pub fn any(random: &mut Random) -> String {

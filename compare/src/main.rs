@@ -1,4 +1,5 @@
 //! Compares the archive with the unchanged Rust: `compare [SECONDS [SEED]]`, or `compare sample SEED COUNT`.
+mod alphabets;
 mod amending;
 mod damage;
 mod from_records;
@@ -17,12 +18,15 @@ mod sample;
 mod scan;
 mod sections;
 mod sequences;
+mod spacing;
 mod splice;
 mod tally;
+mod tokens;
 mod towers;
 mod tree;
 mod vectors;
 mod verdict;
+mod words;
 
 use std::process::ExitCode;
 

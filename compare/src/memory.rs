@@ -180,9 +180,7 @@ impl<'a> Memory<'a> {
 
     fn checked(&self, answer: Guarded<u32>) -> Result<Answer, String> {
         let lists = [
-            self.lists.reserved,
-            self.lists.currencies,
-            self.lists.day_counters,
+            self.lists.reserved, self.lists.currencies, self.lists.day_counters,
         ];
         if !self
             .lent

@@ -7,6 +7,7 @@ use crate::random::Random;
 use crate::reading::DEPTH;
 use crate::reduce;
 use crate::scan::scan;
+use crate::spacing;
 use crate::tally::Section;
 use crate::towers::tower;
 use calls::{ENTRY, MOST_BYTES, RECORD};
@@ -60,7 +61,7 @@ fn base(random: &mut Random) -> (String, usize) {
     loop {
         let statements = 1 + random.below(5);
         let items = generate::script(random, statements);
-        let script = generate::text(&items, random);
+        let script = spacing::text(&items, random);
         let is_read = scan(script.as_bytes()).fault.is_none() && oracle::read(&script).is_ok();
         if is_read || random.once_in(40) {
             return (script, statements);

@@ -1,4 +1,5 @@
 //! The parts of a comparison, each with its share of the time.
+use crate::alphabets::ALPHABETS;
 use crate::damage;
 use crate::generate;
 use crate::limits;
@@ -8,7 +9,7 @@ use crate::memory::Room;
 use crate::random::Random;
 use crate::reading::{self, Same, DEPTH};
 use crate::runs;
-use crate::sequences::{self, ALPHABETS};
+use crate::sequences;
 use crate::tally::{Section, Tally};
 use crate::towers;
 use std::process::ExitCode;
