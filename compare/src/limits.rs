@@ -22,13 +22,13 @@ fn bytes(count: usize) -> String {
     format!("#{}\nx;", ".".repeat(count - 4))
 }
 
-/// So many tokens in few records: parentheses beside each other.
+/// So many tokens in few records: statements of eight tokens, and one of the rest.
 fn tokens(count: usize) -> String {
-    let pairs = "+(x)".repeat((count - 4) / 4);
-    format!(
-        "x=x{pairs}{};",
-        [";", ";;", ";;;", ";;;;"][(count - 4) % 4].replacen(';', "", 1)
-    )
+    let full = "(((x)));".repeat(MOST_STATEMENTS - 1);
+    let rest = count - 8 * (MOST_STATEMENTS - 1);
+    let pairs = rest / 2 - 1;
+    let (minus, open, close) = ("-".repeat(rest % 2), "(".repeat(pairs), ")".repeat(pairs));
+    format!("{full}{minus}{open}x{close};")
 }
 
 /// So many records in one statement: a pays of so many numbers.
