@@ -1,0 +1,153 @@
+//! Amending one statement, beside the Rust reading the whole new script.
+use crate::archive::{Archive, LISTS};
+use crate::full_lists::FullLists;
+use crate::scripts::note;
+use crate::timing::{medians, timed, Timed};
+use calls::{Lists, MOST_BYTES};
+use std::hint::black_box;
+
+/// Bytes that the note leaves for statements to grow.
+const SPARE: usize = 64;
+
+/// Amendments that follow each other in the measurement of warm caches.
+const WARM: usize = 16;
+
+/// A statement that is replaced, and by what.
+struct Case<'a> {
+    name: String,
+    statement: u32,
+    old: String,
+    new: String,
+    lists: Lists<'a>,
+}
+
+pub fn table(rounds: usize) {
+    let script = note(MOST_BYTES - SPARE);
+    let full = FullLists::new();
+    let cases = cases(&script, &full);
+    let mut runs: Vec<Timed> = Vec::new();
+    for case in &cases {
+        let amended = verify(case, &script);
+        runs.push(Box::new(move || {
+            timed(|| oracle::read(black_box(&amended)))
+        }));
+        let mut archive = Archive::holding(&script, &case.lists);
+        runs.push(Box::new(move || there_and_back(&mut archive, case)));
+        let mut archive = Archive::holding(&script, &case.lists);
+        runs.push(Box::new(move || {
+            (0..WARM)
+                .map(|_| there_and_back(&mut archive, case))
+                .sum::<f64>()
+                / WARM as f64
+        }));
+    }
+    let times = medians(rounds, &mut runs);
+    print(&script, &cases, &times);
+}
+
+/// First, middle and last statement, with the same length and longer.
+fn cases<'a>(script: &str, full: &'a FullLists) -> Vec<Case<'a>> {
+    let archive = Archive::holding(script, &LISTS);
+    let last = archive.answer[5] - 1;
+    let mut cases = Vec::new();
+    for (name, statement) in [("first", 0), ("middle", last / 2), ("last", last)] {
+        let old = archive.statement(statement as usize);
+        let bytes = old.len();
+        let case = |change: &str, new: String, lists: Lists<'a>| Case {
+            name: format!("{name} statement, {bytes} bytes, {change}"),
+            statement,
+            old: old.clone(),
+            new,
+            lists,
+        };
+        cases.push(case("same length", same_length(&old), LISTS));
+        cases.push(case("8 bytes longer", longer(&old), LISTS));
+        if name == "middle" {
+            let lists = full.lists();
+            cases.push(case(
+                "same length, lists of 256 names",
+                same_length(&old),
+                lists,
+            ));
+        }
+    }
+    cases
+}
+
+/// Another statement of the same length: its last digit or letter is another.
+fn same_length(old: &str) -> String {
+    let at = old
+        .rfind(|c: char| c.is_ascii_alphanumeric())
+        .expect("a statement has a letter");
+    let other = if old.as_bytes()[at].is_ascii_digit() {
+        "7"
+    } else {
+        "q"
+    };
+    let mut new = old.to_string();
+    new.replace_range(at..=at, other);
+    new
+}
+
+/// The same statement with one more operand.
+fn longer(old: &str) -> String {
+    let at = old.rfind(';').expect("a statement has a `;`");
+    let mut new = old.to_string();
+    new.insert_str(at, " + 1.125");
+    new
+}
+
+/// Nanoseconds of one amendment; then the old statement is put back.
+fn there_and_back(archive: &mut Archive, case: &Case) -> f64 {
+    let took = timed(|| archive.amend(case.statement, black_box(&case.new), &case.lists));
+    assert_eq!(archive.answer[0], 0, "{} is accepted", case.name);
+    archive.amend(case.statement, &case.old, &case.lists);
+    assert_eq!(archive.answer[0], 0, "{} is taken back", case.name);
+    took
+}
+
+/// The amendment leaves what reading the new script leaves, and the Rust counts alike. Answers the new script.
+fn verify(case: &Case, script: &str) -> String {
+    let mut archive = Archive::holding(script, &case.lists);
+    archive.amend(case.statement, &case.new, &case.lists);
+    assert_eq!(archive.answer[0], 0, "{}: {:?}", case.name, archive.answer);
+    let amended = archive.text();
+    assert!(amended != script, "{} changes the script", case.name);
+    assert!(
+        archive == Archive::holding(&amended, &case.lists),
+        "{} is as read",
+        case.name
+    );
+    let root = oracle::read(&amended).expect("the Rust accepts the new script");
+    let counted = [root.children().len(), oracle::nodes(&root) - 1];
+    assert_eq!(
+        counted,
+        [5, 6].map(|k| archive.answer[k] as usize),
+        "{}",
+        case.name
+    );
+    amended
+}
+
+fn print(script: &str, cases: &[Case], times: &[f64]) {
+    println!("\n## Amending\n");
+    println!(
+        "A note of {} bytes. The Rust reads the whole new script. In turn: one amendment behind a",
+        script.len()
+    );
+    println!("reading by the Rust, whose data is in the caches. Warm: {WARM} amendments behind each other.\n");
+    println!("| | the Rust, µs | in turn, µs | warm, µs | times as fast, in turn | warm |");
+    println!("|---|---|---|---|---|---|");
+    for (case, times) in cases.iter().zip(times.chunks_exact(3)) {
+        let (rust, turn, warm) = (times[0], times[1], times[2]);
+        println!(
+            "| {} | {:.1} | {:.2} | {:.2} | {:.0} | {:.0} |",
+            case.name,
+            rust / 1000.0,
+            turn / 1000.0,
+            warm / 1000.0,
+            rust / turn,
+            rust / warm
+        );
+    }
+}

@@ -1,0 +1,135 @@
+//! What was compared, in numbers.
+use crate::memory::Room;
+use crate::reading::{self, Same};
+use crate::reduce;
+
+/// Grounds 0 to 20.
+const GROUNDS: usize = 21;
+
+/// Differences that are printed of each section; the others are counted.
+const SHOWN: u64 = 3;
+
+/// One row of the table.
+pub struct Section {
+    pub name: String,
+    pub remark: String,
+    pub by_rust: [u64; GROUNDS],
+    pub by_rule: [u64; GROUNDS],
+    pub amended: [u64; GROUNDS],
+    pub looked_up: u64,
+    pub outside: u64,
+    pub differ: u64,
+}
+
+impl Section {
+    pub fn new(name: &str) -> Self {
+        Self {
+            name: name.to_string(),
+            remark: String::new(),
+            by_rust: [0; GROUNDS],
+            by_rule: [0; GROUNDS],
+            amended: [0; GROUNDS],
+            looked_up: 0,
+            outside: 0,
+            differ: 0,
+        }
+    }
+
+    /// Reads a script on both sides and counts it; reduces and shows it where the sides differ.
+    pub fn compare(&mut self, script: &str, room: Room) -> Option<Same> {
+        match reading::compare(script, room) {
+            Ok(same) => {
+                self.count(same);
+                Some(same)
+            }
+            Err(_) => {
+                if self.differs() {
+                    show(&self.name, script, room);
+                }
+                None
+            }
+        }
+    }
+
+    pub fn count(&mut self, same: Same) {
+        match same {
+            Same::AsRust(answer) => self.by_rust[answer[0] as usize] += 1,
+            Same::ByRule(answer) => self.by_rule[answer[0] as usize] += 1,
+            Same::Outside => self.outside += 1,
+        }
+    }
+
+    /// Counts a difference, and says whether it is to be shown.
+    pub fn differs(&mut self) -> bool {
+        self.differ += 1;
+        self.differ <= SHOWN
+    }
+
+    fn compared(&self) -> u64 {
+        let all = self
+            .by_rust
+            .iter()
+            .chain(&self.by_rule)
+            .chain(&self.amended);
+        all.sum::<u64>() + self.looked_up + self.differ
+    }
+}
+
+#[derive(Default)]
+pub struct Tally {
+    sections: Vec<Section>,
+}
+
+impl Tally {
+    pub fn add(&mut self, section: Section) {
+        self.sections.push(section);
+    }
+
+    pub fn differ(&self) -> u64 {
+        self.sections.iter().map(|section| section.differ).sum()
+    }
+
+    pub fn print(&self) {
+        println!("| what | compared | accepted | refused | skipped | differ | |");
+        println!("|---|---|---|---|---|---|---|");
+        for section in &self.sections {
+            let accepted = section.by_rust[0] + section.by_rule[0] + section.amended[0];
+            println!(
+                "| {} | {} | {accepted} | {} | {} | {} | {} |",
+                section.name,
+                section.compared(),
+                section.compared() - accepted - section.looked_up - section.differ,
+                section.outside,
+                section.differ,
+                section.remark
+            );
+        }
+        self.print_grounds();
+    }
+
+    fn print_grounds(&self) {
+        println!("\n| ground | reads, as the Rust | reads, by the rule | amendments |");
+        println!("|---|---|---|---|");
+        for ground in 0..GROUNDS {
+            let sum = |of: fn(&Section) -> &[u64; GROUNDS]| {
+                self.sections
+                    .iter()
+                    .map(|section| of(section)[ground])
+                    .sum::<u64>()
+            };
+            let (rust, rule) = (sum(|s| &s.by_rust), sum(|s| &s.by_rule));
+            println!("| {ground} | {rust} | {rule} | {} |", sum(|s| &s.amended));
+        }
+    }
+}
+
+/// Reduces a script that differs and prints it.
+fn show(section: &str, script: &str, room: Room) {
+    let reduced = reduce::text(script, |text| reading::compare(text, room).is_err());
+    println!("DIFFERS in {section}: {reduced:?}, {room:?}");
+    println!("  from {script:?}");
+    println!(
+        "  {}",
+        reading::compare(&reduced, room).err().unwrap_or_default()
+    );
+}
