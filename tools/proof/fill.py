@@ -125,6 +125,7 @@ def main():
         return {}
 
     text = re.sub(r' =\n    \?\n', ' = ?\n', open(skeleton).read())
+    text = re.sub(r'\.\{\n((?:  .*,\n)+)\}\n', lambda m: '.{' + ', '.join(x.strip(' ,') for x in m.group(1).splitlines()) + '}\n', text)
     blocks, done, used = text.rstrip('\n').split('\n\n'), [], set()
     head = [l for l in blocks[0].split('\n') if not re.match(r'use .* as \S+-reads$', l) or l.split()[-1] in text.split('\n\n', 1)[1]]
     done.append('\n'.join(joined(head + uses)))

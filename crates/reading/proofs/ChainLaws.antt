@@ -2,7 +2,7 @@
 use mathlib.Core.Path.{_≡_, refl, sym, ap, _∙_}
 use mathlib.Core.Bool.{Bool, true, false, _||_, true≢false}
 use mathlib.Core.List.{List, [], _∷_}
-use Prim.Native.Nat.{ℕ, suc, _+_, _-_, _*_, _≤_, _<_}
+use Prim.Native.Nat.{ℕ, zero, suc, _+_, _-_, _*_, _≤_, _<_}
 use native.Mathlib.Omega.{arith}
 use lib.Dec.{eqb}
 use borrow.Author.Tests.{ne-eqb}
@@ -15,6 +15,8 @@ use Rattle.reading.specs.Readers.{Out, ok, refused, Reader, _>>=_, Turn,
 use Rattle.reading.specs.Grammar.{Words, binary, groupTurn, grouped, power, product, comparison, primary}
 use Rattle.reading.specs.Rows.{rows, putRow, putRows}
 use Rattle.reading.specs.Meets.{toksAt, tokenAt, Holds, Room, Ready, Follows, stringAt, Quoted, Reads}
+use Rattle.reading.specs.Joins.{Joins}
+use Rattle.reading.specs.declared.records.Joined.{Joined}
 use Rattle.reading.specs.Turns.{jointSign, sumSign, productSign, powerSign}
 use Rattle.reading.proofs.Laws.{loop-eq}
 use Rattle.reading.proofs.GrammarLaws.{Moves, groupTurn-law, grouped-law, comparison-law, primary-law}
@@ -53,7 +55,7 @@ pub record Chain (test : Token → Bool) (p : Reader Tree) (t : List ℕ) (R : O
 
 module _ {test : Token → Bool} {op : ℕ → Bool} {p : Reader Tree} (L : Level test op p) (t : List ℕ) where
   -- where the loop begins
-  pub chain-enter : (c : Cursor) (n : ℕ) (o : List ℕ) (d : Cursor) (m q : ℕ) (o′ : List ℕ) → Room t c n → Reads t (p (toksAt t (c .start))) n o d m q o′
+  chain-enter : (c : Cursor) (n : ℕ) (o : List ℕ) (d : Cursor) (m q : ℕ) (o′ : List ℕ) → Room t c n → Reads t (p (toksAt t (c .start))) n o d m q o′
       → Chain test p t (grouped test p (toksAt t (c .start))) n o d m q o′
   unfolding grouped _>>=_
   chain-enter c n o d m q o′ room r =
@@ -95,14 +97,14 @@ module _ {test : Token → Bool} {op : ℕ → Bool} {p : Reader Tree} (L : Leve
       some : c .code ≡ 0 → ⊥
       some e = true≢false (sym z ∙ (ap op e ∙ L .not-end))
 
-      pub sign-ready : Ready t d m
+      sign-ready : Ready t d m
       sign-ready = (w .holds, omega (arith, ch .room, w .fewer some))
 
       turn-is : groupTurn test p (ch .tree) (toksAt t (c .start)) ≡ (p >>= λ r. give (again (binary (c .code) (ch .tree) r))) (toksAt t (d .start))
       unfolding groupTurn
       turn-is = rw (ask-yes (ch .holds) test _ _ (L .by (tokenAt t c) ∙ z)) (read-then w some _)
 
-      pub sign-refused : (k b : ℕ) → p (toksAt t (d .start)) ≡ refused k b → R ≡ refused k b
+      sign-refused : (k b : ℕ) → p (toksAt t (d .start)) ≡ refused k b → R ≡ refused k b
       unfolding _>>=_
       sign-refused k b e = turn ∙ (rw (turn-is, e))
 
@@ -111,10 +113,10 @@ module _ {test : Token → Bool} {op : ℕ → Bool} {p : Reader Tree} (L : Leve
         within = reads-within t p (L .short) d m o′ c₂ m₂ q₂ o₂ r (sign-ready .1)
 
         -- the numbers that the code computes
-        pub sign-numbers : (n ≤ m) × (m ≤ m₂) × (m₂ < 50000) × (1 ≤ m₂ - n)
+        sign-numbers : (n ≤ m) × (m ≤ m₂) × (m₂ < 50000) × (1 ≤ m₂ - n)
         sign-numbers = omega (arith, within, w .fewer some, ch .room, ch .counts, r .counts, size-some (ch .tree))
 
-        pub sign-more : (o₃ : List ℕ) → o₃ ≡ putRow o₂ m₂ (row (c .code) (m₂ - n + 1) 2 unused) → Chain test p t R n o c₂ (m₂ + 1) 0 o₃
+        sign-more : (o₃ : List ℕ) → o₃ ≡ putRow o₂ m₂ (row (c .code) (m₂ - n + 1) 2 unused) → Chain test p t R n o c₂ (m₂ + 1) 0 o₃
         unfolding _>>=_ give
         sign-more o₃ e =
             let five : c .code ≡ 5 → ⊥ = λ f. true≢false (sym z ∙ (ap op f ∙ L .not-string)) in
@@ -131,11 +133,88 @@ module _ {test : Token → Bool} {op : ℕ → Bool} {p : Reader Tree} (L : Leve
               quoted = b .1;
             }
 
-        pub sign-less : length (toksAt t (c₂ .start)) < length (toksAt t (c .start))
-        sign-less = omega (arith, moved, w .fewer some)
-          where
-            moved : length (toksAt t (c₂ .start)) < length (toksAt t (d .start))
-            moved = moves-less (L .moves) (toksAt t (d .start)) (r .tree) (toksAt t (c₂ .start)) (r .is)
+-- ---- an operand that is to be read
+
+pub by-sign : {A : Type 0} (k : ℕ) → (k ≡ 0 → A) → ((k ≡ 0 → ⊥) → A) → A
+by-sign zero f g = f refl
+by-sign (suc k) f g = g (λ e. absurd (omega arith))
+
+-- the first one
+pub record Fresh (test : Token → Bool) (p : Reader Tree) (t : List ℕ) (R : Out Tree) (n : ℕ) (o : List ℕ) (c : Cursor) (m : ℕ) (o′ : List ℕ) : Type 0 where
+  pub is : R ≡ grouped test p (toksAt t (c .start))
+  pub m-is : m ≡ n
+  pub o-is : o′ ≡ o
+  pub ready : Ready t c m
+
+-- one behind a sign
+pub record Behind (test : Token → Bool) (op : ℕ → Bool) (p : Reader Tree) (t : List ℕ) (R : Out Tree) (n : ℕ) (o : List ℕ) (k : ℕ) (c : Cursor) (m : ℕ) (o′ : List ℕ) : Type 0 where
+  pub sign : Cursor
+  pub q : ℕ
+  pub chain : Chain test p t R n o sign m q o′
+  pub sign-is : sign .code ≡ k
+  pub yes : op (sign .code) ≡ true
+  pub follows : Follows t sign c
+
+abbrev pub Pending : (Token → Bool) → (ℕ → Bool) → Reader Tree → List ℕ → Out Tree → ℕ → List ℕ → ℕ → Cursor → ℕ → List ℕ → Type 0
+Pending test op p t R n o k c m o′ = (k ≡ 0 → Fresh test p t R n o c m o′) × ((k ≡ 0 → ⊥) → Behind test op p t R n o k c m o′)
+
+module _ {test : Token → Bool} {op : ℕ → Bool} {p : Reader Tree} (L : Level test op p) (t : List ℕ) where
+  pub pend-first : (c : Cursor) (n : ℕ) (o : List ℕ) → Ready t c n → Pending test op p t (grouped test p (toksAt t (c .start))) n o 0 c n o
+  pend-first c n o h = (λ z. record { is = refl; m-is = refl; o-is = refl; ready = h }, λ z. absurd (z refl))
+
+  pub pend-next : (R : Out Tree) (n : ℕ) (o : List ℕ) (c : Cursor) (m q : ℕ) (o′ : List ℕ) → Chain test p t R n o c m q o′ → op (c .code) ≡ true → (d : Cursor) → Follows t c d
+      → Pending test op p t R n o (c .code) d m o′
+  pend-next R n o c m q o′ ch y d f =
+      (λ z. absurd (true≢false (sym y ∙ (ap op z ∙ L .not-end))), λ z. record { sign = c; q = q; chain = ch; sign-is = refl; yes = y; follows = f })
+
+  module _ (R : Out Tree) (n : ℕ) (o : List ℕ) (k : ℕ) (c : Cursor) (m : ℕ) (o′ : List ℕ) (w : Pending test op p t R n o k c m o′) where
+    pub pend-ready : Ready t c m
+    pend-ready =
+        by-sign k (λ z. w .0 z .ready) (λ z. sign-ready L t R n o (w .1 z .sign) m (w .1 z .q) o′ (w .1 z .chain) (w .1 z .yes) c (w .1 z .follows))
+
+    pub pend-refused : (f b : ℕ) → p (toksAt t (c .start)) ≡ refused f b → R ≡ refused f b
+    pend-refused f b e =
+        by-sign k (λ z. w .0 z .is ∙ chain-refused L t c f b e)
+        (λ z. sign-refused L t R n o (w .1 z .sign) m (w .1 z .q) o′ (w .1 z .chain) (w .1 z .yes) c (w .1 z .follows) f b e)
+
+    module _ (c₂ : Cursor) (m₂ q₂ : ℕ) (o₂ : List ℕ) (r : Reads t (p (toksAt t (c .start))) m o′ c₂ m₂ q₂ o₂) where
+      pend-within : m₂ + 3 * length (toksAt t (c₂ .start)) ≤ m + 3 * length (toksAt t (c .start))
+      pend-within = reads-within t p (L .short) c m o′ c₂ m₂ q₂ o₂ r (pend-ready .1)
+
+      pub pend-numbers : (n ≤ m₂) × (m₂ ≤ 50000)
+      pend-numbers =
+          by-sign k (λ z. omega (arith, w .0 z .m-is, r .counts, pend-within, pend-ready .1, fewest))
+          (λ z. omega (arith, sign-numbers L t R n o (w .1 z .sign) m (w .1 z .q) o′ (w .1 z .chain) (w .1 z .yes) c (w .1 z .follows) c₂ m₂ q₂ o₂ r))
+        where
+          fewest : length (toksAt t (c₂ .start)) < length (toksAt t (c .start))
+          fewest = moves-less (L .moves) (toksAt t (c .start)) (r .tree) (toksAt t (c₂ .start)) (r .is)
+
+      pub pend-chain : (j : Joined) (o₃ : List ℕ) → Joins o₂ k n m₂ q₂ j o₃ → Chain test p t R n o c₂ (j .records) (j .string) o₃
+      pend-chain j o₃ J = by-sign k first more
+        where
+          first : k ≡ 0 → Chain test p t R n o c₂ (j .records) (j .string) o₃
+          first z =
+              let F = w .0 z in
+              let e = J .0 z in
+              let read : Reads t (p (toksAt t (c .start))) n o c₂ m₂ q₂ o₂ = rw (← F .m-is, ← F .o-is) r in
+              let room : Room t c n = rw (← F .m-is) (F .ready .1) in
+              rw (e .0, e .1, e .2, F .is) (chain-enter L t c n o c₂ m₂ q₂ o₂ room read)
+
+          more : (k ≡ 0 → ⊥) → Chain test p t R n o c₂ (j .records) (j .string) o₃
+          more z =
+              let B = w .1 z in
+              let e = J .1 z in
+              let put : o₃ ≡ putRow o₂ m₂ (row (B .sign .code) (m₂ - n + 1) 2 unused) = e .2 ∙ ap (λ (x : ℕ). putRow o₂ m₂ (row x (m₂ - n + 1) 2 unused)) (sym (B .sign-is)) in
+              rw (e .0, e .1) (sign-more L t R n o (B .sign) m (B .q) o′ (B .chain) (B .yes) c (B .follows) c₂ m₂ q₂ o₂ r o₃ put)
+
+      pub pend-less : op (c₂ .code) ≡ true → (d : Cursor) → Follows t c₂ d → length (toksAt t (d .start)) < length (toksAt t (c .start))
+      pend-less y d f = omega (arith, moved, f .fewer some)
+        where
+          some : c₂ .code ≡ 0 → ⊥
+          some e = true≢false (sym y ∙ (ap op e ∙ L .not-end))
+
+          moved : length (toksAt t (c₂ .start)) < length (toksAt t (c .start))
+          moved = moves-less (L .moves) (toksAt t (c .start)) (r .tree) (toksAt t (c₂ .start)) (r .is)
 
 -- ---- the levels of the grammar
 

@@ -17,7 +17,9 @@ use Rattle.reading.specs.Trees.{Tree, Trees, node, nil, _▹_, fields, n
 use Rattle.reading.specs.Readers.{Out, ok, refused, Reader, bind, _>>=_, _>>_, Turn, again, done, is, give, fail, failAt, ask, peek, read, the}
 use Rattle.reading.specs.Grammar.{Words, binary, deeper, sum, comparison, expression, postfixes, minus, negative, parenthesis, listed, pays, payment, name, primaryOver, primary}
 use Rattle.reading.specs.Rows.{rows, putRow, putRows, nodeRow}
+use Rattle.reading.specs.Joins.{Joins}
 use Rattle.reading.specs.declared.records.Node.{Node}
+use Rattle.reading.specs.declared.records.Joined.{Joined}
 use Rattle.reading.specs.Atoms.{literal, atom}
 use Rattle.reading.specs.Meets.{toksAt, tokenAt, Holds, Room, Ready, Follows, Takes, stringAt, Quoted, Reads, Meets}
 use Rattle.reading.specs.Turns.{inner, parenthesised, listPostfixed, comparator}
@@ -29,7 +31,7 @@ use Rattle.reading.proofs.GrammarLaws.{Moves}
 use Rattle.reading.proofs.SizeLaws.{Sized, primary-size}
 use Rattle.reading.proofs.HoldLaws.{ask-yes, ask-no, peek-is, fail-is, read-then, read-next, the-next}
 use Rattle.reading.proofs.RowLaws.{size-some, size-one, size-two, after-one, after-two}
-use Rattle.reading.proofs.ChainLaws.{reads-within, binary-plain}
+use Rattle.reading.proofs.ChainLaws.{reads-within, binary-plain, by-sign}
 
 -- ---- answers of calls, as the code takes them apart
 
@@ -89,8 +91,31 @@ read-numbers t p h c n o d m q o′ r room = omega (arith, reads-within t p h c 
 
 -- ---- a comparison has at most one comparator
 
+-- what is to be read of it: the first operand,
+pub record First (c : Cursor) (n : ℕ) (o : List ℕ) (e : Cursor) (m : ℕ) (o′ : List ℕ) : Type 0 where
+  pub e-is : e ≡ c
+  pub m-is : m ≡ n
+  pub o-is : o′ ≡ o
+
+-- or the one behind its comparator
+pub record Second (p : Reader Tree) (t : List ℕ) (c : Cursor) (n : ℕ) (o : List ℕ) (k : ℕ) (e : Cursor) (m : ℕ) (o′ : List ℕ) : Type 0 where
+  pub sign : Cursor
+  pub q : ℕ
+  pub left : Reads t (sum p (toksAt t (c .start))) n o sign m q o′
+  pub sign-is : sign .code ≡ k
+  pub yes : comparator (sign .code) ≡ true
+  pub follows : Follows t sign e
+
+abbrev pub Compares : Reader Tree → List ℕ → Cursor → ℕ → List ℕ → ℕ → Cursor → ℕ → List ℕ → Type 0
+Compares p t c n o k e m o′ = (k ≡ 0 → First c n o e m o′) × ((k ≡ 0 → ⊥) → Second p t c n o k e m o′)
+
+-- the second one is the last
+pub compare-less : (k j : ℕ) → k ≡ 0 → comparator j ≡ true → 1 - j < 1 - k
+compare-less k zero z y = absurd (true≢false (sym y))
+compare-less k (suc j) z y = omega arith
+
 module _ (p : Reader Tree) (short : Sized (sum p)) (t : List ℕ) (c : Cursor) (n : ℕ) (o : List ℕ) (room : Room t c n) where
-  pub comparison-refused : (k b : ℕ) → sum p (toksAt t (c .start)) ≡ refused k b → comparison p (toksAt t (c .start)) ≡ refused k b
+  comparison-refused : (k b : ℕ) → sum p (toksAt t (c .start)) ≡ refused k b → comparison p (toksAt t (c .start)) ≡ refused k b
   unfolding comparison
   comparison-refused k b e = bind-refused (sum p) _ (toksAt t (c .start)) k b e
 
@@ -101,7 +126,7 @@ module _ (p : Reader Tree) (short : Sized (sum p)) (t : List ℕ) (c : Cursor) (
     behind = rw (r .is)
 
     -- none
-    pub comparison-none : comparator (d .code) ≡ false → Reads t (comparison p (toksAt t (c .start))) n o d m q o′
+    comparison-none : comparator (d .code) ≡ false → Reads t (comparison p (toksAt t (c .start))) n o d m q o′
     unfolding give
     comparison-none z =
         record {
@@ -119,21 +144,21 @@ module _ (p : Reader Tree) (short : Sized (sum p)) (t : List ℕ) (c : Cursor) (
       some-sign : d .code ≡ 0 → ⊥
       some-sign f = true≢false (sym z ∙ (ap comparator f))
 
-      pub comparison-ready : Ready t e m
+      comparison-ready : Ready t e m
       comparison-ready = (w .holds, omega (arith, reads-within t (sum p) short c n o d m q o′ r room, room, w .fewer some-sign))
 
       second : comparison p (toksAt t (c .start)) ≡ (sum p >>= λ x. give (binary (d .code) (r .tree) x)) (toksAt t (e .start))
       second = behind ∙ ask-yes (r .holds) (λ u. within 13 18 (u .kind)) _ _ z ∙ read-then w some-sign _
 
-      pub comparison-second : (k b : ℕ) → sum p (toksAt t (e .start)) ≡ refused k b → comparison p (toksAt t (c .start)) ≡ refused k b
+      comparison-second : (k b : ℕ) → sum p (toksAt t (e .start)) ≡ refused k b → comparison p (toksAt t (c .start)) ≡ refused k b
       comparison-second k b f = second ∙ bind-refused (sum p) _ (toksAt t (e .start)) k b f
 
       module _ (f : Cursor) (m₂ q₂ : ℕ) (o₂ : List ℕ) (r₂ : Reads t (sum p (toksAt t (e .start))) m o′ f m₂ q₂ o₂) where
-        pub comparison-numbers : (n ≤ m₂) × (m₂ < 50000)
+        comparison-numbers : (n ≤ m₂) × (m₂ < 50000)
         comparison-numbers =
             omega (arith, reads-within t (sum p) short c n o d m q o′ r room, reads-within t (sum p) short e m o′ f m₂ q₂ o₂ r₂ (comparison-ready .1), room, w .fewer some-sign, r .counts, r₂ .counts)
 
-        pub comparison-one : (o₃ : List ℕ) → o₃ ≡ putRow o₂ m₂ (row (d .code) (m₂ - n + 1) 2 unused) → Reads t (comparison p (toksAt t (c .start))) n o f (m₂ + 1) 0 o₃
+        comparison-one : (o₃ : List ℕ) → o₃ ≡ putRow o₂ m₂ (row (d .code) (m₂ - n + 1) 2 unused) → Reads t (comparison p (toksAt t (c .start))) n o f (m₂ + 1) 0 o₃
         unfolding _>>=_ give
         comparison-one o₃ g =
             let five : d .code ≡ 5 → ⊥ = λ h. true≢false (sym z ∙ (ap comparator h)) in
@@ -147,6 +172,50 @@ module _ (p : Reader Tree) (short : Sized (sum p)) (t : List ℕ) (c : Cursor) (
               string = b .0;
               quoted = b .1;
             }
+
+  -- an operand that is to be read
+  pub compare-first : Compares p t c n o 0 c n o
+  compare-first = (λ z. record { e-is = refl; m-is = refl; o-is = refl }, λ z. absurd (z refl))
+
+  module _ (k : ℕ) (e : Cursor) (m : ℕ) (o′ : List ℕ) (w : Compares p t c n o k e m o′) where
+    pub compare-ready : Holds t c → Ready t e m
+    compare-ready h =
+        by-sign k (λ z. rw (w .0 z .e-is, w .0 z .m-is) (h, room))
+        (λ z. comparison-ready (w .1 z .sign) m (w .1 z .q) o′ (w .1 z .left) (w .1 z .yes) e (w .1 z .follows))
+
+    pub compare-refused : (f b : ℕ) → sum p (toksAt t (e .start)) ≡ refused f b → comparison p (toksAt t (c .start)) ≡ refused f b
+    compare-refused f b g =
+        by-sign k (λ z. comparison-refused f b (rw (w .0 z .e-is) at g))
+        (λ z. comparison-second (w .1 z .sign) m (w .1 z .q) o′ (w .1 z .left) (w .1 z .yes) e (w .1 z .follows) f b g)
+
+    module _ (d : Cursor) (m₂ q₂ : ℕ) (o₂ : List ℕ) (r : Reads t (sum p (toksAt t (e .start))) m o′ d m₂ q₂ o₂) where
+      alone : k ≡ 0 → Reads t (sum p (toksAt t (c .start))) n o d m₂ q₂ o₂
+      alone z = let F = w .0 z in rw (F .e-is, F .m-is, F .o-is) at r
+
+      pub compare-numbers : (n ≤ m₂) × (m₂ ≤ 50000)
+      compare-numbers =
+          by-sign k (λ z. omega (arith, alone z .counts, reads-within t (sum p) short c n o d m₂ q₂ o₂ (alone z) room))
+          (λ z. omega (arith, comparison-numbers (w .1 z .sign) m (w .1 z .q) o′ (w .1 z .left) (w .1 z .yes) e (w .1 z .follows) d m₂ q₂ o₂ r))
+
+      module _ (j : Joined) (o₃ : List ℕ) (J : Joins o₂ k n m₂ q₂ j o₃) where
+        -- behind the second operand
+        pub compare-last : (k ≡ 0 → ⊥) → Reads t (comparison p (toksAt t (c .start))) n o d (j .records) (j .string) o₃
+        compare-last z =
+            let B = w .1 z in
+            let f = J .1 z in
+            let put : o₃ ≡ putRow o₂ m₂ (row (B .sign .code) (m₂ - n + 1) 2 unused) = f .2 ∙ ap (λ (x : ℕ). putRow o₂ m₂ (row x (m₂ - n + 1) 2 unused)) (sym (B .sign-is)) in
+            rw (f .0, f .1) (comparison-one (B .sign) m (B .q) o′ (B .left) (B .yes) e (B .follows) d m₂ q₂ o₂ r o₃ put)
+
+        module _ (z : k ≡ 0) where
+          pub compare-alone : Reads t (sum p (toksAt t (c .start))) n o d (j .records) (j .string) o₃
+          compare-alone = let f = J .0 z in rw (f .0, f .1, f .2) (alone z)
+
+          pub compare-none : comparator (d .code) ≡ false → Reads t (comparison p (toksAt t (c .start))) n o d (j .records) (j .string) o₃
+          compare-none = comparison-none d (j .records) (j .string) o₃ compare-alone
+
+          pub compare-next : comparator (d .code) ≡ true → (f : Cursor) → Follows t d f → Compares p t c n o (d .code) f (j .records) o₃
+          compare-next y f g =
+              (λ x. absurd (true≢false (sym y ∙ ap comparator x)), λ x. record { sign = d; q = j .string; left = compare-alone; sign-is = refl; yes = y; follows = g })
 
 -- ---- parentheses
 

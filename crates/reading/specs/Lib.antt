@@ -7,6 +7,7 @@ pub mod Script
 pub mod Words
 pub mod Atoms
 pub mod Rows
+pub mod Joins
 pub mod Meets
 pub mod Calls
 pub mod Turns

@@ -18,6 +18,7 @@ use crate::calling::shown;
 use crate::calling::special;
 use crate::calls::call_of;
 use crate::calls::method_of;
+use crate::records::join;
 use crate::records::plain;
 use crate::records::put;
 use crate::signs::is_comparator;
@@ -62,27 +63,22 @@ pub fn expression(
     requires { ⌜ Ready (now s) c n × Few (now currencies) ⌝ }
     ensures { λ r. ⌜ Meets (now (s .entry)) (expression (primary (wordsIn (now (reserved .entry)) (now (currencies .entry)) (now (counters .entry))) depth) (toksAt (now (s .entry)) (c .start))) n (now (out .entry)) r (now (out .exit)) ⌝ }
 {
-    let r = comparison(s, reserved, currencies, counters, c, depth, out, n);
-    let Read::Done(c1, n1, p1) = r else {
-        return r;
-    };
-    let mut at = c1;
-    let mut m = n1;
-    let mut p = p1;
+    let mut at = c;
+    let mut m = n;
+    let mut sign: u8 = 0;
     loop {
-        let code = at.code;
-        if !is_joint(code) {
-            return Read::Done(at, m, p);
-        }
-        let d = next(s, at);
-        let q = comparison(s, reserved, currencies, counters, d, depth, out, m);
-        let Read::Done(c2, n2, _) = q else {
-            return q;
+        let r = comparison(s, reserved, currencies, counters, at, depth, out, m);
+        let Read::Done(c1, n1, p1) = r else {
+            return r;
         };
-        put(out, n2, plain(code, n2 - n + 1, 2));
-        at = c2;
-        m = n2 + 1;
-        p = 0;
+        let j = join(out, sign, n, n1, p1);
+        let code = c1.code;
+        if !is_joint(code) {
+            return Read::Done(c1, j.records, j.string);
+        }
+        at = next(s, c1);
+        m = j.records;
+        sign = code;
     }
 }
 
@@ -100,21 +96,26 @@ fn comparison(
     requires { ⌜ Ready (now s) c n × Few (now currencies) ⌝ }
     ensures { λ r. ⌜ Meets (now (s .entry)) (comparison (primary (wordsIn (now (reserved .entry)) (now (currencies .entry)) (now (counters .entry))) depth) (toksAt (now (s .entry)) (c .start))) n (now (out .entry)) r (now (out .exit)) ⌝ }
 {
-    let r = sum(s, reserved, currencies, counters, c, depth, out, n);
-    let Read::Done(c1, n1, p1) = r else {
-        return r;
-    };
-    let code = c1.code;
-    if !is_comparator(code) {
-        return Read::Done(c1, n1, p1);
+    let mut at = c;
+    let mut m = n;
+    let mut sign: u8 = 0;
+    loop {
+        let r = sum(s, reserved, currencies, counters, at, depth, out, m);
+        let Read::Done(c1, n1, p1) = r else {
+            return r;
+        };
+        let j = join(out, sign, n, n1, p1);
+        if sign != 0 {
+            return Read::Done(c1, j.records, j.string);
+        }
+        let code = c1.code;
+        if !is_comparator(code) {
+            return Read::Done(c1, j.records, j.string);
+        }
+        at = next(s, c1);
+        m = j.records;
+        sign = code;
     }
-    let d = next(s, c1);
-    let q = sum(s, reserved, currencies, counters, d, depth, out, n1);
-    let Read::Done(c2, n2, _) = q else {
-        return q;
-    };
-    put(out, n2, plain(code, n2 - n + 1, 2));
-    Read::Done(c2, n2 + 1, 0)
 }
 
 // Products joined by `+` and `-`.
@@ -131,27 +132,22 @@ fn sum(
     requires { ⌜ Ready (now s) c n × Few (now currencies) ⌝ }
     ensures { λ r. ⌜ Meets (now (s .entry)) (sum (primary (wordsIn (now (reserved .entry)) (now (currencies .entry)) (now (counters .entry))) depth) (toksAt (now (s .entry)) (c .start))) n (now (out .entry)) r (now (out .exit)) ⌝ }
 {
-    let r = product(s, reserved, currencies, counters, c, depth, out, n);
-    let Read::Done(c1, n1, p1) = r else {
-        return r;
-    };
-    let mut at = c1;
-    let mut m = n1;
-    let mut p = p1;
+    let mut at = c;
+    let mut m = n;
+    let mut sign: u8 = 0;
     loop {
-        let code = at.code;
-        if !is_sum(code) {
-            return Read::Done(at, m, p);
-        }
-        let d = next(s, at);
-        let q = product(s, reserved, currencies, counters, d, depth, out, m);
-        let Read::Done(c2, n2, _) = q else {
-            return q;
+        let r = product(s, reserved, currencies, counters, at, depth, out, m);
+        let Read::Done(c1, n1, p1) = r else {
+            return r;
         };
-        put(out, n2, plain(code, n2 - n + 1, 2));
-        at = c2;
-        m = n2 + 1;
-        p = 0;
+        let j = join(out, sign, n, n1, p1);
+        let code = c1.code;
+        if !is_sum(code) {
+            return Read::Done(c1, j.records, j.string);
+        }
+        at = next(s, c1);
+        m = j.records;
+        sign = code;
     }
 }
 
@@ -169,27 +165,22 @@ fn product(
     requires { ⌜ Ready (now s) c n × Few (now currencies) ⌝ }
     ensures { λ r. ⌜ Meets (now (s .entry)) (product (primary (wordsIn (now (reserved .entry)) (now (currencies .entry)) (now (counters .entry))) depth) (toksAt (now (s .entry)) (c .start))) n (now (out .entry)) r (now (out .exit)) ⌝ }
 {
-    let r = power(s, reserved, currencies, counters, c, depth, out, n);
-    let Read::Done(c1, n1, p1) = r else {
-        return r;
-    };
-    let mut at = c1;
-    let mut m = n1;
-    let mut p = p1;
+    let mut at = c;
+    let mut m = n;
+    let mut sign: u8 = 0;
     loop {
-        let code = at.code;
-        if !is_product(code) {
-            return Read::Done(at, m, p);
-        }
-        let d = next(s, at);
-        let q = power(s, reserved, currencies, counters, d, depth, out, m);
-        let Read::Done(c2, n2, _) = q else {
-            return q;
+        let r = power(s, reserved, currencies, counters, at, depth, out, m);
+        let Read::Done(c1, n1, p1) = r else {
+            return r;
         };
-        put(out, n2, plain(code, n2 - n + 1, 2));
-        at = c2;
-        m = n2 + 1;
-        p = 0;
+        let j = join(out, sign, n, n1, p1);
+        let code = c1.code;
+        if !is_product(code) {
+            return Read::Done(c1, j.records, j.string);
+        }
+        at = next(s, c1);
+        m = j.records;
+        sign = code;
     }
 }
 
@@ -207,27 +198,22 @@ fn power(
     requires { ⌜ Ready (now s) c n × Few (now currencies) ⌝ }
     ensures { λ r. ⌜ Meets (now (s .entry)) (power (primary (wordsIn (now (reserved .entry)) (now (currencies .entry)) (now (counters .entry))) depth) (toksAt (now (s .entry)) (c .start))) n (now (out .entry)) r (now (out .exit)) ⌝ }
 {
-    let r = primary(s, reserved, currencies, counters, c, depth, out, n);
-    let Read::Done(c1, n1, p1) = r else {
-        return r;
-    };
-    let mut at = c1;
-    let mut m = n1;
-    let mut p = p1;
+    let mut at = c;
+    let mut m = n;
+    let mut sign: u8 = 0;
     loop {
-        let code = at.code;
-        if !is_power(code) {
-            return Read::Done(at, m, p);
-        }
-        let d = next(s, at);
-        let q = primary(s, reserved, currencies, counters, d, depth, out, m);
-        let Read::Done(c2, n2, _) = q else {
-            return q;
+        let r = primary(s, reserved, currencies, counters, at, depth, out, m);
+        let Read::Done(c1, n1, p1) = r else {
+            return r;
         };
-        put(out, n2, plain(code, n2 - n + 1, 2));
-        at = c2;
-        m = n2 + 1;
-        p = 0;
+        let j = join(out, sign, n, n1, p1);
+        let code = c1.code;
+        if !is_power(code) {
+            return Read::Done(c1, j.records, j.string);
+        }
+        at = next(s, c1);
+        m = j.records;
+        sign = code;
     }
 }
 

@@ -1,6 +1,8 @@
 // Records in lent memory.
 ghost use mathlib.Core.Path.{_≡_};
+ghost use Prim.Native.Nat.{_≤_};
 ghost use Rattle.reading.specs.Rows.{nodeRow, putRow, entryRow, putEntry};
+ghost use Rattle.reading.specs.Joins.{Joins};
 
 // The words of a record: kind, nodes in subtree, direct parts, f1 to f4.
 pub struct Node {
@@ -48,6 +50,31 @@ pub fn put(out: &mut [u32], n: u32, node: Node)
         out[at + 4] = node.f2;
         out[at + 5] = node.f3;
         out[at + 6] = node.f4;
+    }
+}
+
+// How many records there are behind an operand, and where its string stands.
+pub struct Joined {
+    pub records: u32,
+    pub string: u16,
+}
+
+// Joins an operand to those before it, whose records are those from n, by the record of the sign between them. The first
+// operand has no sign before it, 0, and stays as it is.
+pub fn join(out: &mut [u32], sign: u8, n: u32, m: u32, p: u16) -> Joined
+    requires { ⌜ (n ≤ m) × (m ≤ 50000) ⌝ }
+    ensures { λ r. ⌜ Joins (now (out .entry)) sign n m p r (now (out .exit)) ⌝ }
+{
+    if sign == 0 {
+        return Joined {
+            records: m,
+            string: p,
+        };
+    }
+    put(out, m, plain(sign, m - n + 1, 2));
+    Joined {
+        records: m + 1,
+        string: 0,
     }
 }
 

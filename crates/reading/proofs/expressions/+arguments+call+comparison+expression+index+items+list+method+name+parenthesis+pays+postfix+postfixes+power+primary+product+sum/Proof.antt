@@ -1,4 +1,4 @@
-use Prim.Native.Nat.{ℕ, _<_}
+use Prim.Native.Nat.{ℕ, _<_, _+_, _*_, _-_}
 use borrow.Fn.Kinds.{In}
 use borrow.Fn.PlainCycle.{Measures, is, falls, and}
 use Rattle.reading.proofs.expressions.arguments.Reads as arguments
@@ -66,6 +66,7 @@ use Rattle.reading.proofs.calling.shown.Reads as shown-reads
 use Rattle.reading.proofs.calling.special.Reads as special-reads
 use Rattle.reading.proofs.calls.call_of.Reads as call-of-reads
 use Rattle.reading.proofs.calls.method_of.Reads as method-of-reads
+use Rattle.reading.proofs.records.join.Reads as join-reads
 use Rattle.reading.proofs.records.plain.Reads as plain-reads
 use Rattle.reading.proofs.records.put.Reads as put-reads
 use Rattle.reading.proofs.signs.is_comparator.Reads as is-comparator-reads
@@ -75,15 +76,10 @@ use Rattle.reading.proofs.signs.is_power.Reads as is-power-reads
 use Rattle.reading.proofs.signs.is_product.Reads as is-product-reads
 use Rattle.reading.proofs.signs.is_sum.Reads as is-sum-reads
 use Rattle.reading.proofs.signs.stops_pays.Reads as stops-pays-reads
-use Rattle.reading.proofs.expressions.+arguments+call+comparison+expression+index+items+list+method+name+parenthesis+pays+postfix+postfixes+power+primary+product+sum.{
-  statement,
-}
-use Rattle.reading.proofs.expressions.+arguments+call+comparison+expression+index+items+list+method+name+parenthesis+pays+postfix+postfixes+power+primary+product+sum.Tie.{
-  close,
-}
+use Rattle.reading.proofs.expressions.+arguments+call+comparison+expression+index+items+list+method+name+parenthesis+pays+postfix+postfixes+power+primary+product+sum.{statement}
+use Rattle.reading.proofs.expressions.+arguments+call+comparison+expression+index+items+list+method+name+parenthesis+pays+postfix+postfixes+power+primary+product+sum.Tie.{close}
 use borrow.Author.Needs.{needs}
 use native.Mathlib.Omega.{arith}
-use Prim.Native.Nat.{_+_, _*_, _-_}
 use lib.ListN.{length}
 use Rattle.reading.specs.Meets.{toksAt, wordsIn, tokenAt, Ready}
 use borrow.Author.Tests.{not-true, not-false}
@@ -93,11 +89,11 @@ use mathlib.Core.Path.{_≡_, refl, sym, ap, _∙_}
 use Rattle.reading.specs.Trees.{Tree}
 use Rattle.reading.specs.Readers.{Out, is as isSign}
 use Rattle.reading.specs.Grammar as G
-use Rattle.reading.proofs.StepLaws.{done-reads, refused-on, meets-as, follow-ready, takes-as, put-plain, bind-refused, reads-as, read-numbers, comparison-refused, comparison-none, comparison-ready, comparison-second, comparison-numbers, comparison-one, parenthesis-deep, parenthesis-refused, parenthesis-open, parenthesis-closed, prim-paren, prim-plus-0, prim-plus, prim-list, prim-pays, prim-atom, prim-name, prim-minus-number, prim-minus-0, prim-minus, negate-reads}
-use Rattle.reading.proofs.ChainLaws.{Chain, power-level, product-level, sum-level, joint-level, chain-enter, chain-refused, chain-exit, sign-ready, sign-refused, sign-numbers, sign-more, sign-less}
+use Rattle.reading.proofs.StepLaws.{done-reads, refused-on, meets-as, follow-ready, takes-as, put-plain, bind-refused, reads-as, read-numbers, Compares, compare-less, compare-first, compare-ready, compare-refused, compare-numbers, compare-last, compare-alone, compare-none, compare-next, parenthesis-deep, parenthesis-refused, parenthesis-open, parenthesis-closed, prim-paren, prim-plus-0, prim-plus, prim-list, prim-pays, prim-atom, prim-name, prim-minus-number, prim-minus-0, prim-minus, negate-reads}
+use Rattle.reading.proofs.ChainLaws.{power-level, product-level, sum-level, joint-level, chain-exit, Pending, pend-first, pend-next, pend-ready, pend-refused, pend-numbers, pend-chain, pend-less}
 use Rattle.reading.proofs.SizeLaws.{primary-size, sum-size, expression-size}
 use mathlib.Core.Logic.{inl, inr}
-use Rattle.reading.specs.Turns.{itemsBy, inner}
+use Rattle.reading.specs.Turns.{itemsBy, jointSign, sumSign, productSign, powerSign, inner}
 use Rattle.reading.proofs.GrammarLaws.{primary-law}
 use Rattle.reading.proofs.ItemLaws.{ItemChain, items-start, items-exit, items-ready, items-refused, items-numbers, items-wrong, items-less, items-next, done-items, items-refused-on, refusal-on, closed-code, parts-refusal, follows-as, shown-inside, arguments-no, arguments-0, arguments-ready, arguments-refused, arguments-done, arguments-within, call-refused, call-faulty, call-done, item-put, list-0, list-ready, list-refused, list-numbers, list-after, list-done, list-tops, PayChain, pay-start, pay-ready, pay-refused, pay-numbers, pay-less, pay-next, pays-0, pays-ready, pays-refused, pays-done}
 use Rattle.reading.specs.Grammar.{primary as primaryG, methodOf, indexOf, postfixTurn}
@@ -265,7 +261,7 @@ sum-at t = and 5 sum-kinds.ps (is 5 sum-kinds.ps μ-sum t) sum.Pre
 abbrev sum-below : ℕ → In 5 sum-kinds.ps
 sum-below t = and 5 sum-kinds.ps (falls 5 sum-kinds.ps _<_ μ-sum t) sum.Pre
 
--- src/expressions.rt:453:9
+-- src/expressions.rt:439:9
 arguments-returns : (t : ℕ) → arguments-lts.Need-returns (
   next-reads.Asked,
   next-reads.Learnt,
@@ -274,7 +270,7 @@ arguments-returns : (t : ℕ) → arguments-lts.Need-returns (
 ) (arguments-at t) arguments.Post
 arguments-returns t c = arguments-no (wordsIn (c .before .before .before .before .before .before .before .args .reserved .now) (c .before .before .before .before .before .before .before .args .currencies .now) (c .before .before .before .before .before .before .before .args .counters .now)) (c .before .before .before .before .before .before .before .args .depth) (c .before .before .before .before .before .before .before .args .s .now) (c .before .before .before .before .before .before .before .args .c) (c .before .before .before .before .before .before .before .pre .1 .0 .0) (c .if1 .taken)
 
--- src/expressions.rt:456:9
+-- src/expressions.rt:442:9
 arguments-returns-2 : (t : ℕ) → arguments-lts.Need-returns-2 (
   next-reads.Asked,
   next-reads.Learnt,
@@ -283,7 +279,7 @@ arguments-returns-2 : (t : ℕ) → arguments-lts.Need-returns-2 (
 ) (arguments-at t) arguments.Post
 arguments-returns-2 t c = arguments-0 (wordsIn (c .before .before .before .before .before .before .before .before .args .reserved .now) (c .before .before .before .before .before .before .before .before .args .currencies .now) (c .before .before .before .before .before .before .before .before .args .counters .now)) (c .before .before .before .before .before .before .before .before .args .depth) (c .before .before .before .before .before .before .before .before .args .s .now) (c .before .before .before .before .before .before .before .before .args .c) (c .before .before .before .before .before .before .before .before .pre .1 .0 .0) (c .before .if1 .left) (c .if2 .taken)
 
--- src/expressions.rt:458:9
+-- src/expressions.rt:444:9
 arguments-next-requires : (t : ℕ) → arguments-lts.Need-next-requires (
   next-reads.Asked,
   next-reads.Learnt,
@@ -292,7 +288,7 @@ arguments-next-requires : (t : ℕ) → arguments-lts.Need-next-requires (
 ) (arguments-at t) arguments.Post
 arguments-next-requires t c κs = c .before .before .before .before .before .before .before .before .pre .1 .0 .0
 
--- src/expressions.rt:466:9
+-- src/expressions.rt:452:9
 arguments-sub-items : (t : ℕ) → arguments-lts.Need-sub-items (
   next-reads.Asked,
   next-reads.Learnt,
@@ -301,7 +297,7 @@ arguments-sub-items : (t : ℕ) → arguments-lts.Need-sub-items (
 ) (arguments-at t) arguments.Post
 arguments-sub-items t c = omega (arith, c .before .if2 .left)
 
--- src/expressions.rt:459:9
+-- src/expressions.rt:445:9
 arguments-items-requires : (t : ℕ) → arguments-lts.Need-items-requires (
   next-reads.Asked,
   next-reads.Learnt,
@@ -310,7 +306,7 @@ arguments-items-requires : (t : ℕ) → arguments-lts.Need-items-requires (
 ) (arguments-at t) arguments.Post
 arguments-items-requires t c κs = (omega (arith, c .before .before .before .before .before .before .before .before .before .before .pre .0, c .before .before .if2 .left), (arguments-ready (wordsIn (c .before .before .before .before .before .before .before .before .before .before .args .reserved .now) (c .before .before .before .before .before .before .before .before .before .before .args .currencies .now) (c .before .before .before .before .before .before .before .before .before .before .args .counters .now)) (c .before .before .before .before .before .before .before .before .before .before .args .depth) (c .before .before .before .before .before .before .before .before .before .before .args .s .now) (c .before .before .before .before .before .before .before .before .before .before .args .c) (c .before .before .before .before .before .before .before .before .before .before .pre .1 .0 .0) (c .before .before .before .if1 .left) (c .before .before .if2 .left) (c .before .next .result) (c .before .next .ensures) _ (c .before .before .before .before .before .before .before .before .before .before .pre .1 .0 .1), c .before .before .before .before .before .before .before .before .before .before .pre .1 .1, inl refl))
 
--- src/expressions.rt:470:21
+-- src/expressions.rt:456:21
 arguments-enum-known-r : (t : ℕ) → arguments-lts.Need-enum-known-r (
   next-reads.Asked,
   next-reads.Learnt,
@@ -319,7 +315,7 @@ arguments-enum-known-r : (t : ℕ) → arguments-lts.Need-enum-known-r (
 ) (arguments-at t) arguments.Post
 arguments-enum-known-r t c = search needs
 
--- src/expressions.rt:471:9
+-- src/expressions.rt:457:9
 arguments-enum-told : (t : ℕ) → arguments-lts.Need-enum-told (
   next-reads.Asked,
   next-reads.Learnt,
@@ -328,7 +324,7 @@ arguments-enum-told : (t : ℕ) → arguments-lts.Need-enum-told (
 ) (arguments-at t) arguments.Post
 arguments-enum-told t c = search needs
 
--- src/expressions.rt:471:9
+-- src/expressions.rt:457:9
 arguments-same-length : (t : ℕ) → arguments-lts.Need-same-length (
   next-reads.Asked,
   next-reads.Learnt,
@@ -337,7 +333,7 @@ arguments-same-length : (t : ℕ) → arguments-lts.Need-same-length (
 ) (arguments-at t) arguments.Post
 arguments-same-length t c = c .before .before .before .before .items .kept .1 .1 .1 .1 .1 .1 .1 .0
 
--- src/expressions.rt:471:9
+-- src/expressions.rt:457:9
 arguments-returns-3 : (t : ℕ) → arguments-lts.Need-returns-3 (
   next-reads.Asked,
   next-reads.Learnt,
@@ -346,7 +342,7 @@ arguments-returns-3 : (t : ℕ) → arguments-lts.Need-returns-3 (
 ) (arguments-at t) arguments.Post
 arguments-returns-3 t c = items-refused-on _ _ _ _ _ _ _ _ _ _ _ _ (c .enum-told .given .1) (c .before .before .before .before .items .ensures .0) (arguments-refused (wordsIn (c .before .before .before .before .before .before .before .before .before .before .before .before .before .before .before .args .reserved .now) (c .before .before .before .before .before .before .before .before .before .before .before .before .before .before .before .args .currencies .now) (c .before .before .before .before .before .before .before .before .before .before .before .before .before .before .before .args .counters .now)) (c .before .before .before .before .before .before .before .before .before .before .before .before .before .before .before .args .depth) (c .before .before .before .before .before .before .before .before .before .before .before .before .before .before .before .args .s .now) (c .before .before .before .before .before .before .before .before .before .before .before .before .before .before .before .args .c) (c .before .before .before .before .before .before .before .before .before .before .before .before .before .before .before .pre .1 .0 .0) (c .before .before .before .before .before .before .before .before .if1 .left) (c .before .before .before .before .before .before .before .if2 .left) (c .before .before .before .before .before .before .next .result) (c .before .before .before .before .before .before .next .ensures) _ _)
 
--- src/expressions.rt:473:17
+-- src/expressions.rt:459:17
 arguments-next-requires-2 : (t : ℕ) → arguments-lts.Need-next-requires-2 (
   next-reads.Asked,
   next-reads.Learnt,
@@ -355,7 +351,7 @@ arguments-next-requires-2 : (t : ℕ) → arguments-lts.Need-next-requires-2 (
 ) (arguments-at t) arguments.Post
 arguments-next-requires-2 t c κs = done-items _ _ _ _ _ _ _ _ _ _ (c .before .r .given .1) (c .before .before .before .before .before .items .ensures .0) .holds
 
--- src/expressions.rt:439:1
+-- src/expressions.rt:425:1
 arguments-same-length-2 : (t : ℕ) → arguments-lts.Need-same-length-2 (
   next-reads.Asked,
   next-reads.Learnt,
@@ -364,7 +360,7 @@ arguments-same-length-2 : (t : ℕ) → arguments-lts.Need-same-length-2 (
 ) (arguments-at t) arguments.Post
 arguments-same-length-2 t c = c .before .before .before .before .before .before .items .kept .1 .1 .1 .1 .1 .1 .1 .0
 
--- src/expressions.rt:439:1
+-- src/expressions.rt:425:1
 arguments-returns-4 : (t : ℕ) → arguments-lts.Need-returns-4 (
   next-reads.Asked,
   next-reads.Learnt,
@@ -373,7 +369,7 @@ arguments-returns-4 : (t : ℕ) → arguments-lts.Need-returns-4 (
 ) (arguments-at t) arguments.Post
 arguments-returns-4 t c = arguments-done (wordsIn (c .before .before .before .before .before .before .before .before .before .before .before .before .before .before .before .before .before .args .reserved .now) (c .before .before .before .before .before .before .before .before .before .before .before .before .before .before .before .before .before .args .currencies .now) (c .before .before .before .before .before .before .before .before .before .before .before .before .before .before .before .before .before .args .counters .now)) (c .before .before .before .before .before .before .before .before .before .before .before .before .before .before .before .before .before .args .depth) (c .before .before .before .before .before .before .before .before .before .before .before .before .before .before .before .before .before .args .s .now) (c .before .before .before .before .before .before .before .before .before .before .before .before .before .before .before .before .before .args .c) (c .before .before .before .before .before .before .before .before .before .before .before .before .before .before .before .before .before .pre .1 .0 .0) (c .before .before .before .before .before .before .before .before .before .before .if1 .left) (c .before .before .before .before .before .before .before .before .before .if2 .left) (c .before .before .before .before .before .before .before .before .next .result) (c .before .before .before .before .before .before .before .before .next .ensures) _ _ _ _ _ _ _ (done-items _ _ _ _ _ _ _ _ _ _ (c .before .before .r .given .1) (c .before .before .before .before .before .before .items .ensures .0)) (closed-code _ _ _ _ _ _ (c .before .before .r .given .1) (c .before .before .before .before .before .before .items .ensures .1)) (c .next2 .result) (c .next2 .ensures)
 
--- src/expressions.rt:426:9
+-- src/expressions.rt:412:9
 call-arguments-requires : (t : ℕ) → call-lts.Need-arguments-requires (
   arguments-below t,
   arguments.Post,
@@ -388,7 +384,7 @@ call-arguments-requires : (t : ℕ) → call-lts.Need-arguments-requires (
 ) (call-at t) call.Post
 call-arguments-requires t c κs = (omega (arith, c .before .before .before .before .before .before .pre .0), (c .before .before .before .before .before .before .pre .1 .0, c .before .before .before .before .before .before .pre .1 .3))
 
--- src/expressions.rt:427:21
+-- src/expressions.rt:413:21
 call-enum-known-r : (t : ℕ) → call-lts.Need-enum-known-r (
   arguments-below t,
   arguments.Post,
@@ -403,7 +399,7 @@ call-enum-known-r : (t : ℕ) → call-lts.Need-enum-known-r (
 ) (call-at t) call.Post
 call-enum-known-r t c = search needs
 
--- src/expressions.rt:428:9
+-- src/expressions.rt:414:9
 call-enum-told : (t : ℕ) → call-lts.Need-enum-told (
   arguments-below t,
   arguments.Post,
@@ -418,7 +414,7 @@ call-enum-told : (t : ℕ) → call-lts.Need-enum-told (
 ) (call-at t) call.Post
 call-enum-told t c = search needs
 
--- src/expressions.rt:428:9
+-- src/expressions.rt:414:9
 call-refusal-requires : (t : ℕ) → call-lts.Need-refusal-requires (
   arguments-below t,
   arguments.Post,
@@ -433,7 +429,7 @@ call-refusal-requires : (t : ℕ) → call-lts.Need-refusal-requires (
 ) (call-at t) call.Post
 call-refusal-requires t c κs = search needs
 
--- src/expressions.rt:428:9
+-- src/expressions.rt:414:9
 call-same-length : (t : ℕ) → call-lts.Need-same-length (
   arguments-below t,
   arguments.Post,
@@ -448,7 +444,7 @@ call-same-length : (t : ℕ) → call-lts.Need-same-length (
 ) (call-at t) call.Post
 call-same-length t c = c .before .before .before .before .before .arguments .kept .1 .1 .1 .1 .1 .1 .0
 
--- src/expressions.rt:428:9
+-- src/expressions.rt:414:9
 call-returns : (t : ℕ) → call-lts.Need-returns (
   arguments-below t,
   arguments.Post,
@@ -463,7 +459,7 @@ call-returns : (t : ℕ) → call-lts.Need-returns (
 ) (call-at t) call.Post
 call-returns t c = refusal-on _ _ _ _ _ _ (c .refusal .result) _ _ _ _ _ _ (c .before .enum-told .given .1) (c .before .before .before .before .before .arguments .ensures) (c .refusal .ensures) (call-refused (wordsIn (c .before .before .before .before .before .before .before .before .before .before .before .before .args .reserved .now) (c .before .before .before .before .before .before .before .before .before .before .before .before .args .currencies .now) (c .before .before .before .before .before .before .before .before .before .before .before .before .args .counters .now)) (c .before .before .before .before .before .before .before .before .before .before .before .before .args .depth) (tokenAt (c .before .before .before .before .before .before .before .before .before .before .before .before .args .s .now) (c .before .before .before .before .before .before .before .before .before .before .before .before .args .c)) (c .before .before .before .before .before .before .before .before .before .before .before .before .args .kind) (c .before .before .before .before .before .before .before .before .before .before .before .before .pre .1 .4) (c .before .before .before .before .before .before .before .before .before .before .before .before .pre .1 .5) (c .before .before .before .before .before .before .before .before .before .before .before .before .pre .1 .6) (c .before .before .before .before .before .before .before .before .before .before .before .before .args .s .now) (c .before .before .before .before .before .before .before .before .before .before .before .before .args .d) _ _)
 
--- src/expressions.rt:430:9
+-- src/expressions.rt:416:9
 call-call-fault-requires : (t : ℕ) → call-lts.Need-call-fault-requires (
   arguments-below t,
   arguments.Post,
@@ -478,7 +474,7 @@ call-call-fault-requires : (t : ℕ) → call-lts.Need-call-fault-requires (
 ) (call-at t) call.Post
 call-call-fault-requires t c κs = shown-inside _ _ _ (done-items _ _ _ _ _ _ _ _ _ _ (c .before .r .given .1) (c .before .before .before .before .before .arguments .ensures) .shown)
 
--- src/expressions.rt:432:9
+-- src/expressions.rt:418:9
 call-same-length-2 : (t : ℕ) → call-lts.Need-same-length-2 (
   arguments-below t,
   arguments.Post,
@@ -493,7 +489,7 @@ call-same-length-2 : (t : ℕ) → call-lts.Need-same-length-2 (
 ) (call-at t) call.Post
 call-same-length-2 t c = c .before .before .before .before .before .before .before .arguments .kept .1 .1 .1 .1 .1 .1 .0
 
--- src/expressions.rt:432:9
+-- src/expressions.rt:418:9
 call-returns-2 : (t : ℕ) → call-lts.Need-returns-2 (
   arguments-below t,
   arguments.Post,
@@ -508,7 +504,7 @@ call-returns-2 : (t : ℕ) → call-lts.Need-returns-2 (
 ) (call-at t) call.Post
 call-returns-2 t c = call-faulty (wordsIn (c .before .before .before .before .before .before .before .before .before .before .before .before .before .before .args .reserved .now) (c .before .before .before .before .before .before .before .before .before .before .before .before .before .before .args .currencies .now) (c .before .before .before .before .before .before .before .before .before .before .before .before .before .before .args .counters .now)) (c .before .before .before .before .before .before .before .before .before .before .before .before .before .before .args .depth) (tokenAt (c .before .before .before .before .before .before .before .before .before .before .before .before .before .before .args .s .now) (c .before .before .before .before .before .before .before .before .before .before .before .before .before .before .args .c)) (c .before .before .before .before .before .before .before .before .before .before .before .before .before .before .args .kind) (c .before .before .before .before .before .before .before .before .before .before .before .before .before .before .pre .1 .4) (c .before .before .before .before .before .before .before .before .before .before .before .before .before .before .pre .1 .5) (c .before .before .before .before .before .before .before .before .before .before .before .before .before .before .pre .1 .6) (c .before .before .before .before .before .before .before .before .before .before .before .before .before .before .args .s .now) (c .before .before .before .before .before .before .before .before .before .before .before .before .before .before .args .d) _ _ _ _ _ _ _ (done-items _ _ _ _ _ _ _ _ _ _ (c .before .before .before .r .given .1) (c .before .before .before .before .before .before .before .arguments .ensures)) _ (c .before .call-fault .ensures) (c .if1 .taken)
 
--- src/expressions.rt:434:29
+-- src/expressions.rt:420:29
 call-sub-plain : (t : ℕ) → call-lts.Need-sub-plain (
   arguments-below t,
   arguments.Post,
@@ -523,7 +519,7 @@ call-sub-plain : (t : ℕ) → call-lts.Need-sub-plain (
 ) (call-at t) call.Post
 call-sub-plain t c = omega (arith, arguments-within (wordsIn (c .before .before .before .before .before .before .before .before .before .before .before .before .before .before .before .args .reserved .now) (c .before .before .before .before .before .before .before .before .before .before .before .before .before .before .before .args .currencies .now) (c .before .before .before .before .before .before .before .before .before .before .before .before .before .before .before .args .counters .now)) (c .before .before .before .before .before .before .before .before .before .before .before .before .before .before .before .args .depth) (c .before .before .before .before .before .before .before .before .before .before .before .before .before .before .before .args .s .now) (c .before .before .before .before .before .before .before .before .before .before .before .before .before .before .before .args .d) _ _ _ _ _ _ _ (done-items _ _ _ _ _ _ _ _ _ _ (c .before .before .before .before .r .given .1) (c .before .before .before .before .before .before .before .before .arguments .ensures)) (c .before .before .before .before .before .before .before .before .before .before .before .before .before .before .before .pre .1 .0 .1))
 
--- src/expressions.rt:434:29
+-- src/expressions.rt:420:29
 call-add-plain : (t : ℕ) → call-lts.Need-add-plain (
   arguments-below t,
   arguments.Post,
@@ -538,7 +534,7 @@ call-add-plain : (t : ℕ) → call-lts.Need-add-plain (
 ) (call-at t) call.Post
 call-add-plain t c = omega (arith, arguments-within (wordsIn (c .before .before .before .before .before .before .before .before .before .before .before .before .before .before .before .args .reserved .now) (c .before .before .before .before .before .before .before .before .before .before .before .before .before .before .before .args .currencies .now) (c .before .before .before .before .before .before .before .before .before .before .before .before .before .before .before .args .counters .now)) (c .before .before .before .before .before .before .before .before .before .before .before .before .before .before .before .args .depth) (c .before .before .before .before .before .before .before .before .before .before .before .before .before .before .before .args .s .now) (c .before .before .before .before .before .before .before .before .before .before .before .before .before .before .before .args .d) _ _ _ _ _ _ _ (done-items _ _ _ _ _ _ _ _ _ _ (c .before .before .before .before .r .given .1) (c .before .before .before .before .before .before .before .before .arguments .ensures)) (c .before .before .before .before .before .before .before .before .before .before .before .before .before .before .before .pre .1 .0 .1))
 
--- src/expressions.rt:434:17
+-- src/expressions.rt:420:17
 call-plain-requires : (t : ℕ) → call-lts.Need-plain-requires (
   arguments-below t,
   arguments.Post,
@@ -553,7 +549,7 @@ call-plain-requires : (t : ℕ) → call-lts.Need-plain-requires (
 ) (call-at t) call.Post
 call-plain-requires t c κs = search needs
 
--- src/expressions.rt:434:5
+-- src/expressions.rt:420:5
 call-put-requires : (t : ℕ) → call-lts.Need-put-requires (
   arguments-below t,
   arguments.Post,
@@ -568,7 +564,7 @@ call-put-requires : (t : ℕ) → call-lts.Need-put-requires (
 ) (call-at t) call.Post
 call-put-requires t c κs = search needs
 
--- src/expressions.rt:435:19
+-- src/expressions.rt:421:19
 call-add-t24 : (t : ℕ) → call-lts.Need-add-t24 (
   arguments-below t,
   arguments.Post,
@@ -583,7 +579,7 @@ call-add-t24 : (t : ℕ) → call-lts.Need-add-t24 (
 ) (call-at t) call.Post
 call-add-t24 t c = omega (arith, arguments-within (wordsIn (c .before .before .before .before .before .before .before .before .before .before .before .before .before .before .before .before .before .before .before .args .reserved .now) (c .before .before .before .before .before .before .before .before .before .before .before .before .before .before .before .before .before .before .before .args .currencies .now) (c .before .before .before .before .before .before .before .before .before .before .before .before .before .before .before .before .before .before .before .args .counters .now)) (c .before .before .before .before .before .before .before .before .before .before .before .before .before .before .before .before .before .before .before .args .depth) (c .before .before .before .before .before .before .before .before .before .before .before .before .before .before .before .before .before .before .before .args .s .now) (c .before .before .before .before .before .before .before .before .before .before .before .before .before .before .before .before .before .before .before .args .d) _ _ _ _ _ _ _ (done-items _ _ _ _ _ _ _ _ _ _ (c .before .before .before .before .before .before .before .before .r .given .1) (c .before .before .before .before .before .before .before .before .before .before .before .before .arguments .ensures)) (c .before .before .before .before .before .before .before .before .before .before .before .before .before .before .before .before .before .before .before .pre .1 .0 .1))
 
--- src/expressions.rt:411:1
+-- src/expressions.rt:397:1
 call-same-length-3 : (t : ℕ) → call-lts.Need-same-length-3 (
   arguments-below t,
   arguments.Post,
@@ -598,7 +594,7 @@ call-same-length-3 : (t : ℕ) → call-lts.Need-same-length-3 (
 ) (call-at t) call.Post
 call-same-length-3 t c = c .before .before .put .kept .0 ∙ c .before .before .before .before .before .before .before .before .before .before .before .before .arguments .kept .1 .1 .1 .1 .1 .1 .0
 
--- src/expressions.rt:411:1
+-- src/expressions.rt:397:1
 call-returns-3 : (t : ℕ) → call-lts.Need-returns-3 (
   arguments-below t,
   arguments.Post,
@@ -613,675 +609,384 @@ call-returns-3 : (t : ℕ) → call-lts.Need-returns-3 (
 ) (call-at t) call.Post
 call-returns-3 t c = call-done (wordsIn (c .before .before .before .before .before .before .before .before .before .before .before .before .before .before .before .before .before .before .before .args .reserved .now) (c .before .before .before .before .before .before .before .before .before .before .before .before .before .before .before .before .before .before .before .args .currencies .now) (c .before .before .before .before .before .before .before .before .before .before .before .before .before .before .before .before .before .before .before .args .counters .now)) (c .before .before .before .before .before .before .before .before .before .before .before .before .before .before .before .before .before .before .before .args .depth) (tokenAt (c .before .before .before .before .before .before .before .before .before .before .before .before .before .before .before .before .before .before .before .args .s .now) (c .before .before .before .before .before .before .before .before .before .before .before .before .before .before .before .before .before .before .before .args .c)) (c .before .before .before .before .before .before .before .before .before .before .before .before .before .before .before .before .before .before .before .args .kind) (c .before .before .before .before .before .before .before .before .before .before .before .before .before .before .before .before .before .before .before .pre .1 .4) (c .before .before .before .before .before .before .before .before .before .before .before .before .before .before .before .before .before .before .before .pre .1 .5) (c .before .before .before .before .before .before .before .before .before .before .before .before .before .before .before .before .before .before .before .pre .1 .6) (c .before .before .before .before .before .before .before .before .before .before .before .before .before .before .before .before .before .before .before .args .s .now) (c .before .before .before .before .before .before .before .before .before .before .before .before .before .before .before .before .before .before .before .args .d) _ _ _ _ _ _ _ (done-items _ _ _ _ _ _ _ _ _ _ (c .before .before .before .before .before .before .before .before .r .given .1) (c .before .before .before .before .before .before .before .before .before .before .before .before .arguments .ensures)) _ (c .before .before .before .before .before .before .call-fault .ensures) (c .before .before .before .before .before .if1 .left) _ (item-put _ _ _ _ _ _ _ (c .before .before .put .ensures) (c .before .before .before .plain .ensures))
 
--- src/expressions.rt:103:9
+abbrev comparison-Inv-loop : comparison-lts.InvT-loop
+comparison-Inv-loop s reserved currencies counters depth out₀ n at₀ m₀ sign₀ out at m sign = (length out ≡ length out₀) × Compares (G.primary (wordsIn reserved currencies counters) depth) s at₀ n out₀ sign at m out
+
+abbrev comparison-μ-loop : comparison-lts.MeasureT-loop
+comparison-μ-loop s reserved currencies counters depth out₀ n at₀ m₀ sign₀ out at m sign = 1 - sign
+
+-- src/expressions.rt:102:5
+comparison-loop-holds : (t : ℕ) → comparison-lts.Need-loop-holds (
+  sum-below t,
+  sum.Post,
+  join-reads.Asked,
+  join-reads.Learnt,
+  is-comparator-reads.Asked,
+  is-comparator-reads.Learnt,
+  next-reads.Asked,
+  next-reads.Learnt,
+) (comparison-at t) comparison.Post comparison-Inv-loop comparison-μ-loop
+comparison-loop-holds t c = (refl, compare-first (G.primary (wordsIn (c .before .before .before .before .before .args .reserved .now) (c .before .before .before .before .before .args .currencies .now) (c .before .before .before .before .before .args .counters .now)) (c .before .before .before .before .before .args .depth)) (sum-size (G.primary (wordsIn (c .before .before .before .before .before .args .reserved .now) (c .before .before .before .before .before .args .currencies .now) (c .before .before .before .before .before .args .counters .now)) (c .before .before .before .before .before .args .depth)) (primary-size (wordsIn (c .before .before .before .before .before .args .reserved .now) (c .before .before .before .before .before .args .currencies .now) (c .before .before .before .before .before .args .counters .now)) (c .before .before .before .before .before .args .depth))) (c .before .before .before .before .before .args .s .now) (c .before .before .before .before .before .args .c) (c .before .before .before .before .before .args .n) (c .before .before .before .before .before .args .out .now) (c .before .before .before .before .before .pre .1 .0 .1))
+
+-- src/expressions.rt:103:13
 comparison-sum-requires : (t : ℕ) → comparison-lts.Need-sum-requires (
   sum-below t,
   sum.Post,
+  join-reads.Asked,
+  join-reads.Learnt,
   is-comparator-reads.Asked,
   is-comparator-reads.Learnt,
   next-reads.Asked,
   next-reads.Learnt,
-  plain-reads.Asked,
-  plain-reads.Learnt,
-  put-reads.Asked,
-  put-reads.Learnt,
-) (comparison-at t) comparison.Post
-comparison-sum-requires t c κs = search needs
+) (comparison-at t) comparison.Post comparison-Inv-loop comparison-μ-loop
+comparison-sum-requires t c κs = (omega (arith, c .before .before .before .before .before .before .before .pre .0), (compare-ready (G.primary (wordsIn (c .before .before .before .before .before .before .before .args .reserved .now) (c .before .before .before .before .before .before .before .args .currencies .now) (c .before .before .before .before .before .before .before .args .counters .now)) (c .before .before .before .before .before .before .before .args .depth)) (sum-size (G.primary (wordsIn (c .before .before .before .before .before .before .before .args .reserved .now) (c .before .before .before .before .before .before .before .args .currencies .now) (c .before .before .before .before .before .before .before .args .counters .now)) (c .before .before .before .before .before .before .before .args .depth)) (primary-size (wordsIn (c .before .before .before .before .before .before .before .args .reserved .now) (c .before .before .before .before .before .before .before .args .currencies .now) (c .before .before .before .before .before .before .before .args .counters .now)) (c .before .before .before .before .before .before .before .args .depth))) (c .before .before .before .before .before .before .before .args .s .now) (c .before .before .before .before .before .before .before .args .c) (c .before .before .before .before .before .before .before .args .n) (c .before .before .before .before .before .before .before .args .out .now) (c .before .before .before .before .before .before .before .pre .1 .0 .1) _ _ _ _ (c .before .loop .inv .1) (c .before .before .before .before .before .before .before .pre .1 .0 .0), c .before .before .before .before .before .before .before .pre .1 .1))
 
--- src/expressions.rt:104:20
+-- src/expressions.rt:104:24
 comparison-enum-known-r : (t : ℕ) → comparison-lts.Need-enum-known-r (
   sum-below t,
   sum.Post,
+  join-reads.Asked,
+  join-reads.Learnt,
   is-comparator-reads.Asked,
   is-comparator-reads.Learnt,
   next-reads.Asked,
   next-reads.Learnt,
-  plain-reads.Asked,
-  plain-reads.Learnt,
-  put-reads.Asked,
-  put-reads.Learnt,
-) (comparison-at t) comparison.Post
+) (comparison-at t) comparison.Post comparison-Inv-loop comparison-μ-loop
 comparison-enum-known-r t c = search needs
 
--- src/expressions.rt:105:9
+-- src/expressions.rt:105:13
 comparison-enum-told : (t : ℕ) → comparison-lts.Need-enum-told (
   sum-below t,
   sum.Post,
+  join-reads.Asked,
+  join-reads.Learnt,
   is-comparator-reads.Asked,
   is-comparator-reads.Learnt,
   next-reads.Asked,
   next-reads.Learnt,
-  plain-reads.Asked,
-  plain-reads.Learnt,
-  put-reads.Asked,
-  put-reads.Learnt,
-) (comparison-at t) comparison.Post
+) (comparison-at t) comparison.Post comparison-Inv-loop comparison-μ-loop
 comparison-enum-told t c = search needs
 
--- src/expressions.rt:105:9
+-- src/expressions.rt:105:13
 comparison-same-length : (t : ℕ) → comparison-lts.Need-same-length (
   sum-below t,
   sum.Post,
+  join-reads.Asked,
+  join-reads.Learnt,
   is-comparator-reads.Asked,
   is-comparator-reads.Learnt,
   next-reads.Asked,
   next-reads.Learnt,
-  plain-reads.Asked,
-  plain-reads.Learnt,
-  put-reads.Asked,
-  put-reads.Learnt,
-) (comparison-at t) comparison.Post
-comparison-same-length t c = search needs
+) (comparison-at t) comparison.Post comparison-Inv-loop comparison-μ-loop
+comparison-same-length t c = c .before .before .before .before .sum .kept .1 .1 .1 .1 .1 .1 .0 ∙ c .before .before .before .before .before .before .loop .inv .0
 
--- src/expressions.rt:105:9
+-- src/expressions.rt:105:13
 comparison-returns : (t : ℕ) → comparison-lts.Need-returns (
   sum-below t,
   sum.Post,
+  join-reads.Asked,
+  join-reads.Learnt,
   is-comparator-reads.Asked,
   is-comparator-reads.Learnt,
   next-reads.Asked,
   next-reads.Learnt,
-  plain-reads.Asked,
-  plain-reads.Learnt,
-  put-reads.Asked,
-  put-reads.Learnt,
-) (comparison-at t) comparison.Post
-comparison-returns t c = refused-on _ _ _ _ _ _ _ _ _ _ _ _ (c .enum-told .given .1) (c .before .before .before .before .sum .ensures) (comparison-refused (G.primary (wordsIn (c .before .before .before .before .before .before .before .before .before .before .before .args .reserved .now) (c .before .before .before .before .before .before .before .before .before .before .before .args .currencies .now) (c .before .before .before .before .before .before .before .before .before .before .before .args .counters .now)) (c .before .before .before .before .before .before .before .before .before .before .before .args .depth)) (sum-size (G.primary (wordsIn (c .before .before .before .before .before .before .before .before .before .before .before .args .reserved .now) (c .before .before .before .before .before .before .before .before .before .before .before .args .currencies .now) (c .before .before .before .before .before .before .before .before .before .before .before .args .counters .now)) (c .before .before .before .before .before .before .before .before .before .before .before .args .depth)) (primary-size (wordsIn (c .before .before .before .before .before .before .before .before .before .before .before .args .reserved .now) (c .before .before .before .before .before .before .before .before .before .before .before .args .currencies .now) (c .before .before .before .before .before .before .before .before .before .before .before .args .counters .now)) (c .before .before .before .before .before .before .before .before .before .before .before .args .depth))) (c .before .before .before .before .before .before .before .before .before .before .before .args .s .now) (c .before .before .before .before .before .before .before .before .before .before .before .args .c) (c .before .before .before .before .before .before .before .before .before .before .before .args .n) (c .before .before .before .before .before .before .before .before .before .before .before .args .out .now) (c .before .before .before .before .before .before .before .before .before .before .before .pre .1 .0 .1) _ _)
+) (comparison-at t) comparison.Post comparison-Inv-loop comparison-μ-loop
+comparison-returns t c = refused-on _ _ _ _ _ _ _ _ _ _ _ _ (c .enum-told .given .1) (c .before .before .before .before .sum .ensures) (compare-refused (G.primary (wordsIn (c .before .before .before .before .before .before .before .before .before .before .before .before .args .reserved .now) (c .before .before .before .before .before .before .before .before .before .before .before .before .args .currencies .now) (c .before .before .before .before .before .before .before .before .before .before .before .before .args .counters .now)) (c .before .before .before .before .before .before .before .before .before .before .before .before .args .depth)) (sum-size (G.primary (wordsIn (c .before .before .before .before .before .before .before .before .before .before .before .before .args .reserved .now) (c .before .before .before .before .before .before .before .before .before .before .before .before .args .currencies .now) (c .before .before .before .before .before .before .before .before .before .before .before .before .args .counters .now)) (c .before .before .before .before .before .before .before .before .before .before .before .before .args .depth)) (primary-size (wordsIn (c .before .before .before .before .before .before .before .before .before .before .before .before .args .reserved .now) (c .before .before .before .before .before .before .before .before .before .before .before .before .args .currencies .now) (c .before .before .before .before .before .before .before .before .before .before .before .before .args .counters .now)) (c .before .before .before .before .before .before .before .before .before .before .before .before .args .depth))) (c .before .before .before .before .before .before .before .before .before .before .before .before .args .s .now) (c .before .before .before .before .before .before .before .before .before .before .before .before .args .c) (c .before .before .before .before .before .before .before .before .before .before .before .before .args .n) (c .before .before .before .before .before .before .before .before .before .before .before .before .args .out .now) (c .before .before .before .before .before .before .before .before .before .before .before .before .pre .1 .0 .1) _ _ _ _ (c .before .before .before .before .before .before .loop .inv .1) _ _)
 
--- src/expressions.rt:108:9
-comparison-is-comparator-requires : (t : ℕ) → comparison-lts.Need-is-comparator-requires (
+-- src/expressions.rt:107:13
+comparison-join-requires : (t : ℕ) → comparison-lts.Need-join-requires (
   sum-below t,
   sum.Post,
+  join-reads.Asked,
+  join-reads.Learnt,
   is-comparator-reads.Asked,
   is-comparator-reads.Learnt,
   next-reads.Asked,
   next-reads.Learnt,
-  plain-reads.Asked,
-  plain-reads.Learnt,
-  put-reads.Asked,
-  put-reads.Learnt,
-) (comparison-at t) comparison.Post
-comparison-is-comparator-requires t c κs = search needs
+) (comparison-at t) comparison.Post comparison-Inv-loop comparison-μ-loop
+comparison-join-requires t c κs = compare-numbers (G.primary (wordsIn (c .before .before .before .before .before .before .before .before .before .before .before .before .before .before .args .reserved .now) (c .before .before .before .before .before .before .before .before .before .before .before .before .before .before .args .currencies .now) (c .before .before .before .before .before .before .before .before .before .before .before .before .before .before .args .counters .now)) (c .before .before .before .before .before .before .before .before .before .before .before .before .before .before .args .depth)) (sum-size (G.primary (wordsIn (c .before .before .before .before .before .before .before .before .before .before .before .before .before .before .args .reserved .now) (c .before .before .before .before .before .before .before .before .before .before .before .before .before .before .args .currencies .now) (c .before .before .before .before .before .before .before .before .before .before .before .before .before .before .args .counters .now)) (c .before .before .before .before .before .before .before .before .before .before .before .before .before .before .args .depth)) (primary-size (wordsIn (c .before .before .before .before .before .before .before .before .before .before .before .before .before .before .args .reserved .now) (c .before .before .before .before .before .before .before .before .before .before .before .before .before .before .args .currencies .now) (c .before .before .before .before .before .before .before .before .before .before .before .before .before .before .args .counters .now)) (c .before .before .before .before .before .before .before .before .before .before .before .before .before .before .args .depth))) (c .before .before .before .before .before .before .before .before .before .before .before .before .before .before .args .s .now) (c .before .before .before .before .before .before .before .before .before .before .before .before .before .before .args .c) (c .before .before .before .before .before .before .before .before .before .before .before .before .before .before .args .n) (c .before .before .before .before .before .before .before .before .before .before .before .before .before .before .args .out .now) (c .before .before .before .before .before .before .before .before .before .before .before .before .before .before .pre .1 .0 .1) _ _ _ _ (c .before .before .before .before .before .before .before .before .loop .inv .1) _ _ _ _ (done-reads _ _ _ _ _ _ _ _ _ (c .before .before .r .given .1) (c .before .before .before .before .before .before .sum .ensures))
 
--- src/expressions.rt:109:9
+-- src/expressions.rt:109:13
 comparison-same-length-2 : (t : ℕ) → comparison-lts.Need-same-length-2 (
   sum-below t,
   sum.Post,
+  join-reads.Asked,
+  join-reads.Learnt,
   is-comparator-reads.Asked,
   is-comparator-reads.Learnt,
   next-reads.Asked,
   next-reads.Learnt,
-  plain-reads.Asked,
-  plain-reads.Learnt,
-  put-reads.Asked,
-  put-reads.Learnt,
-) (comparison-at t) comparison.Post
-comparison-same-length-2 t c = search needs
+) (comparison-at t) comparison.Post comparison-Inv-loop comparison-μ-loop
+comparison-same-length-2 t c = c .before .before .before .join .kept .0 ∙ (c .before .before .before .before .before .before .before .before .before .before .sum .kept .1 .1 .1 .1 .1 .1 .0 ∙ c .before .before .before .before .before .before .before .before .before .before .before .before .loop .inv .0)
 
--- src/expressions.rt:109:9
+-- src/expressions.rt:109:13
 comparison-returns-2 : (t : ℕ) → comparison-lts.Need-returns-2 (
   sum-below t,
   sum.Post,
+  join-reads.Asked,
+  join-reads.Learnt,
   is-comparator-reads.Asked,
   is-comparator-reads.Learnt,
   next-reads.Asked,
   next-reads.Learnt,
-  plain-reads.Asked,
-  plain-reads.Learnt,
-  put-reads.Asked,
-  put-reads.Learnt,
-) (comparison-at t) comparison.Post
-comparison-returns-2 t c = comparison-none (G.primary (wordsIn (c .before .before .before .before .before .before .before .before .before .before .before .before .before .before .args .reserved .now) (c .before .before .before .before .before .before .before .before .before .before .before .before .before .before .args .currencies .now) (c .before .before .before .before .before .before .before .before .before .before .before .before .before .before .args .counters .now)) (c .before .before .before .before .before .before .before .before .before .before .before .before .before .before .args .depth)) (sum-size (G.primary (wordsIn (c .before .before .before .before .before .before .before .before .before .before .before .before .before .before .args .reserved .now) (c .before .before .before .before .before .before .before .before .before .before .before .before .before .before .args .currencies .now) (c .before .before .before .before .before .before .before .before .before .before .before .before .before .before .args .counters .now)) (c .before .before .before .before .before .before .before .before .before .before .before .before .before .before .args .depth)) (primary-size (wordsIn (c .before .before .before .before .before .before .before .before .before .before .before .before .before .before .args .reserved .now) (c .before .before .before .before .before .before .before .before .before .before .before .before .before .before .args .currencies .now) (c .before .before .before .before .before .before .before .before .before .before .before .before .before .before .args .counters .now)) (c .before .before .before .before .before .before .before .before .before .before .before .before .before .before .args .depth))) (c .before .before .before .before .before .before .before .before .before .before .before .before .before .before .args .s .now) (c .before .before .before .before .before .before .before .before .before .before .before .before .before .before .args .c) (c .before .before .before .before .before .before .before .before .before .before .before .before .before .before .args .n) (c .before .before .before .before .before .before .before .before .before .before .before .before .before .before .args .out .now) (c .before .before .before .before .before .before .before .before .before .before .before .before .before .before .pre .1 .0 .1) _ _ _ _ (done-reads _ _ _ _ _ _ _ _ _ (c .before .before .before .r .given .1) (c .before .before .before .before .before .before .before .sum .ensures)) (sym (c .before .is-comparator .ensures) ∙ not-true _ (c .if1 .taken))
+) (comparison-at t) comparison.Post comparison-Inv-loop comparison-μ-loop
+comparison-returns-2 t c = compare-last (G.primary (wordsIn (c .before .before .before .before .before .before .before .before .before .before .before .before .before .before .before .before .before .before .args .reserved .now) (c .before .before .before .before .before .before .before .before .before .before .before .before .before .before .before .before .before .before .args .currencies .now) (c .before .before .before .before .before .before .before .before .before .before .before .before .before .before .before .before .before .before .args .counters .now)) (c .before .before .before .before .before .before .before .before .before .before .before .before .before .before .before .before .before .before .args .depth)) (sum-size (G.primary (wordsIn (c .before .before .before .before .before .before .before .before .before .before .before .before .before .before .before .before .before .before .args .reserved .now) (c .before .before .before .before .before .before .before .before .before .before .before .before .before .before .before .before .before .before .args .currencies .now) (c .before .before .before .before .before .before .before .before .before .before .before .before .before .before .before .before .before .before .args .counters .now)) (c .before .before .before .before .before .before .before .before .before .before .before .before .before .before .before .before .before .before .args .depth)) (primary-size (wordsIn (c .before .before .before .before .before .before .before .before .before .before .before .before .before .before .before .before .before .before .args .reserved .now) (c .before .before .before .before .before .before .before .before .before .before .before .before .before .before .before .before .before .before .args .currencies .now) (c .before .before .before .before .before .before .before .before .before .before .before .before .before .before .before .before .before .before .args .counters .now)) (c .before .before .before .before .before .before .before .before .before .before .before .before .before .before .before .before .before .before .args .depth))) (c .before .before .before .before .before .before .before .before .before .before .before .before .before .before .before .before .before .before .args .s .now) (c .before .before .before .before .before .before .before .before .before .before .before .before .before .before .before .before .before .before .args .c) (c .before .before .before .before .before .before .before .before .before .before .before .before .before .before .before .before .before .before .args .n) (c .before .before .before .before .before .before .before .before .before .before .before .before .before .before .before .before .before .before .args .out .now) (c .before .before .before .before .before .before .before .before .before .before .before .before .before .before .before .before .before .before .pre .1 .0 .1) _ _ _ _ (c .before .before .before .before .before .before .before .before .before .before .before .before .loop .inv .1) _ _ _ _ (done-reads _ _ _ _ _ _ _ _ _ (c .before .before .before .before .before .before .r .given .1) (c .before .before .before .before .before .before .before .before .before .before .sum .ensures)) (c .before .before .before .join .result) _ (c .before .before .before .join .ensures) (c .if1 .taken)
 
--- src/expressions.rt:111:9
-comparison-next-requires : (t : ℕ) → comparison-lts.Need-next-requires (
+-- src/expressions.rt:112:13
+comparison-is-comparator-requires : (t : ℕ) → comparison-lts.Need-is-comparator-requires (
   sum-below t,
   sum.Post,
+  join-reads.Asked,
+  join-reads.Learnt,
   is-comparator-reads.Asked,
   is-comparator-reads.Learnt,
   next-reads.Asked,
   next-reads.Learnt,
-  plain-reads.Asked,
-  plain-reads.Learnt,
-  put-reads.Asked,
-  put-reads.Learnt,
-) (comparison-at t) comparison.Post
-comparison-next-requires t c κs = (done-reads _ _ _ _ _ _ _ _ _ (c .before .before .before .r .given .1) (c .before .before .before .before .before .before .before .sum .ensures)) .holds
+) (comparison-at t) comparison.Post comparison-Inv-loop comparison-μ-loop
+comparison-is-comparator-requires t c κs = search needs
 
--- src/expressions.rt:112:9
-comparison-sum-requires-2 : (t : ℕ) → comparison-lts.Need-sum-requires-2 (
-  sum-below t,
-  sum.Post,
-  is-comparator-reads.Asked,
-  is-comparator-reads.Learnt,
-  next-reads.Asked,
-  next-reads.Learnt,
-  plain-reads.Asked,
-  plain-reads.Learnt,
-  put-reads.Asked,
-  put-reads.Learnt,
-) (comparison-at t) comparison.Post
-comparison-sum-requires-2 t c κs = (omega (arith, c .before .before .before .before .before .before .before .before .before .before .before .before .before .before .before .before .pre .0), (comparison-ready (G.primary (wordsIn (c .before .before .before .before .before .before .before .before .before .before .before .before .before .before .before .before .args .reserved .now) (c .before .before .before .before .before .before .before .before .before .before .before .before .before .before .before .before .args .currencies .now) (c .before .before .before .before .before .before .before .before .before .before .before .before .before .before .before .before .args .counters .now)) (c .before .before .before .before .before .before .before .before .before .before .before .before .before .before .before .before .args .depth)) (sum-size (G.primary (wordsIn (c .before .before .before .before .before .before .before .before .before .before .before .before .before .before .before .before .args .reserved .now) (c .before .before .before .before .before .before .before .before .before .before .before .before .before .before .before .before .args .currencies .now) (c .before .before .before .before .before .before .before .before .before .before .before .before .before .before .before .before .args .counters .now)) (c .before .before .before .before .before .before .before .before .before .before .before .before .before .before .before .before .args .depth)) (primary-size (wordsIn (c .before .before .before .before .before .before .before .before .before .before .before .before .before .before .before .before .args .reserved .now) (c .before .before .before .before .before .before .before .before .before .before .before .before .before .before .before .before .args .currencies .now) (c .before .before .before .before .before .before .before .before .before .before .before .before .before .before .before .before .args .counters .now)) (c .before .before .before .before .before .before .before .before .before .before .before .before .before .before .before .before .args .depth))) (c .before .before .before .before .before .before .before .before .before .before .before .before .before .before .before .before .args .s .now) (c .before .before .before .before .before .before .before .before .before .before .before .before .before .before .before .before .args .c) (c .before .before .before .before .before .before .before .before .before .before .before .before .before .before .before .before .args .n) (c .before .before .before .before .before .before .before .before .before .before .before .before .before .before .before .before .args .out .now) (c .before .before .before .before .before .before .before .before .before .before .before .before .before .before .before .before .pre .1 .0 .1) _ _ _ _ (done-reads _ _ _ _ _ _ _ _ _ (c .before .before .before .before .before .r .given .1) (c .before .before .before .before .before .before .before .before .before .sum .ensures)) (sym (c .before .before .before .is-comparator .ensures) ∙ not-false _ (c .before .before .if1 .left)) (c .before .next .result) (c .before .next .ensures), c .before .before .before .before .before .before .before .before .before .before .before .before .before .before .before .before .pre .1 .1))
-
--- src/expressions.rt:113:20
-comparison-enum-known-q : (t : ℕ) → comparison-lts.Need-enum-known-q (
-  sum-below t,
-  sum.Post,
-  is-comparator-reads.Asked,
-  is-comparator-reads.Learnt,
-  next-reads.Asked,
-  next-reads.Learnt,
-  plain-reads.Asked,
-  plain-reads.Learnt,
-  put-reads.Asked,
-  put-reads.Learnt,
-) (comparison-at t) comparison.Post
-comparison-enum-known-q t c = search needs
-
--- src/expressions.rt:114:9
-comparison-enum-told-2 : (t : ℕ) → comparison-lts.Need-enum-told-2 (
-  sum-below t,
-  sum.Post,
-  is-comparator-reads.Asked,
-  is-comparator-reads.Learnt,
-  next-reads.Asked,
-  next-reads.Learnt,
-  plain-reads.Asked,
-  plain-reads.Learnt,
-  put-reads.Asked,
-  put-reads.Learnt,
-) (comparison-at t) comparison.Post
-comparison-enum-told-2 t c = search needs
-
--- src/expressions.rt:114:9
+-- src/expressions.rt:113:13
 comparison-same-length-3 : (t : ℕ) → comparison-lts.Need-same-length-3 (
   sum-below t,
   sum.Post,
+  join-reads.Asked,
+  join-reads.Learnt,
   is-comparator-reads.Asked,
   is-comparator-reads.Learnt,
   next-reads.Asked,
   next-reads.Learnt,
-  plain-reads.Asked,
-  plain-reads.Learnt,
-  put-reads.Asked,
-  put-reads.Learnt,
-) (comparison-at t) comparison.Post
-comparison-same-length-3 t c = search needs
+) (comparison-at t) comparison.Post comparison-Inv-loop comparison-μ-loop
+comparison-same-length-3 t c = c .before .before .before .before .before .join .kept .0 ∙ (c .before .before .before .before .before .before .before .before .before .before .before .before .sum .kept .1 .1 .1 .1 .1 .1 .0 ∙ c .before .before .before .before .before .before .before .before .before .before .before .before .before .before .loop .inv .0)
 
--- src/expressions.rt:114:9
+-- src/expressions.rt:113:13
 comparison-returns-3 : (t : ℕ) → comparison-lts.Need-returns-3 (
   sum-below t,
   sum.Post,
+  join-reads.Asked,
+  join-reads.Learnt,
   is-comparator-reads.Asked,
   is-comparator-reads.Learnt,
   next-reads.Asked,
   next-reads.Learnt,
-  plain-reads.Asked,
-  plain-reads.Learnt,
-  put-reads.Asked,
-  put-reads.Learnt,
-) (comparison-at t) comparison.Post
-comparison-returns-3 t c = refused-on _ _ _ _ _ _ _ _ _ _ _ _ (c .enum-told2 .given .1) (c .before .before .before .before .sum2 .ensures) (comparison-second (G.primary (wordsIn (c .before .before .before .before .before .before .before .before .before .before .before .before .before .before .before .before .before .before .before .before .before .args .reserved .now) (c .before .before .before .before .before .before .before .before .before .before .before .before .before .before .before .before .before .before .before .before .before .args .currencies .now) (c .before .before .before .before .before .before .before .before .before .before .before .before .before .before .before .before .before .before .before .before .before .args .counters .now)) (c .before .before .before .before .before .before .before .before .before .before .before .before .before .before .before .before .before .before .before .before .before .args .depth)) (sum-size (G.primary (wordsIn (c .before .before .before .before .before .before .before .before .before .before .before .before .before .before .before .before .before .before .before .before .before .args .reserved .now) (c .before .before .before .before .before .before .before .before .before .before .before .before .before .before .before .before .before .before .before .before .before .args .currencies .now) (c .before .before .before .before .before .before .before .before .before .before .before .before .before .before .before .before .before .before .before .before .before .args .counters .now)) (c .before .before .before .before .before .before .before .before .before .before .before .before .before .before .before .before .before .before .before .before .before .args .depth)) (primary-size (wordsIn (c .before .before .before .before .before .before .before .before .before .before .before .before .before .before .before .before .before .before .before .before .before .args .reserved .now) (c .before .before .before .before .before .before .before .before .before .before .before .before .before .before .before .before .before .before .before .before .before .args .currencies .now) (c .before .before .before .before .before .before .before .before .before .before .before .before .before .before .before .before .before .before .before .before .before .args .counters .now)) (c .before .before .before .before .before .before .before .before .before .before .before .before .before .before .before .before .before .before .before .before .before .args .depth))) (c .before .before .before .before .before .before .before .before .before .before .before .before .before .before .before .before .before .before .before .before .before .args .s .now) (c .before .before .before .before .before .before .before .before .before .before .before .before .before .before .before .before .before .before .before .before .before .args .c) (c .before .before .before .before .before .before .before .before .before .before .before .before .before .before .before .before .before .before .before .before .before .args .n) (c .before .before .before .before .before .before .before .before .before .before .before .before .before .before .before .before .before .before .before .before .before .args .out .now) (c .before .before .before .before .before .before .before .before .before .before .before .before .before .before .before .before .before .before .before .before .before .pre .1 .0 .1) _ _ _ _ (done-reads _ _ _ _ _ _ _ _ _ (c .before .before .before .before .before .before .before .before .before .before .r .given .1) (c .before .before .before .before .before .before .before .before .before .before .before .before .before .before .sum .ensures)) (sym (c .before .before .before .before .before .before .before .before .is-comparator .ensures) ∙ not-false _ (c .before .before .before .before .before .before .before .if1 .left)) (c .before .before .before .before .before .before .next .result) (c .before .before .before .before .before .before .next .ensures) _ _)
+) (comparison-at t) comparison.Post comparison-Inv-loop comparison-μ-loop
+comparison-returns-3 t c = compare-none (G.primary (wordsIn (c .before .before .before .before .before .before .before .before .before .before .before .before .before .before .before .before .before .before .before .before .args .reserved .now) (c .before .before .before .before .before .before .before .before .before .before .before .before .before .before .before .before .before .before .before .before .args .currencies .now) (c .before .before .before .before .before .before .before .before .before .before .before .before .before .before .before .before .before .before .before .before .args .counters .now)) (c .before .before .before .before .before .before .before .before .before .before .before .before .before .before .before .before .before .before .before .before .args .depth)) (sum-size (G.primary (wordsIn (c .before .before .before .before .before .before .before .before .before .before .before .before .before .before .before .before .before .before .before .before .args .reserved .now) (c .before .before .before .before .before .before .before .before .before .before .before .before .before .before .before .before .before .before .before .before .args .currencies .now) (c .before .before .before .before .before .before .before .before .before .before .before .before .before .before .before .before .before .before .before .before .args .counters .now)) (c .before .before .before .before .before .before .before .before .before .before .before .before .before .before .before .before .before .before .before .before .args .depth)) (primary-size (wordsIn (c .before .before .before .before .before .before .before .before .before .before .before .before .before .before .before .before .before .before .before .before .args .reserved .now) (c .before .before .before .before .before .before .before .before .before .before .before .before .before .before .before .before .before .before .before .before .args .currencies .now) (c .before .before .before .before .before .before .before .before .before .before .before .before .before .before .before .before .before .before .before .before .args .counters .now)) (c .before .before .before .before .before .before .before .before .before .before .before .before .before .before .before .before .before .before .before .before .args .depth))) (c .before .before .before .before .before .before .before .before .before .before .before .before .before .before .before .before .before .before .before .before .args .s .now) (c .before .before .before .before .before .before .before .before .before .before .before .before .before .before .before .before .before .before .before .before .args .c) (c .before .before .before .before .before .before .before .before .before .before .before .before .before .before .before .before .before .before .before .before .args .n) (c .before .before .before .before .before .before .before .before .before .before .before .before .before .before .before .before .before .before .before .before .args .out .now) (c .before .before .before .before .before .before .before .before .before .before .before .before .before .before .before .before .before .before .before .before .pre .1 .0 .1) _ _ _ _ (c .before .before .before .before .before .before .before .before .before .before .before .before .before .before .loop .inv .1) _ _ _ _ (done-reads _ _ _ _ _ _ _ _ _ (c .before .before .before .before .before .before .before .before .r .given .1) (c .before .before .before .before .before .before .before .before .before .before .before .before .sum .ensures)) (c .before .before .before .before .before .join .result) _ (c .before .before .before .before .before .join .ensures) (c .before .before .if1 .left) (sym (c .before .is-comparator .ensures) ∙ not-true _ (c .if2 .taken))
 
--- src/expressions.rt:116:30
-comparison-sub-plain : (t : ℕ) → comparison-lts.Need-sub-plain (
+-- src/expressions.rt:115:9
+comparison-next-requires : (t : ℕ) → comparison-lts.Need-next-requires (
   sum-below t,
   sum.Post,
+  join-reads.Asked,
+  join-reads.Learnt,
   is-comparator-reads.Asked,
   is-comparator-reads.Learnt,
   next-reads.Asked,
   next-reads.Learnt,
-  plain-reads.Asked,
-  plain-reads.Learnt,
-  put-reads.Asked,
-  put-reads.Learnt,
-) (comparison-at t) comparison.Post
-comparison-sub-plain t c = omega (arith, comparison-numbers (G.primary (wordsIn (c .before .before .before .before .before .before .before .before .before .before .before .before .before .before .before .before .before .before .before .before .before .before .before .args .reserved .now) (c .before .before .before .before .before .before .before .before .before .before .before .before .before .before .before .before .before .before .before .before .before .before .before .args .currencies .now) (c .before .before .before .before .before .before .before .before .before .before .before .before .before .before .before .before .before .before .before .before .before .before .before .args .counters .now)) (c .before .before .before .before .before .before .before .before .before .before .before .before .before .before .before .before .before .before .before .before .before .before .before .args .depth)) (sum-size (G.primary (wordsIn (c .before .before .before .before .before .before .before .before .before .before .before .before .before .before .before .before .before .before .before .before .before .before .before .args .reserved .now) (c .before .before .before .before .before .before .before .before .before .before .before .before .before .before .before .before .before .before .before .before .before .before .before .args .currencies .now) (c .before .before .before .before .before .before .before .before .before .before .before .before .before .before .before .before .before .before .before .before .before .before .before .args .counters .now)) (c .before .before .before .before .before .before .before .before .before .before .before .before .before .before .before .before .before .before .before .before .before .before .before .args .depth)) (primary-size (wordsIn (c .before .before .before .before .before .before .before .before .before .before .before .before .before .before .before .before .before .before .before .before .before .before .before .args .reserved .now) (c .before .before .before .before .before .before .before .before .before .before .before .before .before .before .before .before .before .before .before .before .before .before .before .args .currencies .now) (c .before .before .before .before .before .before .before .before .before .before .before .before .before .before .before .before .before .before .before .before .before .before .before .args .counters .now)) (c .before .before .before .before .before .before .before .before .before .before .before .before .before .before .before .before .before .before .before .before .before .before .before .args .depth))) (c .before .before .before .before .before .before .before .before .before .before .before .before .before .before .before .before .before .before .before .before .before .before .before .args .s .now) (c .before .before .before .before .before .before .before .before .before .before .before .before .before .before .before .before .before .before .before .before .before .before .before .args .c) (c .before .before .before .before .before .before .before .before .before .before .before .before .before .before .before .before .before .before .before .before .before .before .before .args .n) (c .before .before .before .before .before .before .before .before .before .before .before .before .before .before .before .before .before .before .before .before .before .before .before .args .out .now) (c .before .before .before .before .before .before .before .before .before .before .before .before .before .before .before .before .before .before .before .before .before .before .before .pre .1 .0 .1) _ _ _ _ (done-reads _ _ _ _ _ _ _ _ _ (c .before .before .before .before .before .before .before .before .before .before .before .before .r .given .1) (c .before .before .before .before .before .before .before .before .before .before .before .before .before .before .before .before .sum .ensures)) (sym (c .before .before .before .before .before .before .before .before .before .before .is-comparator .ensures) ∙ not-false _ (c .before .before .before .before .before .before .before .before .before .if1 .left)) (c .before .before .before .before .before .before .before .before .next .result) (c .before .before .before .before .before .before .before .before .next .ensures) _ _ _ _ (done-reads _ _ _ _ _ _ _ _ _ (c .before .before .q .given .1) (c .before .before .before .before .before .before .sum2 .ensures)))
+) (comparison-at t) comparison.Post comparison-Inv-loop comparison-μ-loop
+comparison-next-requires t c κs = (compare-alone (G.primary (wordsIn (c .before .before .before .before .before .before .before .before .before .before .before .before .before .before .before .before .before .before .before .before .args .reserved .now) (c .before .before .before .before .before .before .before .before .before .before .before .before .before .before .before .before .before .before .before .before .args .currencies .now) (c .before .before .before .before .before .before .before .before .before .before .before .before .before .before .before .before .before .before .before .before .args .counters .now)) (c .before .before .before .before .before .before .before .before .before .before .before .before .before .before .before .before .before .before .before .before .args .depth)) (sum-size (G.primary (wordsIn (c .before .before .before .before .before .before .before .before .before .before .before .before .before .before .before .before .before .before .before .before .args .reserved .now) (c .before .before .before .before .before .before .before .before .before .before .before .before .before .before .before .before .before .before .before .before .args .currencies .now) (c .before .before .before .before .before .before .before .before .before .before .before .before .before .before .before .before .before .before .before .before .args .counters .now)) (c .before .before .before .before .before .before .before .before .before .before .before .before .before .before .before .before .before .before .before .before .args .depth)) (primary-size (wordsIn (c .before .before .before .before .before .before .before .before .before .before .before .before .before .before .before .before .before .before .before .before .args .reserved .now) (c .before .before .before .before .before .before .before .before .before .before .before .before .before .before .before .before .before .before .before .before .args .currencies .now) (c .before .before .before .before .before .before .before .before .before .before .before .before .before .before .before .before .before .before .before .before .args .counters .now)) (c .before .before .before .before .before .before .before .before .before .before .before .before .before .before .before .before .before .before .before .before .args .depth))) (c .before .before .before .before .before .before .before .before .before .before .before .before .before .before .before .before .before .before .before .before .args .s .now) (c .before .before .before .before .before .before .before .before .before .before .before .before .before .before .before .before .before .before .before .before .args .c) (c .before .before .before .before .before .before .before .before .before .before .before .before .before .before .before .before .before .before .before .before .args .n) (c .before .before .before .before .before .before .before .before .before .before .before .before .before .before .before .before .before .before .before .before .args .out .now) (c .before .before .before .before .before .before .before .before .before .before .before .before .before .before .before .before .before .before .before .before .pre .1 .0 .1) _ _ _ _ (c .before .before .before .before .before .before .before .before .before .before .before .before .before .before .loop .inv .1) _ _ _ _ (done-reads _ _ _ _ _ _ _ _ _ (c .before .before .before .before .before .before .before .before .r .given .1) (c .before .before .before .before .before .before .before .before .before .before .before .before .sum .ensures)) (c .before .before .before .before .before .join .result) _ (c .before .before .before .before .before .join .ensures) (c .before .before .if1 .left)) .holds
 
--- src/expressions.rt:116:30
-comparison-add-plain : (t : ℕ) → comparison-lts.Need-add-plain (
+-- src/expressions.rt:102:5
+comparison-loop-less : (t : ℕ) → comparison-lts.Need-loop-less (
   sum-below t,
   sum.Post,
+  join-reads.Asked,
+  join-reads.Learnt,
   is-comparator-reads.Asked,
   is-comparator-reads.Learnt,
   next-reads.Asked,
   next-reads.Learnt,
-  plain-reads.Asked,
-  plain-reads.Learnt,
-  put-reads.Asked,
-  put-reads.Learnt,
-) (comparison-at t) comparison.Post
-comparison-add-plain t c = omega (arith, comparison-numbers (G.primary (wordsIn (c .before .before .before .before .before .before .before .before .before .before .before .before .before .before .before .before .before .before .before .before .before .before .before .args .reserved .now) (c .before .before .before .before .before .before .before .before .before .before .before .before .before .before .before .before .before .before .before .before .before .before .before .args .currencies .now) (c .before .before .before .before .before .before .before .before .before .before .before .before .before .before .before .before .before .before .before .before .before .before .before .args .counters .now)) (c .before .before .before .before .before .before .before .before .before .before .before .before .before .before .before .before .before .before .before .before .before .before .before .args .depth)) (sum-size (G.primary (wordsIn (c .before .before .before .before .before .before .before .before .before .before .before .before .before .before .before .before .before .before .before .before .before .before .before .args .reserved .now) (c .before .before .before .before .before .before .before .before .before .before .before .before .before .before .before .before .before .before .before .before .before .before .before .args .currencies .now) (c .before .before .before .before .before .before .before .before .before .before .before .before .before .before .before .before .before .before .before .before .before .before .before .args .counters .now)) (c .before .before .before .before .before .before .before .before .before .before .before .before .before .before .before .before .before .before .before .before .before .before .before .args .depth)) (primary-size (wordsIn (c .before .before .before .before .before .before .before .before .before .before .before .before .before .before .before .before .before .before .before .before .before .before .before .args .reserved .now) (c .before .before .before .before .before .before .before .before .before .before .before .before .before .before .before .before .before .before .before .before .before .before .before .args .currencies .now) (c .before .before .before .before .before .before .before .before .before .before .before .before .before .before .before .before .before .before .before .before .before .before .before .args .counters .now)) (c .before .before .before .before .before .before .before .before .before .before .before .before .before .before .before .before .before .before .before .before .before .before .before .args .depth))) (c .before .before .before .before .before .before .before .before .before .before .before .before .before .before .before .before .before .before .before .before .before .before .before .args .s .now) (c .before .before .before .before .before .before .before .before .before .before .before .before .before .before .before .before .before .before .before .before .before .before .before .args .c) (c .before .before .before .before .before .before .before .before .before .before .before .before .before .before .before .before .before .before .before .before .before .before .before .args .n) (c .before .before .before .before .before .before .before .before .before .before .before .before .before .before .before .before .before .before .before .before .before .before .before .args .out .now) (c .before .before .before .before .before .before .before .before .before .before .before .before .before .before .before .before .before .before .before .before .before .before .before .pre .1 .0 .1) _ _ _ _ (done-reads _ _ _ _ _ _ _ _ _ (c .before .before .before .before .before .before .before .before .before .before .before .before .r .given .1) (c .before .before .before .before .before .before .before .before .before .before .before .before .before .before .before .before .sum .ensures)) (sym (c .before .before .before .before .before .before .before .before .before .before .is-comparator .ensures) ∙ not-false _ (c .before .before .before .before .before .before .before .before .before .if1 .left)) (c .before .before .before .before .before .before .before .before .next .result) (c .before .before .before .before .before .before .before .before .next .ensures) _ _ _ _ (done-reads _ _ _ _ _ _ _ _ _ (c .before .before .q .given .1) (c .before .before .before .before .before .before .sum2 .ensures)))
+) (comparison-at t) comparison.Post comparison-Inv-loop comparison-μ-loop
+comparison-loop-less t c = compare-less _ _ (c .before .before .before .if1 .left) (sym (c .before .before .is-comparator .ensures) ∙ not-false _ (c .before .if2 .left))
 
--- src/expressions.rt:116:18
-comparison-plain-requires : (t : ℕ) → comparison-lts.Need-plain-requires (
+-- src/expressions.rt:102:5
+comparison-loop-again : (t : ℕ) → comparison-lts.Need-loop-again (
   sum-below t,
   sum.Post,
+  join-reads.Asked,
+  join-reads.Learnt,
   is-comparator-reads.Asked,
   is-comparator-reads.Learnt,
   next-reads.Asked,
   next-reads.Learnt,
-  plain-reads.Asked,
-  plain-reads.Learnt,
-  put-reads.Asked,
-  put-reads.Learnt,
-) (comparison-at t) comparison.Post
-comparison-plain-requires t c κs = search needs
-
--- src/expressions.rt:116:5
-comparison-put-requires : (t : ℕ) → comparison-lts.Need-put-requires (
-  sum-below t,
-  sum.Post,
-  is-comparator-reads.Asked,
-  is-comparator-reads.Learnt,
-  next-reads.Asked,
-  next-reads.Learnt,
-  plain-reads.Asked,
-  plain-reads.Learnt,
-  put-reads.Asked,
-  put-reads.Learnt,
-) (comparison-at t) comparison.Post
-comparison-put-requires t c κs = search needs
-
--- src/expressions.rt:117:20
-comparison-add-t28 : (t : ℕ) → comparison-lts.Need-add-t28 (
-  sum-below t,
-  sum.Post,
-  is-comparator-reads.Asked,
-  is-comparator-reads.Learnt,
-  next-reads.Asked,
-  next-reads.Learnt,
-  plain-reads.Asked,
-  plain-reads.Learnt,
-  put-reads.Asked,
-  put-reads.Learnt,
-) (comparison-at t) comparison.Post
-comparison-add-t28 t c = omega (arith, comparison-numbers (G.primary (wordsIn (c .before .before .before .before .before .before .before .before .before .before .before .before .before .before .before .before .before .before .before .before .before .before .before .before .before .before .before .args .reserved .now) (c .before .before .before .before .before .before .before .before .before .before .before .before .before .before .before .before .before .before .before .before .before .before .before .before .before .before .before .args .currencies .now) (c .before .before .before .before .before .before .before .before .before .before .before .before .before .before .before .before .before .before .before .before .before .before .before .before .before .before .before .args .counters .now)) (c .before .before .before .before .before .before .before .before .before .before .before .before .before .before .before .before .before .before .before .before .before .before .before .before .before .before .before .args .depth)) (sum-size (G.primary (wordsIn (c .before .before .before .before .before .before .before .before .before .before .before .before .before .before .before .before .before .before .before .before .before .before .before .before .before .before .before .args .reserved .now) (c .before .before .before .before .before .before .before .before .before .before .before .before .before .before .before .before .before .before .before .before .before .before .before .before .before .before .before .args .currencies .now) (c .before .before .before .before .before .before .before .before .before .before .before .before .before .before .before .before .before .before .before .before .before .before .before .before .before .before .before .args .counters .now)) (c .before .before .before .before .before .before .before .before .before .before .before .before .before .before .before .before .before .before .before .before .before .before .before .before .before .before .before .args .depth)) (primary-size (wordsIn (c .before .before .before .before .before .before .before .before .before .before .before .before .before .before .before .before .before .before .before .before .before .before .before .before .before .before .before .args .reserved .now) (c .before .before .before .before .before .before .before .before .before .before .before .before .before .before .before .before .before .before .before .before .before .before .before .before .before .before .before .args .currencies .now) (c .before .before .before .before .before .before .before .before .before .before .before .before .before .before .before .before .before .before .before .before .before .before .before .before .before .before .before .args .counters .now)) (c .before .before .before .before .before .before .before .before .before .before .before .before .before .before .before .before .before .before .before .before .before .before .before .before .before .before .before .args .depth))) (c .before .before .before .before .before .before .before .before .before .before .before .before .before .before .before .before .before .before .before .before .before .before .before .before .before .before .before .args .s .now) (c .before .before .before .before .before .before .before .before .before .before .before .before .before .before .before .before .before .before .before .before .before .before .before .before .before .before .before .args .c) (c .before .before .before .before .before .before .before .before .before .before .before .before .before .before .before .before .before .before .before .before .before .before .before .before .before .before .before .args .n) (c .before .before .before .before .before .before .before .before .before .before .before .before .before .before .before .before .before .before .before .before .before .before .before .before .before .before .before .args .out .now) (c .before .before .before .before .before .before .before .before .before .before .before .before .before .before .before .before .before .before .before .before .before .before .before .before .before .before .before .pre .1 .0 .1) _ _ _ _ (done-reads _ _ _ _ _ _ _ _ _ (c .before .before .before .before .before .before .before .before .before .before .before .before .before .before .before .before .r .given .1) (c .before .before .before .before .before .before .before .before .before .before .before .before .before .before .before .before .before .before .before .before .sum .ensures)) (sym (c .before .before .before .before .before .before .before .before .before .before .before .before .before .before .is-comparator .ensures) ∙ not-false _ (c .before .before .before .before .before .before .before .before .before .before .before .before .before .if1 .left)) (c .before .before .before .before .before .before .before .before .before .before .before .before .next .result) (c .before .before .before .before .before .before .before .before .before .before .before .before .next .ensures) _ _ _ _ (done-reads _ _ _ _ _ _ _ _ _ (c .before .before .before .before .before .before .q .given .1) (c .before .before .before .before .before .before .before .before .before .before .sum2 .ensures)))
-
--- src/expressions.rt:90:1
-comparison-same-length-4 : (t : ℕ) → comparison-lts.Need-same-length-4 (
-  sum-below t,
-  sum.Post,
-  is-comparator-reads.Asked,
-  is-comparator-reads.Learnt,
-  next-reads.Asked,
-  next-reads.Learnt,
-  plain-reads.Asked,
-  plain-reads.Learnt,
-  put-reads.Asked,
-  put-reads.Learnt,
-) (comparison-at t) comparison.Post
-comparison-same-length-4 t c = c .before .before .put .kept .0 ∙ (c .before .before .before .before .before .before .before .before .before .before .sum2 .kept .1 .1 .1 .1 .1 .1 .0 ∙ c .before .before .before .before .before .before .before .before .before .before .before .before .before .before .before .before .before .before .before .before .sum .kept .1 .1 .1 .1 .1 .1 .0)
-
--- src/expressions.rt:90:1
-comparison-returns-4 : (t : ℕ) → comparison-lts.Need-returns-4 (
-  sum-below t,
-  sum.Post,
-  is-comparator-reads.Asked,
-  is-comparator-reads.Learnt,
-  next-reads.Asked,
-  next-reads.Learnt,
-  plain-reads.Asked,
-  plain-reads.Learnt,
-  put-reads.Asked,
-  put-reads.Learnt,
-) (comparison-at t) comparison.Post
-comparison-returns-4 t c = comparison-one (G.primary (wordsIn (c .before .before .before .before .before .before .before .before .before .before .before .before .before .before .before .before .before .before .before .before .before .before .before .before .before .before .before .args .reserved .now) (c .before .before .before .before .before .before .before .before .before .before .before .before .before .before .before .before .before .before .before .before .before .before .before .before .before .before .before .args .currencies .now) (c .before .before .before .before .before .before .before .before .before .before .before .before .before .before .before .before .before .before .before .before .before .before .before .before .before .before .before .args .counters .now)) (c .before .before .before .before .before .before .before .before .before .before .before .before .before .before .before .before .before .before .before .before .before .before .before .before .before .before .before .args .depth)) (sum-size (G.primary (wordsIn (c .before .before .before .before .before .before .before .before .before .before .before .before .before .before .before .before .before .before .before .before .before .before .before .before .before .before .before .args .reserved .now) (c .before .before .before .before .before .before .before .before .before .before .before .before .before .before .before .before .before .before .before .before .before .before .before .before .before .before .before .args .currencies .now) (c .before .before .before .before .before .before .before .before .before .before .before .before .before .before .before .before .before .before .before .before .before .before .before .before .before .before .before .args .counters .now)) (c .before .before .before .before .before .before .before .before .before .before .before .before .before .before .before .before .before .before .before .before .before .before .before .before .before .before .before .args .depth)) (primary-size (wordsIn (c .before .before .before .before .before .before .before .before .before .before .before .before .before .before .before .before .before .before .before .before .before .before .before .before .before .before .before .args .reserved .now) (c .before .before .before .before .before .before .before .before .before .before .before .before .before .before .before .before .before .before .before .before .before .before .before .before .before .before .before .args .currencies .now) (c .before .before .before .before .before .before .before .before .before .before .before .before .before .before .before .before .before .before .before .before .before .before .before .before .before .before .before .args .counters .now)) (c .before .before .before .before .before .before .before .before .before .before .before .before .before .before .before .before .before .before .before .before .before .before .before .before .before .before .before .args .depth))) (c .before .before .before .before .before .before .before .before .before .before .before .before .before .before .before .before .before .before .before .before .before .before .before .before .before .before .before .args .s .now) (c .before .before .before .before .before .before .before .before .before .before .before .before .before .before .before .before .before .before .before .before .before .before .before .before .before .before .before .args .c) (c .before .before .before .before .before .before .before .before .before .before .before .before .before .before .before .before .before .before .before .before .before .before .before .before .before .before .before .args .n) (c .before .before .before .before .before .before .before .before .before .before .before .before .before .before .before .before .before .before .before .before .before .before .before .before .before .before .before .args .out .now) (c .before .before .before .before .before .before .before .before .before .before .before .before .before .before .before .before .before .before .before .before .before .before .before .before .before .before .before .pre .1 .0 .1) _ _ _ _ (done-reads _ _ _ _ _ _ _ _ _ (c .before .before .before .before .before .before .before .before .before .before .before .before .before .before .before .before .r .given .1) (c .before .before .before .before .before .before .before .before .before .before .before .before .before .before .before .before .before .before .before .before .sum .ensures)) (sym (c .before .before .before .before .before .before .before .before .before .before .before .before .before .before .is-comparator .ensures) ∙ not-false _ (c .before .before .before .before .before .before .before .before .before .before .before .before .before .if1 .left)) (c .before .before .before .before .before .before .before .before .before .before .before .before .next .result) (c .before .before .before .before .before .before .before .before .before .before .before .before .next .ensures) _ _ _ _ (done-reads _ _ _ _ _ _ _ _ _ (c .before .before .before .before .before .before .q .given .1) (c .before .before .before .before .before .before .before .before .before .before .sum2 .ensures)) _ (put-plain _ _ _ _ _ _ _ (c .before .before .before .plain .ensures) (c .before .before .put .ensures))
+) (comparison-at t) comparison.Post comparison-Inv-loop comparison-μ-loop
+comparison-loop-again t c = (c .before .before .before .before .before .before .join .kept .0 ∙ (c .before .before .before .before .before .before .before .before .before .before .before .before .before .sum .kept .1 .1 .1 .1 .1 .1 .0 ∙ c .before .before .before .before .before .before .before .before .before .before .before .before .before .before .before .loop .inv .0), compare-next (G.primary (wordsIn (c .before .before .before .before .before .before .before .before .before .before .before .before .before .before .before .before .before .before .before .before .before .args .reserved .now) (c .before .before .before .before .before .before .before .before .before .before .before .before .before .before .before .before .before .before .before .before .before .args .currencies .now) (c .before .before .before .before .before .before .before .before .before .before .before .before .before .before .before .before .before .before .before .before .before .args .counters .now)) (c .before .before .before .before .before .before .before .before .before .before .before .before .before .before .before .before .before .before .before .before .before .args .depth)) (sum-size (G.primary (wordsIn (c .before .before .before .before .before .before .before .before .before .before .before .before .before .before .before .before .before .before .before .before .before .args .reserved .now) (c .before .before .before .before .before .before .before .before .before .before .before .before .before .before .before .before .before .before .before .before .before .args .currencies .now) (c .before .before .before .before .before .before .before .before .before .before .before .before .before .before .before .before .before .before .before .before .before .args .counters .now)) (c .before .before .before .before .before .before .before .before .before .before .before .before .before .before .before .before .before .before .before .before .before .args .depth)) (primary-size (wordsIn (c .before .before .before .before .before .before .before .before .before .before .before .before .before .before .before .before .before .before .before .before .before .args .reserved .now) (c .before .before .before .before .before .before .before .before .before .before .before .before .before .before .before .before .before .before .before .before .before .args .currencies .now) (c .before .before .before .before .before .before .before .before .before .before .before .before .before .before .before .before .before .before .before .before .before .args .counters .now)) (c .before .before .before .before .before .before .before .before .before .before .before .before .before .before .before .before .before .before .before .before .before .args .depth))) (c .before .before .before .before .before .before .before .before .before .before .before .before .before .before .before .before .before .before .before .before .before .args .s .now) (c .before .before .before .before .before .before .before .before .before .before .before .before .before .before .before .before .before .before .before .before .before .args .c) (c .before .before .before .before .before .before .before .before .before .before .before .before .before .before .before .before .before .before .before .before .before .args .n) (c .before .before .before .before .before .before .before .before .before .before .before .before .before .before .before .before .before .before .before .before .before .args .out .now) (c .before .before .before .before .before .before .before .before .before .before .before .before .before .before .before .before .before .before .before .before .before .pre .1 .0 .1) _ _ _ _ (c .before .before .before .before .before .before .before .before .before .before .before .before .before .before .before .loop .inv .1) _ _ _ _ (done-reads _ _ _ _ _ _ _ _ _ (c .before .before .before .before .before .before .before .before .before .r .given .1) (c .before .before .before .before .before .before .before .before .before .before .before .before .before .sum .ensures)) (c .before .before .before .before .before .before .join .result) _ (c .before .before .before .before .before .before .join .ensures) (c .before .before .before .if1 .left) (sym (c .before .before .is-comparator .ensures) ∙ not-false _ (c .before .if2 .left)) (c .next .result) (c .next .ensures))
 
 abbrev expression-Inv-loop : expression-lts.InvT-loop
-expression-Inv-loop s reserved currencies counters depth out₀ n n1 p1 at₀ m₀ p₀ out at m p = (length out ≡ length out₀) × ((R : Out Tree) (o : List ℕ) → Chain (λ u. isSign "and" u || isSign "or" u) (G.comparison (G.primary (wordsIn reserved currencies counters) depth)) s R n o at₀ m₀ p₀ out₀ → Chain (λ u. isSign "and" u || isSign "or" u) (G.comparison (G.primary (wordsIn reserved currencies counters) depth)) s R n o at m p out)
+expression-Inv-loop s reserved currencies counters depth out₀ n at₀ m₀ sign₀ out at m sign = (length out ≡ length out₀) × Pending (λ u. isSign "and" u || isSign "or" u) jointSign (G.comparison (G.primary (wordsIn reserved currencies counters) depth)) s (G.expression (G.primary (wordsIn reserved currencies counters) depth) (toksAt s (at₀ .start))) n out₀ sign at m out
 
 abbrev expression-μ-loop : expression-lts.MeasureT-loop
-expression-μ-loop s reserved currencies counters depth out₀ n n1 p1 at₀ m₀ p₀ out at m p = length (toksAt s (at .start))
+expression-μ-loop s reserved currencies counters depth out₀ n at₀ m₀ sign₀ out at m sign = length (toksAt s (at .start))
 
--- src/expressions.rt:65:9
-expression-comparison-requires : (t : ℕ) → expression-lts.Need-comparison-requires (
-  comparison-below t,
-  comparison.Post,
-  is-joint-reads.Asked,
-  is-joint-reads.Learnt,
-  next-reads.Asked,
-  next-reads.Learnt,
-  plain-reads.Asked,
-  plain-reads.Learnt,
-  put-reads.Asked,
-  put-reads.Learnt,
-) (expression-at t) expression.Post expression-Inv-loop expression-μ-loop
-expression-comparison-requires t c κs = search needs
-
--- src/expressions.rt:66:20
-expression-enum-known-r : (t : ℕ) → expression-lts.Need-enum-known-r (
-  comparison-below t,
-  comparison.Post,
-  is-joint-reads.Asked,
-  is-joint-reads.Learnt,
-  next-reads.Asked,
-  next-reads.Learnt,
-  plain-reads.Asked,
-  plain-reads.Learnt,
-  put-reads.Asked,
-  put-reads.Learnt,
-) (expression-at t) expression.Post expression-Inv-loop expression-μ-loop
-expression-enum-known-r t c = search needs
-
--- src/expressions.rt:67:9
-expression-enum-told : (t : ℕ) → expression-lts.Need-enum-told (
-  comparison-below t,
-  comparison.Post,
-  is-joint-reads.Asked,
-  is-joint-reads.Learnt,
-  next-reads.Asked,
-  next-reads.Learnt,
-  plain-reads.Asked,
-  plain-reads.Learnt,
-  put-reads.Asked,
-  put-reads.Learnt,
-) (expression-at t) expression.Post expression-Inv-loop expression-μ-loop
-expression-enum-told t c = search needs
-
--- src/expressions.rt:67:9
-expression-same-length : (t : ℕ) → expression-lts.Need-same-length (
-  comparison-below t,
-  comparison.Post,
-  is-joint-reads.Asked,
-  is-joint-reads.Learnt,
-  next-reads.Asked,
-  next-reads.Learnt,
-  plain-reads.Asked,
-  plain-reads.Learnt,
-  put-reads.Asked,
-  put-reads.Learnt,
-) (expression-at t) expression.Post expression-Inv-loop expression-μ-loop
-expression-same-length t c = search needs
-
--- src/expressions.rt:67:9
-expression-returns : (t : ℕ) → expression-lts.Need-returns (
-  comparison-below t,
-  comparison.Post,
-  is-joint-reads.Asked,
-  is-joint-reads.Learnt,
-  next-reads.Asked,
-  next-reads.Learnt,
-  plain-reads.Asked,
-  plain-reads.Learnt,
-  put-reads.Asked,
-  put-reads.Learnt,
-) (expression-at t) expression.Post expression-Inv-loop expression-μ-loop
-unfolding G.expression
-expression-returns t c = refused-on _ _ _ _ _ _ _ _ _ _ _ _ (c .enum-told .given .1) (c .before .before .before .before .comparison .ensures) (chain-refused (joint-level (wordsIn (c .before .before .before .before .before .before .before .before .before .before .before .args .reserved .now) (c .before .before .before .before .before .before .before .before .before .before .before .args .currencies .now) (c .before .before .before .before .before .before .before .before .before .before .before .args .counters .now)) (c .before .before .before .before .before .before .before .before .before .before .before .args .depth)) (c .before .before .before .before .before .before .before .before .before .before .before .args .s .now) (c .before .before .before .before .before .before .before .before .before .before .before .args .c) _ _)
-
--- src/expressions.rt:72:5
+-- src/expressions.rt:69:5
 expression-loop-holds : (t : ℕ) → expression-lts.Need-loop-holds (
   comparison-below t,
   comparison.Post,
+  join-reads.Asked,
+  join-reads.Learnt,
   is-joint-reads.Asked,
   is-joint-reads.Learnt,
   next-reads.Asked,
   next-reads.Learnt,
-  plain-reads.Asked,
-  plain-reads.Learnt,
-  put-reads.Asked,
-  put-reads.Learnt,
 ) (expression-at t) expression.Post expression-Inv-loop expression-μ-loop
-expression-loop-holds t c = (refl, λ R o h. h)
+unfolding G.expression
+expression-loop-holds t c = (refl, pend-first (joint-level (wordsIn (c .before .before .before .before .before .args .reserved .now) (c .before .before .before .before .before .args .currencies .now) (c .before .before .before .before .before .args .counters .now)) (c .before .before .before .before .before .args .depth)) (c .before .before .before .before .before .args .s .now) (c .before .before .before .before .before .args .c) (c .before .before .before .before .before .args .n) (c .before .before .before .before .before .args .out .now) (c .before .before .before .before .before .pre .1 .0))
 
-expression-chain : (t : ℕ) (c : expression-lts.At-loop (
+-- src/expressions.rt:70:13
+expression-comparison-requires : (t : ℕ) → expression-lts.Need-comparison-requires (
   comparison-below t,
   comparison.Post,
+  join-reads.Asked,
+  join-reads.Learnt,
   is-joint-reads.Asked,
   is-joint-reads.Learnt,
   next-reads.Asked,
   next-reads.Learnt,
-  plain-reads.Asked,
-  plain-reads.Learnt,
-  put-reads.Asked,
-  put-reads.Learnt,
-) (expression-at t) expression.Post expression-Inv-loop expression-μ-loop) → Chain (λ u. isSign "and" u || isSign "or" u) (G.comparison (G.primary (wordsIn (c .before .before .before .before .before .before .before .before .before .before .before .before .before .args .reserved .now) (c .before .before .before .before .before .before .before .before .before .before .before .before .before .args .currencies .now) (c .before .before .before .before .before .before .before .before .before .before .before .before .before .args .counters .now)) (c .before .before .before .before .before .before .before .before .before .before .before .before .before .args .depth))) (c .before .before .before .before .before .before .before .before .before .before .before .before .before .args .s .now) (G.expression (G.primary (wordsIn (c .before .before .before .before .before .before .before .before .before .before .before .before .before .args .reserved .now) (c .before .before .before .before .before .before .before .before .before .before .before .before .before .args .currencies .now) (c .before .before .before .before .before .before .before .before .before .before .before .before .before .args .counters .now)) (c .before .before .before .before .before .before .before .before .before .before .before .before .before .args .depth)) (toksAt (c .before .before .before .before .before .before .before .before .before .before .before .before .before .args .s .now) (c .before .before .before .before .before .before .before .before .before .before .before .before .before .args .c .start))) (c .before .before .before .before .before .before .before .before .before .before .before .before .before .args .n) (c .before .before .before .before .before .before .before .before .before .before .before .before .before .args .out .now) (c .loop .at) (c .loop .m) (c .loop .p) (c .loop .out)
-unfolding G.expression
-expression-chain t c =
-    c .loop .inv .1 _ _ (chain-enter (joint-level (wordsIn (c .before .before .before .before .before .before .before .before .before .before .before .before .before .args .reserved .now) (c .before .before .before .before .before .before .before .before .before .before .before .before .before .args .currencies .now) (c .before .before .before .before .before .before .before .before .before .before .before .before .before .args .counters .now)) (c .before .before .before .before .before .before .before .before .before .before .before .before .before .args .depth)) (c .before .before .before .before .before .before .before .before .before .before .before .before .before .args .s .now) (c .before .before .before .before .before .before .before .before .before .before .before .before .before .args .c) _ _ _ _ _ _ (c .before .before .before .before .before .before .before .before .before .before .before .before .before .pre .1 .0 .1) (done-reads _ _ _ _ _ _ _ _ _ (c .before .before .r .given .1) (c .before .before .before .before .before .before .comparison .ensures)))
+) (expression-at t) expression.Post expression-Inv-loop expression-μ-loop
+expression-comparison-requires t c κs = (omega (arith, c .before .before .before .before .before .before .before .pre .0), (pend-ready (joint-level (wordsIn (c .before .before .before .before .before .before .before .args .reserved .now) (c .before .before .before .before .before .before .before .args .currencies .now) (c .before .before .before .before .before .before .before .args .counters .now)) (c .before .before .before .before .before .before .before .args .depth)) (c .before .before .before .before .before .before .before .args .s .now) _ _ _ _ _ _ _ (c .before .loop .inv .1), c .before .before .before .before .before .before .before .pre .1 .1))
+
+-- src/expressions.rt:71:24
+expression-enum-known-r : (t : ℕ) → expression-lts.Need-enum-known-r (
+  comparison-below t,
+  comparison.Post,
+  join-reads.Asked,
+  join-reads.Learnt,
+  is-joint-reads.Asked,
+  is-joint-reads.Learnt,
+  next-reads.Asked,
+  next-reads.Learnt,
+) (expression-at t) expression.Post expression-Inv-loop expression-μ-loop
+expression-enum-known-r t c = search needs
+
+-- src/expressions.rt:72:13
+expression-enum-told : (t : ℕ) → expression-lts.Need-enum-told (
+  comparison-below t,
+  comparison.Post,
+  join-reads.Asked,
+  join-reads.Learnt,
+  is-joint-reads.Asked,
+  is-joint-reads.Learnt,
+  next-reads.Asked,
+  next-reads.Learnt,
+) (expression-at t) expression.Post expression-Inv-loop expression-μ-loop
+expression-enum-told t c = search needs
+
+-- src/expressions.rt:72:13
+expression-same-length : (t : ℕ) → expression-lts.Need-same-length (
+  comparison-below t,
+  comparison.Post,
+  join-reads.Asked,
+  join-reads.Learnt,
+  is-joint-reads.Asked,
+  is-joint-reads.Learnt,
+  next-reads.Asked,
+  next-reads.Learnt,
+) (expression-at t) expression.Post expression-Inv-loop expression-μ-loop
+expression-same-length t c = c .before .before .before .before .comparison .kept .1 .1 .1 .1 .1 .1 .0 ∙ c .before .before .before .before .before .before .loop .inv .0
+
+-- src/expressions.rt:72:13
+expression-returns : (t : ℕ) → expression-lts.Need-returns (
+  comparison-below t,
+  comparison.Post,
+  join-reads.Asked,
+  join-reads.Learnt,
+  is-joint-reads.Asked,
+  is-joint-reads.Learnt,
+  next-reads.Asked,
+  next-reads.Learnt,
+) (expression-at t) expression.Post expression-Inv-loop expression-μ-loop
+expression-returns t c = refused-on _ _ _ _ _ _ _ _ _ _ _ _ (c .enum-told .given .1) (c .before .before .before .before .comparison .ensures) (pend-refused (joint-level (wordsIn (c .before .before .before .before .before .before .before .before .before .before .before .before .args .reserved .now) (c .before .before .before .before .before .before .before .before .before .before .before .before .args .currencies .now) (c .before .before .before .before .before .before .before .before .before .before .before .before .args .counters .now)) (c .before .before .before .before .before .before .before .before .before .before .before .before .args .depth)) (c .before .before .before .before .before .before .before .before .before .before .before .before .args .s .now) _ _ _ _ _ _ _ (c .before .before .before .before .before .before .loop .inv .1) _ _)
 
 -- src/expressions.rt:74:13
+expression-join-requires : (t : ℕ) → expression-lts.Need-join-requires (
+  comparison-below t,
+  comparison.Post,
+  join-reads.Asked,
+  join-reads.Learnt,
+  is-joint-reads.Asked,
+  is-joint-reads.Learnt,
+  next-reads.Asked,
+  next-reads.Learnt,
+) (expression-at t) expression.Post expression-Inv-loop expression-μ-loop
+expression-join-requires t c κs = pend-numbers (joint-level (wordsIn (c .before .before .before .before .before .before .before .before .before .before .before .before .before .before .args .reserved .now) (c .before .before .before .before .before .before .before .before .before .before .before .before .before .before .args .currencies .now) (c .before .before .before .before .before .before .before .before .before .before .before .before .before .before .args .counters .now)) (c .before .before .before .before .before .before .before .before .before .before .before .before .before .before .args .depth)) (c .before .before .before .before .before .before .before .before .before .before .before .before .before .before .args .s .now) _ _ _ _ _ _ _ (c .before .before .before .before .before .before .before .before .loop .inv .1) _ _ _ _ (done-reads _ _ _ _ _ _ _ _ _ (c .before .before .r .given .1) (c .before .before .before .before .before .before .comparison .ensures))
+
+-- src/expressions.rt:76:13
 expression-is-joint-requires : (t : ℕ) → expression-lts.Need-is-joint-requires (
   comparison-below t,
   comparison.Post,
+  join-reads.Asked,
+  join-reads.Learnt,
   is-joint-reads.Asked,
   is-joint-reads.Learnt,
   next-reads.Asked,
   next-reads.Learnt,
-  plain-reads.Asked,
-  plain-reads.Learnt,
-  put-reads.Asked,
-  put-reads.Learnt,
 ) (expression-at t) expression.Post expression-Inv-loop expression-μ-loop
 expression-is-joint-requires t c κs = search needs
 
--- src/expressions.rt:75:13
+-- src/expressions.rt:77:13
 expression-same-length-2 : (t : ℕ) → expression-lts.Need-same-length-2 (
   comparison-below t,
   comparison.Post,
+  join-reads.Asked,
+  join-reads.Learnt,
   is-joint-reads.Asked,
   is-joint-reads.Learnt,
   next-reads.Asked,
   next-reads.Learnt,
-  plain-reads.Asked,
-  plain-reads.Learnt,
-  put-reads.Asked,
-  put-reads.Learnt,
 ) (expression-at t) expression.Post expression-Inv-loop expression-μ-loop
-expression-same-length-2 t c = c .before .before .loop .inv .0 ∙ c .before .before .before .before .before .before .before .before .comparison .kept .1 .1 .1 .1 .1 .1 .0
+expression-same-length-2 t c = c .before .before .before .before .join .kept .0 ∙ (c .before .before .before .before .before .before .before .before .before .before .before .comparison .kept .1 .1 .1 .1 .1 .1 .0 ∙ c .before .before .before .before .before .before .before .before .before .before .before .before .before .loop .inv .0)
 
--- src/expressions.rt:75:13
+-- src/expressions.rt:77:13
 expression-returns-2 : (t : ℕ) → expression-lts.Need-returns-2 (
   comparison-below t,
   comparison.Post,
+  join-reads.Asked,
+  join-reads.Learnt,
   is-joint-reads.Asked,
   is-joint-reads.Learnt,
   next-reads.Asked,
   next-reads.Learnt,
-  plain-reads.Asked,
-  plain-reads.Learnt,
-  put-reads.Asked,
-  put-reads.Learnt,
 ) (expression-at t) expression.Post expression-Inv-loop expression-μ-loop
-expression-returns-2 t c = chain-exit (joint-level (wordsIn (c .before .before .before .before .before .before .before .before .before .before .before .before .before .before .before .args .reserved .now) (c .before .before .before .before .before .before .before .before .before .before .before .before .before .before .before .args .currencies .now) (c .before .before .before .before .before .before .before .before .before .before .before .before .before .before .before .args .counters .now)) (c .before .before .before .before .before .before .before .before .before .before .before .before .before .before .before .args .depth)) (c .before .before .before .before .before .before .before .before .before .before .before .before .before .before .before .args .s .now) _ _ _ _ _ _ _ (expression-chain t (c .before .before)) (sym (c .before .is-joint .ensures) ∙ not-true _ (c .if1 .taken))
+expression-returns-2 t c = chain-exit (joint-level (wordsIn (c .before .before .before .before .before .before .before .before .before .before .before .before .before .before .before .before .before .before .before .args .reserved .now) (c .before .before .before .before .before .before .before .before .before .before .before .before .before .before .before .before .before .before .before .args .currencies .now) (c .before .before .before .before .before .before .before .before .before .before .before .before .before .before .before .before .before .before .before .args .counters .now)) (c .before .before .before .before .before .before .before .before .before .before .before .before .before .before .before .before .before .before .before .args .depth)) (c .before .before .before .before .before .before .before .before .before .before .before .before .before .before .before .before .before .before .before .args .s .now) _ _ _ _ _ _ _ (pend-chain (joint-level (wordsIn (c .before .before .before .before .before .before .before .before .before .before .before .before .before .before .before .before .before .before .before .args .reserved .now) (c .before .before .before .before .before .before .before .before .before .before .before .before .before .before .before .before .before .before .before .args .currencies .now) (c .before .before .before .before .before .before .before .before .before .before .before .before .before .before .before .before .before .before .before .args .counters .now)) (c .before .before .before .before .before .before .before .before .before .before .before .before .before .before .before .before .before .before .before .args .depth)) (c .before .before .before .before .before .before .before .before .before .before .before .before .before .before .before .before .before .before .before .args .s .now) _ _ _ _ _ _ _ (c .before .before .before .before .before .before .before .before .before .before .before .before .before .loop .inv .1) _ _ _ _ (done-reads _ _ _ _ _ _ _ _ _ (c .before .before .before .before .before .before .before .r .given .1) (c .before .before .before .before .before .before .before .before .before .before .before .comparison .ensures)) (c .before .before .before .before .join .result) _ (c .before .before .before .before .join .ensures)) (sym (c .before .is-joint .ensures) ∙ not-true _ (c .if1 .taken))
 
--- src/expressions.rt:77:13
+-- src/expressions.rt:79:9
 expression-next-requires : (t : ℕ) → expression-lts.Need-next-requires (
   comparison-below t,
   comparison.Post,
+  join-reads.Asked,
+  join-reads.Learnt,
   is-joint-reads.Asked,
   is-joint-reads.Learnt,
   next-reads.Asked,
   next-reads.Learnt,
-  plain-reads.Asked,
-  plain-reads.Learnt,
-  put-reads.Asked,
-  put-reads.Learnt,
 ) (expression-at t) expression.Post expression-Inv-loop expression-μ-loop
-expression-next-requires t c κs = (expression-chain t (c .before .before)) .holds
+expression-next-requires t c κs = (pend-chain (joint-level (wordsIn (c .before .before .before .before .before .before .before .before .before .before .before .before .before .before .before .before .before .before .before .args .reserved .now) (c .before .before .before .before .before .before .before .before .before .before .before .before .before .before .before .before .before .before .before .args .currencies .now) (c .before .before .before .before .before .before .before .before .before .before .before .before .before .before .before .before .before .before .before .args .counters .now)) (c .before .before .before .before .before .before .before .before .before .before .before .before .before .before .before .before .before .before .before .args .depth)) (c .before .before .before .before .before .before .before .before .before .before .before .before .before .before .before .before .before .before .before .args .s .now) _ _ _ _ _ _ _ (c .before .before .before .before .before .before .before .before .before .before .before .before .before .loop .inv .1) _ _ _ _ (done-reads _ _ _ _ _ _ _ _ _ (c .before .before .before .before .before .before .before .r .given .1) (c .before .before .before .before .before .before .before .before .before .before .before .comparison .ensures)) (c .before .before .before .before .join .result) _ (c .before .before .before .before .join .ensures)) .holds
 
--- src/expressions.rt:78:13
-expression-comparison-requires-2 : (t : ℕ) → expression-lts.Need-comparison-requires-2 (
-  comparison-below t,
-  comparison.Post,
-  is-joint-reads.Asked,
-  is-joint-reads.Learnt,
-  next-reads.Asked,
-  next-reads.Learnt,
-  plain-reads.Asked,
-  plain-reads.Learnt,
-  put-reads.Asked,
-  put-reads.Learnt,
-) (expression-at t) expression.Post expression-Inv-loop expression-μ-loop
-expression-comparison-requires-2 t c κs = (omega (arith, c .before .before .before .before .before .before .before .before .before .before .before .before .before .before .before .before .before .pre .0), (sign-ready (joint-level (wordsIn (c .before .before .before .before .before .before .before .before .before .before .before .before .before .before .before .before .before .args .reserved .now) (c .before .before .before .before .before .before .before .before .before .before .before .before .before .before .before .before .before .args .currencies .now) (c .before .before .before .before .before .before .before .before .before .before .before .before .before .before .before .before .before .args .counters .now)) (c .before .before .before .before .before .before .before .before .before .before .before .before .before .before .before .before .before .args .depth)) (c .before .before .before .before .before .before .before .before .before .before .before .before .before .before .before .before .before .args .s .now) _ _ _ _ _ _ _ (expression-chain t (c .before .before .before .before)) (sym (c .before .before .before .is-joint .ensures) ∙ not-false _ (c .before .before .if1 .left)) (c .before .next .result) (c .before .next .ensures), c .before .before .before .before .before .before .before .before .before .before .before .before .before .before .before .before .before .pre .1 .1))
-
--- src/expressions.rt:79:24
-expression-enum-known-q : (t : ℕ) → expression-lts.Need-enum-known-q (
-  comparison-below t,
-  comparison.Post,
-  is-joint-reads.Asked,
-  is-joint-reads.Learnt,
-  next-reads.Asked,
-  next-reads.Learnt,
-  plain-reads.Asked,
-  plain-reads.Learnt,
-  put-reads.Asked,
-  put-reads.Learnt,
-) (expression-at t) expression.Post expression-Inv-loop expression-μ-loop
-expression-enum-known-q t c = search needs
-
--- src/expressions.rt:80:13
-expression-enum-told-2 : (t : ℕ) → expression-lts.Need-enum-told-2 (
-  comparison-below t,
-  comparison.Post,
-  is-joint-reads.Asked,
-  is-joint-reads.Learnt,
-  next-reads.Asked,
-  next-reads.Learnt,
-  plain-reads.Asked,
-  plain-reads.Learnt,
-  put-reads.Asked,
-  put-reads.Learnt,
-) (expression-at t) expression.Post expression-Inv-loop expression-μ-loop
-expression-enum-told-2 t c = search needs
-
--- src/expressions.rt:80:13
-expression-same-length-3 : (t : ℕ) → expression-lts.Need-same-length-3 (
-  comparison-below t,
-  comparison.Post,
-  is-joint-reads.Asked,
-  is-joint-reads.Learnt,
-  next-reads.Asked,
-  next-reads.Learnt,
-  plain-reads.Asked,
-  plain-reads.Learnt,
-  put-reads.Asked,
-  put-reads.Learnt,
-) (expression-at t) expression.Post expression-Inv-loop expression-μ-loop
-expression-same-length-3 t c = c .before .before .before .before .comparison2 .kept .1 .1 .1 .1 .1 .1 .0 ∙ (c .before .before .before .before .before .before .before .before .before .loop .inv .0 ∙ c .before .before .before .before .before .before .before .before .before .before .before .before .before .before .before .comparison .kept .1 .1 .1 .1 .1 .1 .0)
-
--- src/expressions.rt:80:13
-expression-returns-3 : (t : ℕ) → expression-lts.Need-returns-3 (
-  comparison-below t,
-  comparison.Post,
-  is-joint-reads.Asked,
-  is-joint-reads.Learnt,
-  next-reads.Asked,
-  next-reads.Learnt,
-  plain-reads.Asked,
-  plain-reads.Learnt,
-  put-reads.Asked,
-  put-reads.Learnt,
-) (expression-at t) expression.Post expression-Inv-loop expression-μ-loop
-expression-returns-3 t c = refused-on _ _ _ _ _ _ _ _ _ _ _ _ (c .enum-told2 .given .1) (c .before .before .before .before .comparison2 .ensures) (sign-refused (joint-level (wordsIn (c .before .before .before .before .before .before .before .before .before .before .before .before .before .before .before .before .before .before .before .before .before .before .args .reserved .now) (c .before .before .before .before .before .before .before .before .before .before .before .before .before .before .before .before .before .before .before .before .before .before .args .currencies .now) (c .before .before .before .before .before .before .before .before .before .before .before .before .before .before .before .before .before .before .before .before .before .before .args .counters .now)) (c .before .before .before .before .before .before .before .before .before .before .before .before .before .before .before .before .before .before .before .before .before .before .args .depth)) (c .before .before .before .before .before .before .before .before .before .before .before .before .before .before .before .before .before .before .before .before .before .before .args .s .now) _ _ _ _ _ _ _ (expression-chain t (c .before .before .before .before .before .before .before .before .before)) (sym (c .before .before .before .before .before .before .before .before .is-joint .ensures) ∙ not-false _ (c .before .before .before .before .before .before .before .if1 .left)) (c .before .before .before .before .before .before .next .result) (c .before .before .before .before .before .before .next .ensures) _ _)
-
--- src/expressions.rt:82:34
-expression-sub-plain : (t : ℕ) → expression-lts.Need-sub-plain (
-  comparison-below t,
-  comparison.Post,
-  is-joint-reads.Asked,
-  is-joint-reads.Learnt,
-  next-reads.Asked,
-  next-reads.Learnt,
-  plain-reads.Asked,
-  plain-reads.Learnt,
-  put-reads.Asked,
-  put-reads.Learnt,
-) (expression-at t) expression.Post expression-Inv-loop expression-μ-loop
-expression-sub-plain t c = omega (arith, sign-numbers (joint-level (wordsIn (c .before .before .before .before .before .before .before .before .before .before .before .before .before .before .before .before .before .before .before .before .before .before .before .before .args .reserved .now) (c .before .before .before .before .before .before .before .before .before .before .before .before .before .before .before .before .before .before .before .before .before .before .before .before .args .currencies .now) (c .before .before .before .before .before .before .before .before .before .before .before .before .before .before .before .before .before .before .before .before .before .before .before .before .args .counters .now)) (c .before .before .before .before .before .before .before .before .before .before .before .before .before .before .before .before .before .before .before .before .before .before .before .before .args .depth)) (c .before .before .before .before .before .before .before .before .before .before .before .before .before .before .before .before .before .before .before .before .before .before .before .before .args .s .now) _ _ _ _ _ _ _ (expression-chain t (c .before .before .before .before .before .before .before .before .before .before .before)) (sym (c .before .before .before .before .before .before .before .before .before .before .is-joint .ensures) ∙ not-false _ (c .before .before .before .before .before .before .before .before .before .if1 .left)) (c .before .before .before .before .before .before .before .before .next .result) (c .before .before .before .before .before .before .before .before .next .ensures) _ _ _ _ (done-reads _ _ _ _ _ _ _ _ _ (c .before .before .q .given .1) (c .before .before .before .before .before .before .comparison2 .ensures)))
-
--- src/expressions.rt:82:34
-expression-add-plain : (t : ℕ) → expression-lts.Need-add-plain (
-  comparison-below t,
-  comparison.Post,
-  is-joint-reads.Asked,
-  is-joint-reads.Learnt,
-  next-reads.Asked,
-  next-reads.Learnt,
-  plain-reads.Asked,
-  plain-reads.Learnt,
-  put-reads.Asked,
-  put-reads.Learnt,
-) (expression-at t) expression.Post expression-Inv-loop expression-μ-loop
-expression-add-plain t c = omega (arith, sign-numbers (joint-level (wordsIn (c .before .before .before .before .before .before .before .before .before .before .before .before .before .before .before .before .before .before .before .before .before .before .before .before .args .reserved .now) (c .before .before .before .before .before .before .before .before .before .before .before .before .before .before .before .before .before .before .before .before .before .before .before .before .args .currencies .now) (c .before .before .before .before .before .before .before .before .before .before .before .before .before .before .before .before .before .before .before .before .before .before .before .before .args .counters .now)) (c .before .before .before .before .before .before .before .before .before .before .before .before .before .before .before .before .before .before .before .before .before .before .before .before .args .depth)) (c .before .before .before .before .before .before .before .before .before .before .before .before .before .before .before .before .before .before .before .before .before .before .before .before .args .s .now) _ _ _ _ _ _ _ (expression-chain t (c .before .before .before .before .before .before .before .before .before .before .before)) (sym (c .before .before .before .before .before .before .before .before .before .before .is-joint .ensures) ∙ not-false _ (c .before .before .before .before .before .before .before .before .before .if1 .left)) (c .before .before .before .before .before .before .before .before .next .result) (c .before .before .before .before .before .before .before .before .next .ensures) _ _ _ _ (done-reads _ _ _ _ _ _ _ _ _ (c .before .before .q .given .1) (c .before .before .before .before .before .before .comparison2 .ensures)))
-
--- src/expressions.rt:82:22
-expression-plain-requires : (t : ℕ) → expression-lts.Need-plain-requires (
-  comparison-below t,
-  comparison.Post,
-  is-joint-reads.Asked,
-  is-joint-reads.Learnt,
-  next-reads.Asked,
-  next-reads.Learnt,
-  plain-reads.Asked,
-  plain-reads.Learnt,
-  put-reads.Asked,
-  put-reads.Learnt,
-) (expression-at t) expression.Post expression-Inv-loop expression-μ-loop
-expression-plain-requires t c κs = search needs
-
--- src/expressions.rt:82:9
-expression-put-requires : (t : ℕ) → expression-lts.Need-put-requires (
-  comparison-below t,
-  comparison.Post,
-  is-joint-reads.Asked,
-  is-joint-reads.Learnt,
-  next-reads.Asked,
-  next-reads.Learnt,
-  plain-reads.Asked,
-  plain-reads.Learnt,
-  put-reads.Asked,
-  put-reads.Learnt,
-) (expression-at t) expression.Post expression-Inv-loop expression-μ-loop
-expression-put-requires t c κs = search needs
-
--- src/expressions.rt:84:13
-expression-add-m : (t : ℕ) → expression-lts.Need-add-m (
-  comparison-below t,
-  comparison.Post,
-  is-joint-reads.Asked,
-  is-joint-reads.Learnt,
-  next-reads.Asked,
-  next-reads.Learnt,
-  plain-reads.Asked,
-  plain-reads.Learnt,
-  put-reads.Asked,
-  put-reads.Learnt,
-) (expression-at t) expression.Post expression-Inv-loop expression-μ-loop
-expression-add-m t c = omega (arith, sign-numbers (joint-level (wordsIn (c .before .before .before .before .before .before .before .before .before .before .before .before .before .before .before .before .before .before .before .before .before .before .before .before .before .before .before .before .args .reserved .now) (c .before .before .before .before .before .before .before .before .before .before .before .before .before .before .before .before .before .before .before .before .before .before .before .before .before .before .before .before .args .currencies .now) (c .before .before .before .before .before .before .before .before .before .before .before .before .before .before .before .before .before .before .before .before .before .before .before .before .before .before .before .before .args .counters .now)) (c .before .before .before .before .before .before .before .before .before .before .before .before .before .before .before .before .before .before .before .before .before .before .before .before .before .before .before .before .args .depth)) (c .before .before .before .before .before .before .before .before .before .before .before .before .before .before .before .before .before .before .before .before .before .before .before .before .before .before .before .before .args .s .now) _ _ _ _ _ _ _ (expression-chain t (c .before .before .before .before .before .before .before .before .before .before .before .before .before .before .before)) (sym (c .before .before .before .before .before .before .before .before .before .before .before .before .before .before .is-joint .ensures) ∙ not-false _ (c .before .before .before .before .before .before .before .before .before .before .before .before .before .if1 .left)) (c .before .before .before .before .before .before .before .before .before .before .before .before .next .result) (c .before .before .before .before .before .before .before .before .before .before .before .before .next .ensures) _ _ _ _ (done-reads _ _ _ _ _ _ _ _ _ (c .before .before .before .before .before .before .q .given .1) (c .before .before .before .before .before .before .before .before .before .before .comparison2 .ensures)))
-
--- src/expressions.rt:72:5
+-- src/expressions.rt:69:5
 expression-loop-less : (t : ℕ) → expression-lts.Need-loop-less (
   comparison-below t,
   comparison.Post,
+  join-reads.Asked,
+  join-reads.Learnt,
   is-joint-reads.Asked,
   is-joint-reads.Learnt,
   next-reads.Asked,
   next-reads.Learnt,
-  plain-reads.Asked,
-  plain-reads.Learnt,
-  put-reads.Asked,
-  put-reads.Learnt,
 ) (expression-at t) expression.Post expression-Inv-loop expression-μ-loop
-expression-loop-less t c = sign-less (joint-level (wordsIn (c .before .before .before .before .before .before .before .before .before .before .before .before .before .before .before .before .before .before .before .before .before .before .before .before .before .before .before .before .args .reserved .now) (c .before .before .before .before .before .before .before .before .before .before .before .before .before .before .before .before .before .before .before .before .before .before .before .before .before .before .before .before .args .currencies .now) (c .before .before .before .before .before .before .before .before .before .before .before .before .before .before .before .before .before .before .before .before .before .before .before .before .before .before .before .before .args .counters .now)) (c .before .before .before .before .before .before .before .before .before .before .before .before .before .before .before .before .before .before .before .before .before .before .before .before .before .before .before .before .args .depth)) (c .before .before .before .before .before .before .before .before .before .before .before .before .before .before .before .before .before .before .before .before .before .before .before .before .before .before .before .before .args .s .now) _ _ _ _ _ _ _ (expression-chain t (c .before .before .before .before .before .before .before .before .before .before .before .before .before .before .before)) (sym (c .before .before .before .before .before .before .before .before .before .before .before .before .before .before .is-joint .ensures) ∙ not-false _ (c .before .before .before .before .before .before .before .before .before .before .before .before .before .if1 .left)) (c .before .before .before .before .before .before .before .before .before .before .before .before .next .result) (c .before .before .before .before .before .before .before .before .before .before .before .before .next .ensures) _ _ _ _ (done-reads _ _ _ _ _ _ _ _ _ (c .before .before .before .before .before .before .q .given .1) (c .before .before .before .before .before .before .before .before .before .before .comparison2 .ensures))
+expression-loop-less t c = pend-less (joint-level (wordsIn (c .before .before .before .before .before .before .before .before .before .before .before .before .before .before .before .before .before .before .before .before .args .reserved .now) (c .before .before .before .before .before .before .before .before .before .before .before .before .before .before .before .before .before .before .before .before .args .currencies .now) (c .before .before .before .before .before .before .before .before .before .before .before .before .before .before .before .before .before .before .before .before .args .counters .now)) (c .before .before .before .before .before .before .before .before .before .before .before .before .before .before .before .before .before .before .before .before .args .depth)) (c .before .before .before .before .before .before .before .before .before .before .before .before .before .before .before .before .before .before .before .before .args .s .now) _ _ _ _ _ _ _ (c .before .before .before .before .before .before .before .before .before .before .before .before .before .before .loop .inv .1) _ _ _ _ (done-reads _ _ _ _ _ _ _ _ _ (c .before .before .before .before .before .before .before .before .r .given .1) (c .before .before .before .before .before .before .before .before .before .before .before .before .comparison .ensures)) (sym (c .before .before .is-joint .ensures) ∙ not-false _ (c .before .if1 .left)) (c .next .result) (c .next .ensures)
 
--- src/expressions.rt:72:5
+-- src/expressions.rt:69:5
 expression-loop-again : (t : ℕ) → expression-lts.Need-loop-again (
   comparison-below t,
   comparison.Post,
+  join-reads.Asked,
+  join-reads.Learnt,
   is-joint-reads.Asked,
   is-joint-reads.Learnt,
   next-reads.Asked,
   next-reads.Learnt,
-  plain-reads.Asked,
-  plain-reads.Learnt,
-  put-reads.Asked,
-  put-reads.Learnt,
 ) (expression-at t) expression.Post expression-Inv-loop expression-μ-loop
-expression-loop-again t c = (c .before .before .put .kept .0 ∙ (c .before .before .before .before .before .before .before .before .before .before .comparison2 .kept .1 .1 .1 .1 .1 .1 .0 ∙ c .before .before .before .before .before .before .before .before .before .before .before .before .before .before .before .loop .inv .0), λ R o h. sign-more (joint-level (wordsIn (c .before .before .before .before .before .before .before .before .before .before .before .before .before .before .before .before .before .before .before .before .before .before .before .before .before .before .before .before .args .reserved .now) (c .before .before .before .before .before .before .before .before .before .before .before .before .before .before .before .before .before .before .before .before .before .before .before .before .before .before .before .before .args .currencies .now) (c .before .before .before .before .before .before .before .before .before .before .before .before .before .before .before .before .before .before .before .before .before .before .before .before .before .before .before .before .args .counters .now)) (c .before .before .before .before .before .before .before .before .before .before .before .before .before .before .before .before .before .before .before .before .before .before .before .before .before .before .before .before .args .depth)) (c .before .before .before .before .before .before .before .before .before .before .before .before .before .before .before .before .before .before .before .before .before .before .before .before .before .before .before .before .args .s .now) _ _ _ _ _ _ _ (c .before .before .before .before .before .before .before .before .before .before .before .before .before .before .before .loop .inv .1 R o h) (sym (c .before .before .before .before .before .before .before .before .before .before .before .before .before .before .is-joint .ensures) ∙ not-false _ (c .before .before .before .before .before .before .before .before .before .before .before .before .before .if1 .left)) (c .before .before .before .before .before .before .before .before .before .before .before .before .next .result) (c .before .before .before .before .before .before .before .before .before .before .before .before .next .ensures) _ _ _ _ (done-reads _ _ _ _ _ _ _ _ _ (c .before .before .before .before .before .before .q .given .1) (c .before .before .before .before .before .before .before .before .before .before .comparison2 .ensures)) _ (put-plain _ _ _ _ _ _ _ (c .before .before .before .plain .ensures) (c .before .before .put .ensures)))
+expression-loop-again t c = (c .before .before .before .before .before .join .kept .0 ∙ (c .before .before .before .before .before .before .before .before .before .before .before .before .comparison .kept .1 .1 .1 .1 .1 .1 .0 ∙ c .before .before .before .before .before .before .before .before .before .before .before .before .before .before .loop .inv .0), pend-next (joint-level (wordsIn (c .before .before .before .before .before .before .before .before .before .before .before .before .before .before .before .before .before .before .before .before .args .reserved .now) (c .before .before .before .before .before .before .before .before .before .before .before .before .before .before .before .before .before .before .before .before .args .currencies .now) (c .before .before .before .before .before .before .before .before .before .before .before .before .before .before .before .before .before .before .before .before .args .counters .now)) (c .before .before .before .before .before .before .before .before .before .before .before .before .before .before .before .before .before .before .before .before .args .depth)) (c .before .before .before .before .before .before .before .before .before .before .before .before .before .before .before .before .before .before .before .before .args .s .now) _ _ _ _ _ _ _ (pend-chain (joint-level (wordsIn (c .before .before .before .before .before .before .before .before .before .before .before .before .before .before .before .before .before .before .before .before .args .reserved .now) (c .before .before .before .before .before .before .before .before .before .before .before .before .before .before .before .before .before .before .before .before .args .currencies .now) (c .before .before .before .before .before .before .before .before .before .before .before .before .before .before .before .before .before .before .before .before .args .counters .now)) (c .before .before .before .before .before .before .before .before .before .before .before .before .before .before .before .before .before .before .before .before .args .depth)) (c .before .before .before .before .before .before .before .before .before .before .before .before .before .before .before .before .before .before .before .before .args .s .now) _ _ _ _ _ _ _ (c .before .before .before .before .before .before .before .before .before .before .before .before .before .before .loop .inv .1) _ _ _ _ (done-reads _ _ _ _ _ _ _ _ _ (c .before .before .before .before .before .before .before .before .r .given .1) (c .before .before .before .before .before .before .before .before .before .before .before .before .comparison .ensures)) (c .before .before .before .before .before .join .result) _ (c .before .before .before .before .before .join .ensures)) (sym (c .before .before .is-joint .ensures) ∙ not-false _ (c .before .if1 .left)) (c .next .result) (c .next .ensures))
 
--- src/expressions.rt:620:9
+-- src/expressions.rt:606:9
 index-expression-requires : (t : ℕ) → index-lts.Need-expression-requires (
   expression-below t,
   expression.Post,
@@ -1294,7 +999,7 @@ index-expression-requires : (t : ℕ) → index-lts.Need-expression-requires (
 ) (index-at t) index.Post
 index-expression-requires t c κs = search needs
 
--- src/expressions.rt:621:20
+-- src/expressions.rt:607:20
 index-enum-known-r : (t : ℕ) → index-lts.Need-enum-known-r (
   expression-below t,
   expression.Post,
@@ -1307,7 +1012,7 @@ index-enum-known-r : (t : ℕ) → index-lts.Need-enum-known-r (
 ) (index-at t) index.Post
 index-enum-known-r t c = search needs
 
--- src/expressions.rt:622:9
+-- src/expressions.rt:608:9
 index-enum-told : (t : ℕ) → index-lts.Need-enum-told (
   expression-below t,
   expression.Post,
@@ -1320,7 +1025,7 @@ index-enum-told : (t : ℕ) → index-lts.Need-enum-told (
 ) (index-at t) index.Post
 index-enum-told t c = search needs
 
--- src/expressions.rt:622:9
+-- src/expressions.rt:608:9
 index-same-length : (t : ℕ) → index-lts.Need-same-length (
   expression-below t,
   expression.Post,
@@ -1333,7 +1038,7 @@ index-same-length : (t : ℕ) → index-lts.Need-same-length (
 ) (index-at t) index.Post
 index-same-length t c = search needs
 
--- src/expressions.rt:622:9
+-- src/expressions.rt:608:9
 index-returns : (t : ℕ) → index-lts.Need-returns (
   expression-below t,
   expression.Post,
@@ -1346,7 +1051,7 @@ index-returns : (t : ℕ) → index-lts.Need-returns (
 ) (index-at t) index.Post
 index-returns t c = index-refuses (primaryG (wordsIn (c .before .before .before .before .before .before .before .before .before .before .before .args .reserved .now) (c .before .before .before .before .before .before .before .before .before .before .before .args .currencies .now) (c .before .before .before .before .before .before .before .before .before .before .before .args .counters .now)) (c .before .before .before .before .before .before .before .before .before .before .before .args .depth)) (primary-law (wordsIn (c .before .before .before .before .before .before .before .before .before .before .before .args .reserved .now) (c .before .before .before .before .before .before .before .before .before .before .before .args .currencies .now) (c .before .before .before .before .before .before .before .before .before .before .before .args .counters .now)) (c .before .before .before .before .before .before .before .before .before .before .before .args .depth)) (primary-size (wordsIn (c .before .before .before .before .before .before .before .before .before .before .before .args .reserved .now) (c .before .before .before .before .before .before .before .before .before .before .before .args .currencies .now) (c .before .before .before .before .before .before .before .before .before .before .before .args .counters .now)) (c .before .before .before .before .before .before .before .before .before .before .before .args .depth)) (c .before .before .before .before .before .before .before .before .before .before .before .args .s .now) (c .before .before .before .before .before .before .before .before .before .before .before .args .c) (c .before .before .before .before .before .before .before .before .before .before .before .args .n) (c .before .before .before .before .before .before .before .before .before .before .before .args .m) (c .before .before .before .before .before .before .before .before .before .before .before .args .out .now) _ (c .before .before .before .before .expression .result) _ _ (c .enum-told .given .1) (c .before .before .before .before .expression .ensures)
 
--- src/expressions.rt:624:25
+-- src/expressions.rt:610:25
 index-take-requires : (t : ℕ) → index-lts.Need-take-requires (
   expression-below t,
   expression.Post,
@@ -1359,7 +1064,7 @@ index-take-requires : (t : ℕ) → index-lts.Need-take-requires (
 ) (index-at t) index.Post
 index-take-requires t c κs = ((done-reads _ _ _ _ (c .before .before .before .before .before .expression .result) _ _ _ _ (c .before .r .given .1) (c .before .before .before .before .before .expression .ensures)) .holds, λ z. omega (arith, z))
 
--- src/expressions.rt:624:20
+-- src/expressions.rt:610:20
 index-enum-known-e : (t : ℕ) → index-lts.Need-enum-known-e (
   expression-below t,
   expression.Post,
@@ -1372,7 +1077,7 @@ index-enum-known-e : (t : ℕ) → index-lts.Need-enum-known-e (
 ) (index-at t) index.Post
 index-enum-known-e t c = search needs
 
--- src/expressions.rt:625:9
+-- src/expressions.rt:611:9
 index-enum-told-2 : (t : ℕ) → index-lts.Need-enum-told-2 (
   expression-below t,
   expression.Post,
@@ -1385,7 +1090,7 @@ index-enum-told-2 : (t : ℕ) → index-lts.Need-enum-told-2 (
 ) (index-at t) index.Post
 index-enum-told-2 t c = search needs
 
--- src/expressions.rt:625:9
+-- src/expressions.rt:611:9
 index-same-length-2 : (t : ℕ) → index-lts.Need-same-length-2 (
   expression-below t,
   expression.Post,
@@ -1398,7 +1103,7 @@ index-same-length-2 : (t : ℕ) → index-lts.Need-same-length-2 (
 ) (index-at t) index.Post
 index-same-length-2 t c = search needs
 
--- src/expressions.rt:625:9
+-- src/expressions.rt:611:9
 index-returns-2 : (t : ℕ) → index-lts.Need-returns-2 (
   expression-below t,
   expression.Post,
@@ -1411,7 +1116,7 @@ index-returns-2 : (t : ℕ) → index-lts.Need-returns-2 (
 ) (index-at t) index.Post
 index-returns-2 t c = index-open (primaryG (wordsIn (c .before .before .before .before .before .before .before .before .before .before .before .before .before .before .before .args .reserved .now) (c .before .before .before .before .before .before .before .before .before .before .before .before .before .before .before .args .currencies .now) (c .before .before .before .before .before .before .before .before .before .before .before .before .before .before .before .args .counters .now)) (c .before .before .before .before .before .before .before .before .before .before .before .before .before .before .before .args .depth)) (primary-law (wordsIn (c .before .before .before .before .before .before .before .before .before .before .before .before .before .before .before .args .reserved .now) (c .before .before .before .before .before .before .before .before .before .before .before .before .before .before .before .args .currencies .now) (c .before .before .before .before .before .before .before .before .before .before .before .before .before .before .before .args .counters .now)) (c .before .before .before .before .before .before .before .before .before .before .before .before .before .before .before .args .depth)) (primary-size (wordsIn (c .before .before .before .before .before .before .before .before .before .before .before .before .before .before .before .args .reserved .now) (c .before .before .before .before .before .before .before .before .before .before .before .before .before .before .before .args .currencies .now) (c .before .before .before .before .before .before .before .before .before .before .before .before .before .before .before .args .counters .now)) (c .before .before .before .before .before .before .before .before .before .before .before .before .before .before .before .args .depth)) (c .before .before .before .before .before .before .before .before .before .before .before .before .before .before .before .args .s .now) (c .before .before .before .before .before .before .before .before .before .before .before .before .before .before .before .args .c) (c .before .before .before .before .before .before .before .before .before .before .before .before .before .before .before .args .n) (c .before .before .before .before .before .before .before .before .before .before .before .before .before .before .before .args .m) (c .before .before .before .before .before .before .before .before .before .before .before .before .before .before .before .args .out .now) _ _ _ _ (done-reads _ _ _ _ (c .before .before .before .before .before .before .before .before .expression .result) _ _ _ _ (c .before .before .before .before .r .given .1) (c .before .before .before .before .before .before .before .before .expression .ensures)) (c .before .before .take .result) _ (c .enum-told2 .given .1) (c .before .before .take .ensures) (c .before .before .before .before .before .before .before .before .before .before .before .before .before .before .before .args .out .now)
 
--- src/expressions.rt:627:27
+-- src/expressions.rt:613:27
 index-sub-plain : (t : ℕ) → index-lts.Need-sub-plain (
   expression-below t,
   expression.Post,
@@ -1424,7 +1129,7 @@ index-sub-plain : (t : ℕ) → index-lts.Need-sub-plain (
 ) (index-at t) index.Post
 index-sub-plain t c = omega (arith, index-numbers (primaryG (wordsIn (c .before .before .before .before .before .before .before .before .before .before .before .before .before .before .before .before .before .args .reserved .now) (c .before .before .before .before .before .before .before .before .before .before .before .before .before .before .before .before .before .args .currencies .now) (c .before .before .before .before .before .before .before .before .before .before .before .before .before .before .before .before .before .args .counters .now)) (c .before .before .before .before .before .before .before .before .before .before .before .before .before .before .before .before .before .args .depth)) (primary-law (wordsIn (c .before .before .before .before .before .before .before .before .before .before .before .before .before .before .before .before .before .args .reserved .now) (c .before .before .before .before .before .before .before .before .before .before .before .before .before .before .before .before .before .args .currencies .now) (c .before .before .before .before .before .before .before .before .before .before .before .before .before .before .before .before .before .args .counters .now)) (c .before .before .before .before .before .before .before .before .before .before .before .before .before .before .before .before .before .args .depth)) (primary-size (wordsIn (c .before .before .before .before .before .before .before .before .before .before .before .before .before .before .before .before .before .args .reserved .now) (c .before .before .before .before .before .before .before .before .before .before .before .before .before .before .before .before .before .args .currencies .now) (c .before .before .before .before .before .before .before .before .before .before .before .before .before .before .before .before .before .args .counters .now)) (c .before .before .before .before .before .before .before .before .before .before .before .before .before .before .before .before .before .args .depth)) (c .before .before .before .before .before .before .before .before .before .before .before .before .before .before .before .before .before .args .s .now) (c .before .before .before .before .before .before .before .before .before .before .before .before .before .before .before .before .before .args .c) (c .before .before .before .before .before .before .before .before .before .before .before .before .before .before .before .before .before .args .n) (c .before .before .before .before .before .before .before .before .before .before .before .before .before .before .before .before .before .args .m) (c .before .before .before .before .before .before .before .before .before .before .before .before .before .before .before .before .before .args .out .now) _ _ _ _ (done-reads _ _ _ _ (c .before .before .before .before .before .before .before .before .before .before .expression .result) _ _ _ _ (c .before .before .before .before .before .before .r .given .1) (c .before .before .before .before .before .before .before .before .before .before .expression .ensures)) (c .before .before .before .before .before .before .before .before .before .before .before .before .before .before .before .before .before .pre .1 .0 .1) (c .before .before .before .before .before .before .before .before .before .before .before .before .before .before .before .before .before .pre .1 .2) (c .before .before .before .before .take .result) _ (c .before .before .e .given .1) (c .before .before .before .before .take .ensures))
 
--- src/expressions.rt:627:27
+-- src/expressions.rt:613:27
 index-add-plain : (t : ℕ) → index-lts.Need-add-plain (
   expression-below t,
   expression.Post,
@@ -1437,7 +1142,7 @@ index-add-plain : (t : ℕ) → index-lts.Need-add-plain (
 ) (index-at t) index.Post
 index-add-plain t c = omega (arith, index-numbers (primaryG (wordsIn (c .before .before .before .before .before .before .before .before .before .before .before .before .before .before .before .before .before .args .reserved .now) (c .before .before .before .before .before .before .before .before .before .before .before .before .before .before .before .before .before .args .currencies .now) (c .before .before .before .before .before .before .before .before .before .before .before .before .before .before .before .before .before .args .counters .now)) (c .before .before .before .before .before .before .before .before .before .before .before .before .before .before .before .before .before .args .depth)) (primary-law (wordsIn (c .before .before .before .before .before .before .before .before .before .before .before .before .before .before .before .before .before .args .reserved .now) (c .before .before .before .before .before .before .before .before .before .before .before .before .before .before .before .before .before .args .currencies .now) (c .before .before .before .before .before .before .before .before .before .before .before .before .before .before .before .before .before .args .counters .now)) (c .before .before .before .before .before .before .before .before .before .before .before .before .before .before .before .before .before .args .depth)) (primary-size (wordsIn (c .before .before .before .before .before .before .before .before .before .before .before .before .before .before .before .before .before .args .reserved .now) (c .before .before .before .before .before .before .before .before .before .before .before .before .before .before .before .before .before .args .currencies .now) (c .before .before .before .before .before .before .before .before .before .before .before .before .before .before .before .before .before .args .counters .now)) (c .before .before .before .before .before .before .before .before .before .before .before .before .before .before .before .before .before .args .depth)) (c .before .before .before .before .before .before .before .before .before .before .before .before .before .before .before .before .before .args .s .now) (c .before .before .before .before .before .before .before .before .before .before .before .before .before .before .before .before .before .args .c) (c .before .before .before .before .before .before .before .before .before .before .before .before .before .before .before .before .before .args .n) (c .before .before .before .before .before .before .before .before .before .before .before .before .before .before .before .before .before .args .m) (c .before .before .before .before .before .before .before .before .before .before .before .before .before .before .before .before .before .args .out .now) _ _ _ _ (done-reads _ _ _ _ (c .before .before .before .before .before .before .before .before .before .before .expression .result) _ _ _ _ (c .before .before .before .before .before .before .r .given .1) (c .before .before .before .before .before .before .before .before .before .before .expression .ensures)) (c .before .before .before .before .before .before .before .before .before .before .before .before .before .before .before .before .before .pre .1 .0 .1) (c .before .before .before .before .before .before .before .before .before .before .before .before .before .before .before .before .before .pre .1 .2) (c .before .before .before .before .take .result) _ (c .before .before .e .given .1) (c .before .before .before .before .take .ensures))
 
--- src/expressions.rt:627:17
+-- src/expressions.rt:613:17
 index-plain-requires : (t : ℕ) → index-lts.Need-plain-requires (
   expression-below t,
   expression.Post,
@@ -1450,7 +1155,7 @@ index-plain-requires : (t : ℕ) → index-lts.Need-plain-requires (
 ) (index-at t) index.Post
 index-plain-requires t c κs = search needs
 
--- src/expressions.rt:627:5
+-- src/expressions.rt:613:5
 index-put-requires : (t : ℕ) → index-lts.Need-put-requires (
   expression-below t,
   expression.Post,
@@ -1463,7 +1168,7 @@ index-put-requires : (t : ℕ) → index-lts.Need-put-requires (
 ) (index-at t) index.Post
 index-put-requires t c κs = search needs
 
--- src/expressions.rt:628:19
+-- src/expressions.rt:614:19
 index-add-t21 : (t : ℕ) → index-lts.Need-add-t21 (
   expression-below t,
   expression.Post,
@@ -1476,7 +1181,7 @@ index-add-t21 : (t : ℕ) → index-lts.Need-add-t21 (
 ) (index-at t) index.Post
 index-add-t21 t c = omega (arith, index-numbers (primaryG (wordsIn (c .before .before .before .before .before .before .before .before .before .before .before .before .before .before .before .before .before .before .before .before .before .args .reserved .now) (c .before .before .before .before .before .before .before .before .before .before .before .before .before .before .before .before .before .before .before .before .before .args .currencies .now) (c .before .before .before .before .before .before .before .before .before .before .before .before .before .before .before .before .before .before .before .before .before .args .counters .now)) (c .before .before .before .before .before .before .before .before .before .before .before .before .before .before .before .before .before .before .before .before .before .args .depth)) (primary-law (wordsIn (c .before .before .before .before .before .before .before .before .before .before .before .before .before .before .before .before .before .before .before .before .before .args .reserved .now) (c .before .before .before .before .before .before .before .before .before .before .before .before .before .before .before .before .before .before .before .before .before .args .currencies .now) (c .before .before .before .before .before .before .before .before .before .before .before .before .before .before .before .before .before .before .before .before .before .args .counters .now)) (c .before .before .before .before .before .before .before .before .before .before .before .before .before .before .before .before .before .before .before .before .before .args .depth)) (primary-size (wordsIn (c .before .before .before .before .before .before .before .before .before .before .before .before .before .before .before .before .before .before .before .before .before .args .reserved .now) (c .before .before .before .before .before .before .before .before .before .before .before .before .before .before .before .before .before .before .before .before .before .args .currencies .now) (c .before .before .before .before .before .before .before .before .before .before .before .before .before .before .before .before .before .before .before .before .before .args .counters .now)) (c .before .before .before .before .before .before .before .before .before .before .before .before .before .before .before .before .before .before .before .before .before .args .depth)) (c .before .before .before .before .before .before .before .before .before .before .before .before .before .before .before .before .before .before .before .before .before .args .s .now) (c .before .before .before .before .before .before .before .before .before .before .before .before .before .before .before .before .before .before .before .before .before .args .c) (c .before .before .before .before .before .before .before .before .before .before .before .before .before .before .before .before .before .before .before .before .before .args .n) (c .before .before .before .before .before .before .before .before .before .before .before .before .before .before .before .before .before .before .before .before .before .args .m) (c .before .before .before .before .before .before .before .before .before .before .before .before .before .before .before .before .before .before .before .before .before .args .out .now) _ _ _ _ (done-reads _ _ _ _ (c .before .before .before .before .before .before .before .before .before .before .before .before .before .before .expression .result) _ _ _ _ (c .before .before .before .before .before .before .before .before .before .before .r .given .1) (c .before .before .before .before .before .before .before .before .before .before .before .before .before .before .expression .ensures)) (c .before .before .before .before .before .before .before .before .before .before .before .before .before .before .before .before .before .before .before .before .before .pre .1 .0 .1) (c .before .before .before .before .before .before .before .before .before .before .before .before .before .before .before .before .before .before .before .before .before .pre .1 .2) (c .before .before .before .before .before .before .before .before .take .result) _ (c .before .before .before .before .before .before .e .given .1) (c .before .before .before .before .before .before .before .before .take .ensures))
 
--- src/expressions.rt:606:1
+-- src/expressions.rt:592:1
 index-same-length-3 : (t : ℕ) → index-lts.Need-same-length-3 (
   expression-below t,
   expression.Post,
@@ -1489,7 +1194,7 @@ index-same-length-3 : (t : ℕ) → index-lts.Need-same-length-3 (
 ) (index-at t) index.Post
 index-same-length-3 t c = search needs
 
--- src/expressions.rt:606:1
+-- src/expressions.rt:592:1
 index-returns-3 : (t : ℕ) → index-lts.Need-returns-3 (
   expression-below t,
   expression.Post,
@@ -1508,7 +1213,7 @@ items-Inv-loop s reserved currencies counters close depth out₀ n at₀ m₀ co
 abbrev items-μ-loop : items-lts.MeasureT-loop
 items-μ-loop s reserved currencies counters close depth out₀ n at₀ m₀ count₀ texts₀ out at m count texts = length (toksAt s (at .start))
 
--- src/expressions.rt:499:5
+-- src/expressions.rt:485:5
 items-loop-holds : (t : ℕ) → items-lts.Need-loop-holds (
   expression-below t,
   expression.Post,
@@ -1521,7 +1226,7 @@ items-loop-holds : (t : ℕ) → items-lts.Need-loop-holds (
 ) (items-at t) items.Post items-Inv-loop items-μ-loop
 items-loop-holds t c = (refl, items-start (c .before .before .before .before .before .args .close) (G.primary (wordsIn (c .before .before .before .before .before .args .reserved .now) (c .before .before .before .before .before .args .currencies .now) (c .before .before .before .before .before .args .counters .now)) (c .before .before .before .before .before .args .depth)) (primary-law (wordsIn (c .before .before .before .before .before .args .reserved .now) (c .before .before .before .before .before .args .currencies .now) (c .before .before .before .before .before .args .counters .now)) (c .before .before .before .before .before .args .depth)) (primary-size (wordsIn (c .before .before .before .before .before .args .reserved .now) (c .before .before .before .before .before .args .currencies .now) (c .before .before .before .before .before .args .counters .now)) (c .before .before .before .before .before .args .depth)) (c .before .before .before .before .before .args .s .now) _ _ _ (c .before .before .before .before .before .pre .1 .0))
 
--- src/expressions.rt:501:13
+-- src/expressions.rt:487:13
 items-same-length : (t : ℕ) → items-lts.Need-same-length (
   expression-below t,
   expression.Post,
@@ -1534,7 +1239,7 @@ items-same-length : (t : ℕ) → items-lts.Need-same-length (
 ) (items-at t) items.Post items-Inv-loop items-μ-loop
 items-same-length t c = c .before .before .loop .inv .0
 
--- src/expressions.rt:501:13
+-- src/expressions.rt:487:13
 items-returns : (t : ℕ) → items-lts.Need-returns (
   expression-below t,
   expression.Post,
@@ -1547,7 +1252,7 @@ items-returns : (t : ℕ) → items-lts.Need-returns (
 ) (items-at t) items.Post items-Inv-loop items-μ-loop
 items-returns t c = (items-exit (c .before .before .before .before .before .before .before .before .args .close) (G.primary (wordsIn (c .before .before .before .before .before .before .before .before .args .reserved .now) (c .before .before .before .before .before .before .before .before .args .currencies .now) (c .before .before .before .before .before .before .before .before .args .counters .now)) (c .before .before .before .before .before .before .before .before .args .depth)) (primary-law (wordsIn (c .before .before .before .before .before .before .before .before .args .reserved .now) (c .before .before .before .before .before .before .before .before .args .currencies .now) (c .before .before .before .before .before .before .before .before .args .counters .now)) (c .before .before .before .before .before .before .before .before .args .depth)) (primary-size (wordsIn (c .before .before .before .before .before .before .before .before .args .reserved .now) (c .before .before .before .before .before .before .before .before .args .currencies .now) (c .before .before .before .before .before .before .before .before .args .counters .now)) (c .before .before .before .before .before .before .before .before .args .depth)) (c .before .before .before .before .before .before .before .before .args .s .now) _ _ _ _ _ _ _ _ (c .before .before .loop .inv .1) (c .if1 .taken), c .if1 .taken)
 
--- src/expressions.rt:503:13
+-- src/expressions.rt:489:13
 items-expression-requires : (t : ℕ) → items-lts.Need-expression-requires (
   expression-below t,
   expression.Post,
@@ -1560,7 +1265,7 @@ items-expression-requires : (t : ℕ) → items-lts.Need-expression-requires (
 ) (items-at t) items.Post items-Inv-loop items-μ-loop
 items-expression-requires t c κs = (omega (arith, c .before .before .before .before .before .before .before .before .before .pre .0), (items-ready (c .before .before .before .before .before .before .before .before .before .args .close) (G.primary (wordsIn (c .before .before .before .before .before .before .before .before .before .args .reserved .now) (c .before .before .before .before .before .before .before .before .before .args .currencies .now) (c .before .before .before .before .before .before .before .before .before .args .counters .now)) (c .before .before .before .before .before .before .before .before .before .args .depth)) (primary-law (wordsIn (c .before .before .before .before .before .before .before .before .before .args .reserved .now) (c .before .before .before .before .before .before .before .before .before .args .currencies .now) (c .before .before .before .before .before .before .before .before .before .args .counters .now)) (c .before .before .before .before .before .before .before .before .before .args .depth)) (primary-size (wordsIn (c .before .before .before .before .before .before .before .before .before .args .reserved .now) (c .before .before .before .before .before .before .before .before .before .args .currencies .now) (c .before .before .before .before .before .before .before .before .before .args .counters .now)) (c .before .before .before .before .before .before .before .before .before .args .depth)) (c .before .before .before .before .before .before .before .before .before .args .s .now) _ _ _ _ _ _ _ _ (c .before .before .before .loop .inv .1), c .before .before .before .before .before .before .before .before .before .pre .1 .1))
 
--- src/expressions.rt:504:24
+-- src/expressions.rt:490:24
 items-enum-known-r : (t : ℕ) → items-lts.Need-enum-known-r (
   expression-below t,
   expression.Post,
@@ -1573,7 +1278,7 @@ items-enum-known-r : (t : ℕ) → items-lts.Need-enum-known-r (
 ) (items-at t) items.Post items-Inv-loop items-μ-loop
 items-enum-known-r t c = search needs
 
--- src/expressions.rt:505:13
+-- src/expressions.rt:491:13
 items-enum-told : (t : ℕ) → items-lts.Need-enum-told (
   expression-below t,
   expression.Post,
@@ -1586,7 +1291,7 @@ items-enum-told : (t : ℕ) → items-lts.Need-enum-told (
 ) (items-at t) items.Post items-Inv-loop items-μ-loop
 items-enum-told t c = search needs
 
--- src/expressions.rt:505:13
+-- src/expressions.rt:491:13
 items-refused-requires : (t : ℕ) → items-lts.Need-refused-requires (
   expression-below t,
   expression.Post,
@@ -1599,7 +1304,7 @@ items-refused-requires : (t : ℕ) → items-lts.Need-refused-requires (
 ) (items-at t) items.Post items-Inv-loop items-μ-loop
 items-refused-requires t c κs = search needs
 
--- src/expressions.rt:505:13
+-- src/expressions.rt:491:13
 items-same-length-2 : (t : ℕ) → items-lts.Need-same-length-2 (
   expression-below t,
   expression.Post,
@@ -1612,7 +1317,7 @@ items-same-length-2 : (t : ℕ) → items-lts.Need-same-length-2 (
 ) (items-at t) items.Post items-Inv-loop items-μ-loop
 items-same-length-2 t c = c .before .before .before .before .before .expression .kept .1 .1 .1 .1 .1 .1 .0 ∙ c .before .before .before .before .before .before .before .before .before .loop .inv .0
 
--- src/expressions.rt:505:13
+-- src/expressions.rt:491:13
 items-returns-2 : (t : ℕ) → items-lts.Need-returns-2 (
   expression-below t,
   expression.Post,
@@ -1625,7 +1330,7 @@ items-returns-2 : (t : ℕ) → items-lts.Need-returns-2 (
 ) (items-at t) items.Post items-Inv-loop items-μ-loop
 items-returns-2 t c = parts-refusal _ _ _ _ _ _ (c .refused .result) _ _ _ _ _ _ _ (c .before .enum-told .given .1) (c .before .before .before .before .before .expression .ensures) (c .refused .ensures) (items-refused (c .before .before .before .before .before .before .before .before .before .before .before .before .before .before .before .args .close) (G.primary (wordsIn (c .before .before .before .before .before .before .before .before .before .before .before .before .before .before .before .args .reserved .now) (c .before .before .before .before .before .before .before .before .before .before .before .before .before .before .before .args .currencies .now) (c .before .before .before .before .before .before .before .before .before .before .before .before .before .before .before .args .counters .now)) (c .before .before .before .before .before .before .before .before .before .before .before .before .before .before .before .args .depth)) (primary-law (wordsIn (c .before .before .before .before .before .before .before .before .before .before .before .before .before .before .before .args .reserved .now) (c .before .before .before .before .before .before .before .before .before .before .before .before .before .before .before .args .currencies .now) (c .before .before .before .before .before .before .before .before .before .before .before .before .before .before .before .args .counters .now)) (c .before .before .before .before .before .before .before .before .before .before .before .before .before .before .before .args .depth)) (primary-size (wordsIn (c .before .before .before .before .before .before .before .before .before .before .before .before .before .before .before .args .reserved .now) (c .before .before .before .before .before .before .before .before .before .before .before .before .before .before .before .args .currencies .now) (c .before .before .before .before .before .before .before .before .before .before .before .before .before .before .before .args .counters .now)) (c .before .before .before .before .before .before .before .before .before .before .before .before .before .before .before .args .depth)) (c .before .before .before .before .before .before .before .before .before .before .before .before .before .before .before .args .s .now) _ _ _ _ _ _ _ _ (c .before .before .before .before .before .before .before .before .before .loop .inv .1) (c .before .before .before .before .before .before .before .if1 .left) _ _)
 
--- src/expressions.rt:507:29
+-- src/expressions.rt:493:29
 items-follow-requires : (t : ℕ) → items-lts.Need-follow-requires (
   expression-below t,
   expression.Post,
@@ -1638,7 +1343,7 @@ items-follow-requires : (t : ℕ) → items-lts.Need-follow-requires (
 ) (items-at t) items.Post items-Inv-loop items-μ-loop
 items-follow-requires t c κs = (done-reads _ _ _ _ _ _ _ _ _ (c .before .r .given .1) (c .before .before .before .before .before .expression .ensures) .holds, c .before .before .before .before .before .before .before .before .before .before .before .before .before .before .before .pre .1 .2)
 
--- src/expressions.rt:507:24
+-- src/expressions.rt:493:24
 items-enum-known-f : (t : ℕ) → items-lts.Need-enum-known-f (
   expression-below t,
   expression.Post,
@@ -1651,7 +1356,7 @@ items-enum-known-f : (t : ℕ) → items-lts.Need-enum-known-f (
 ) (items-at t) items.Post items-Inv-loop items-μ-loop
 items-enum-known-f t c = search needs
 
--- src/expressions.rt:508:13
+-- src/expressions.rt:494:13
 items-enum-told-2 : (t : ℕ) → items-lts.Need-enum-told-2 (
   expression-below t,
   expression.Post,
@@ -1664,7 +1369,7 @@ items-enum-told-2 : (t : ℕ) → items-lts.Need-enum-told-2 (
 ) (items-at t) items.Post items-Inv-loop items-μ-loop
 items-enum-told-2 t c = search needs
 
--- src/expressions.rt:508:13
+-- src/expressions.rt:494:13
 items-same-length-3 : (t : ℕ) → items-lts.Need-same-length-3 (
   expression-below t,
   expression.Post,
@@ -1677,7 +1382,7 @@ items-same-length-3 : (t : ℕ) → items-lts.Need-same-length-3 (
 ) (items-at t) items.Post items-Inv-loop items-μ-loop
 items-same-length-3 t c = c .before .before .before .before .before .before .before .before .expression .kept .1 .1 .1 .1 .1 .1 .0 ∙ c .before .before .before .before .before .before .before .before .before .before .before .before .loop .inv .0
 
--- src/expressions.rt:508:13
+-- src/expressions.rt:494:13
 items-returns-3 : (t : ℕ) → items-lts.Need-returns-3 (
   expression-below t,
   expression.Post,
@@ -1690,7 +1395,7 @@ items-returns-3 : (t : ℕ) → items-lts.Need-returns-3 (
 ) (items-at t) items.Post items-Inv-loop items-μ-loop
 items-returns-3 t c = (items-wrong (c .before .before .before .before .before .before .before .before .before .before .before .before .before .before .before .before .before .before .args .close) (G.primary (wordsIn (c .before .before .before .before .before .before .before .before .before .before .before .before .before .before .before .before .before .before .args .reserved .now) (c .before .before .before .before .before .before .before .before .before .before .before .before .before .before .before .before .before .before .args .currencies .now) (c .before .before .before .before .before .before .before .before .before .before .before .before .before .before .before .before .before .before .args .counters .now)) (c .before .before .before .before .before .before .before .before .before .before .before .before .before .before .before .before .before .before .args .depth)) (primary-law (wordsIn (c .before .before .before .before .before .before .before .before .before .before .before .before .before .before .before .before .before .before .args .reserved .now) (c .before .before .before .before .before .before .before .before .before .before .before .before .before .before .before .before .before .before .args .currencies .now) (c .before .before .before .before .before .before .before .before .before .before .before .before .before .before .before .before .before .before .args .counters .now)) (c .before .before .before .before .before .before .before .before .before .before .before .before .before .before .before .before .before .before .args .depth)) (primary-size (wordsIn (c .before .before .before .before .before .before .before .before .before .before .before .before .before .before .before .before .before .before .args .reserved .now) (c .before .before .before .before .before .before .before .before .before .before .before .before .before .before .before .before .before .before .args .currencies .now) (c .before .before .before .before .before .before .before .before .before .before .before .before .before .before .before .before .before .before .args .counters .now)) (c .before .before .before .before .before .before .before .before .before .before .before .before .before .before .before .before .before .before .args .depth)) (c .before .before .before .before .before .before .before .before .before .before .before .before .before .before .before .before .before .before .args .s .now) _ _ _ _ _ _ _ _ (c .before .before .before .before .before .before .before .before .before .before .before .before .loop .inv .1) (c .before .before .before .before .before .before .before .before .before .before .if1 .left) _ _ _ _ (done-reads _ _ _ _ _ _ _ _ _ (c .before .before .before .before .r .given .1) (c .before .before .before .before .before .before .before .before .expression .ensures)) _ (follows-as _ _ _ _ _ (c .enum-told2 .given .1) (c .before .before .follow .ensures)), tt)
 
--- src/expressions.rt:510:9
+-- src/expressions.rt:496:9
 items-shown-requires : (t : ℕ) → items-lts.Need-shown-requires (
   expression-below t,
   expression.Post,
@@ -1703,7 +1408,7 @@ items-shown-requires : (t : ℕ) → items-lts.Need-shown-requires (
 ) (items-at t) items.Post items-Inv-loop items-μ-loop
 items-shown-requires t c κs = search needs
 
--- src/expressions.rt:513:9
+-- src/expressions.rt:499:9
 items-add-count : (t : ℕ) → items-lts.Need-add-count (
   expression-below t,
   expression.Post,
@@ -1716,7 +1421,7 @@ items-add-count : (t : ℕ) → items-lts.Need-add-count (
 ) (items-at t) items.Post items-Inv-loop items-μ-loop
 items-add-count t c = omega (arith, items-numbers (c .before .before .before .before .before .before .before .before .before .before .before .before .before .before .before .before .before .before .before .before .args .close) (G.primary (wordsIn (c .before .before .before .before .before .before .before .before .before .before .before .before .before .before .before .before .before .before .before .before .args .reserved .now) (c .before .before .before .before .before .before .before .before .before .before .before .before .before .before .before .before .before .before .before .before .args .currencies .now) (c .before .before .before .before .before .before .before .before .before .before .before .before .before .before .before .before .before .before .before .before .args .counters .now)) (c .before .before .before .before .before .before .before .before .before .before .before .before .before .before .before .before .before .before .before .before .args .depth)) (primary-law (wordsIn (c .before .before .before .before .before .before .before .before .before .before .before .before .before .before .before .before .before .before .before .before .args .reserved .now) (c .before .before .before .before .before .before .before .before .before .before .before .before .before .before .before .before .before .before .before .before .args .currencies .now) (c .before .before .before .before .before .before .before .before .before .before .before .before .before .before .before .before .before .before .before .before .args .counters .now)) (c .before .before .before .before .before .before .before .before .before .before .before .before .before .before .before .before .before .before .before .before .args .depth)) (primary-size (wordsIn (c .before .before .before .before .before .before .before .before .before .before .before .before .before .before .before .before .before .before .before .before .args .reserved .now) (c .before .before .before .before .before .before .before .before .before .before .before .before .before .before .before .before .before .before .before .before .args .currencies .now) (c .before .before .before .before .before .before .before .before .before .before .before .before .before .before .before .before .before .before .before .before .args .counters .now)) (c .before .before .before .before .before .before .before .before .before .before .before .before .before .before .before .before .before .before .before .before .args .depth)) (c .before .before .before .before .before .before .before .before .before .before .before .before .before .before .before .before .before .before .before .before .args .s .now) _ _ _ _ _ _ _ _ (c .before .before .before .before .before .before .before .before .before .before .before .before .before .before .loop .inv .1) (c .before .before .before .before .before .before .before .before .before .before .before .before .if1 .left) _ _ _ _ (done-reads _ _ _ _ _ _ _ _ _ (c .before .before .before .before .before .before .r .given .1) (c .before .before .before .before .before .before .before .before .before .before .expression .ensures)))
 
--- src/expressions.rt:499:5
+-- src/expressions.rt:485:5
 items-loop-less : (t : ℕ) → items-lts.Need-loop-less (
   expression-below t,
   expression.Post,
@@ -1729,7 +1434,7 @@ items-loop-less : (t : ℕ) → items-lts.Need-loop-less (
 ) (items-at t) items.Post items-Inv-loop items-μ-loop
 items-loop-less t c = items-less (c .before .before .before .before .before .before .before .before .before .before .before .before .before .before .before .before .before .before .before .before .args .close) (G.primary (wordsIn (c .before .before .before .before .before .before .before .before .before .before .before .before .before .before .before .before .before .before .before .before .args .reserved .now) (c .before .before .before .before .before .before .before .before .before .before .before .before .before .before .before .before .before .before .before .before .args .currencies .now) (c .before .before .before .before .before .before .before .before .before .before .before .before .before .before .before .before .before .before .before .before .args .counters .now)) (c .before .before .before .before .before .before .before .before .before .before .before .before .before .before .before .before .before .before .before .before .args .depth)) (primary-law (wordsIn (c .before .before .before .before .before .before .before .before .before .before .before .before .before .before .before .before .before .before .before .before .args .reserved .now) (c .before .before .before .before .before .before .before .before .before .before .before .before .before .before .before .before .before .before .before .before .args .currencies .now) (c .before .before .before .before .before .before .before .before .before .before .before .before .before .before .before .before .before .before .before .before .args .counters .now)) (c .before .before .before .before .before .before .before .before .before .before .before .before .before .before .before .before .before .before .before .before .args .depth)) (primary-size (wordsIn (c .before .before .before .before .before .before .before .before .before .before .before .before .before .before .before .before .before .before .before .before .args .reserved .now) (c .before .before .before .before .before .before .before .before .before .before .before .before .before .before .before .before .before .before .before .before .args .currencies .now) (c .before .before .before .before .before .before .before .before .before .before .before .before .before .before .before .before .before .before .before .before .args .counters .now)) (c .before .before .before .before .before .before .before .before .before .before .before .before .before .before .before .before .before .before .before .before .args .depth)) (c .before .before .before .before .before .before .before .before .before .before .before .before .before .before .before .before .before .before .before .before .args .s .now) _ _ _ _ _ _ _ _ (c .before .before .before .before .before .before .before .before .before .before .before .before .before .before .loop .inv .1) (c .before .before .before .before .before .before .before .before .before .before .before .before .if1 .left) _ _ _ _ (done-reads _ _ _ _ _ _ _ _ _ (c .before .before .before .before .before .before .r .given .1) (c .before .before .before .before .before .before .before .before .before .before .expression .ensures)) (c .before .before .f .given .0 .0) (follows-as _ _ _ _ _ (c .before .before .f .given .1) (c .before .before .before .before .follow .ensures))
 
--- src/expressions.rt:499:5
+-- src/expressions.rt:485:5
 items-loop-again : (t : ℕ) → items-lts.Need-loop-again (
   expression-below t,
   expression.Post,
@@ -1742,7 +1447,7 @@ items-loop-again : (t : ℕ) → items-lts.Need-loop-again (
 ) (items-at t) items.Post items-Inv-loop items-μ-loop
 items-loop-again t c = (c .before .before .before .before .before .before .before .before .before .before .expression .kept .1 .1 .1 .1 .1 .1 .0 ∙ c .before .before .before .before .before .before .before .before .before .before .before .before .before .before .loop .inv .0, items-next (c .before .before .before .before .before .before .before .before .before .before .before .before .before .before .before .before .before .before .before .before .args .close) (G.primary (wordsIn (c .before .before .before .before .before .before .before .before .before .before .before .before .before .before .before .before .before .before .before .before .args .reserved .now) (c .before .before .before .before .before .before .before .before .before .before .before .before .before .before .before .before .before .before .before .before .args .currencies .now) (c .before .before .before .before .before .before .before .before .before .before .before .before .before .before .before .before .before .before .before .before .args .counters .now)) (c .before .before .before .before .before .before .before .before .before .before .before .before .before .before .before .before .before .before .before .before .args .depth)) (primary-law (wordsIn (c .before .before .before .before .before .before .before .before .before .before .before .before .before .before .before .before .before .before .before .before .args .reserved .now) (c .before .before .before .before .before .before .before .before .before .before .before .before .before .before .before .before .before .before .before .before .args .currencies .now) (c .before .before .before .before .before .before .before .before .before .before .before .before .before .before .before .before .before .before .before .before .args .counters .now)) (c .before .before .before .before .before .before .before .before .before .before .before .before .before .before .before .before .before .before .before .before .args .depth)) (primary-size (wordsIn (c .before .before .before .before .before .before .before .before .before .before .before .before .before .before .before .before .before .before .before .before .args .reserved .now) (c .before .before .before .before .before .before .before .before .before .before .before .before .before .before .before .before .before .before .before .before .args .currencies .now) (c .before .before .before .before .before .before .before .before .before .before .before .before .before .before .before .before .before .before .before .before .args .counters .now)) (c .before .before .before .before .before .before .before .before .before .before .before .before .before .before .before .before .before .before .before .before .args .depth)) (c .before .before .before .before .before .before .before .before .before .before .before .before .before .before .before .before .before .before .before .before .args .s .now) _ _ _ _ _ _ _ _ (c .before .before .before .before .before .before .before .before .before .before .before .before .before .before .loop .inv .1) (c .before .before .before .before .before .before .before .before .before .before .before .before .if1 .left) _ _ _ _ (done-reads _ _ _ _ _ _ _ _ _ (c .before .before .before .before .before .before .r .given .1) (c .before .before .before .before .before .before .before .before .before .before .expression .ensures)) (c .before .before .f .given .0 .0) (follows-as _ _ _ _ _ (c .before .before .f .given .1) (c .before .before .before .before .follow .ensures)) (c .shown .result) (c .shown .ensures))
 
--- src/expressions.rt:323:9
+-- src/expressions.rt:309:9
 list-returns : (t : ℕ) → list-lts.Need-returns (
   items-below t,
   items.Post,
@@ -1759,7 +1464,7 @@ list-returns : (t : ℕ) → list-lts.Need-returns (
 ) (list-at t) list.Post
 list-returns t c = list-0 (wordsIn (c .before .before .before .before .before .before .args .reserved .now) (c .before .before .before .before .before .before .args .currencies .now) (c .before .before .before .before .before .before .args .counters .now)) (c .before .before .before .before .before .before .args .depth) (c .before .before .before .before .before .before .args .s .now) (c .before .before .before .before .before .before .args .c) (c .before .before .before .before .before .before .args .d) (c .before .before .before .before .before .before .pre .1 .1) (c .before .before .before .before .before .before .pre .1 .2) (c .if1 .taken)
 
--- src/expressions.rt:332:9
+-- src/expressions.rt:318:9
 list-sub-items : (t : ℕ) → list-lts.Need-sub-items (
   items-below t,
   items.Post,
@@ -1776,7 +1481,7 @@ list-sub-items : (t : ℕ) → list-lts.Need-sub-items (
 ) (list-at t) list.Post
 list-sub-items t c = omega (arith, c .if1 .left)
 
--- src/expressions.rt:325:9
+-- src/expressions.rt:311:9
 list-items-requires : (t : ℕ) → list-lts.Need-items-requires (
   items-below t,
   items.Post,
@@ -1793,7 +1498,7 @@ list-items-requires : (t : ℕ) → list-lts.Need-items-requires (
 ) (list-at t) list.Post
 list-items-requires t c κs = (omega (arith, c .before .before .before .before .before .before .before .pre .0, c .before .if1 .left), (list-ready (wordsIn (c .before .before .before .before .before .before .before .args .reserved .now) (c .before .before .before .before .before .before .before .args .currencies .now) (c .before .before .before .before .before .before .before .args .counters .now)) (c .before .before .before .before .before .before .before .args .depth) (c .before .before .before .before .before .before .before .args .s .now) (c .before .before .before .before .before .before .before .args .c) (c .before .before .before .before .before .before .before .args .d) (c .before .before .before .before .before .before .before .pre .1 .1) (c .before .before .before .before .before .before .before .pre .1 .2) (c .before .if1 .left) _ (c .before .before .before .before .before .before .before .pre .1 .0 .1), c .before .before .before .before .before .before .before .pre .1 .3, inr refl))
 
--- src/expressions.rt:336:21
+-- src/expressions.rt:322:21
 list-enum-known-r : (t : ℕ) → list-lts.Need-enum-known-r (
   items-below t,
   items.Post,
@@ -1810,7 +1515,7 @@ list-enum-known-r : (t : ℕ) → list-lts.Need-enum-known-r (
 ) (list-at t) list.Post
 list-enum-known-r t c = search needs
 
--- src/expressions.rt:337:9
+-- src/expressions.rt:323:9
 list-enum-told : (t : ℕ) → list-lts.Need-enum-told (
   items-below t,
   items.Post,
@@ -1827,7 +1532,7 @@ list-enum-told : (t : ℕ) → list-lts.Need-enum-told (
 ) (list-at t) list.Post
 list-enum-told t c = search needs
 
--- src/expressions.rt:337:9
+-- src/expressions.rt:323:9
 list-refusal-requires : (t : ℕ) → list-lts.Need-refusal-requires (
   items-below t,
   items.Post,
@@ -1844,7 +1549,7 @@ list-refusal-requires : (t : ℕ) → list-lts.Need-refusal-requires (
 ) (list-at t) list.Post
 list-refusal-requires t c κs = search needs
 
--- src/expressions.rt:337:9
+-- src/expressions.rt:323:9
 list-same-length : (t : ℕ) → list-lts.Need-same-length (
   items-below t,
   items.Post,
@@ -1861,7 +1566,7 @@ list-same-length : (t : ℕ) → list-lts.Need-same-length (
 ) (list-at t) list.Post
 list-same-length t c = c .before .before .before .before .before .items .kept .1 .1 .1 .1 .1 .1 .1 .0
 
--- src/expressions.rt:337:9
+-- src/expressions.rt:323:9
 list-returns-2 : (t : ℕ) → list-lts.Need-returns-2 (
   items-below t,
   items.Post,
@@ -1878,7 +1583,7 @@ list-returns-2 : (t : ℕ) → list-lts.Need-returns-2 (
 ) (list-at t) list.Post
 list-returns-2 t c = refusal-on _ _ _ _ _ _ (c .refusal .result) _ _ _ _ _ _ (c .before .enum-told .given .1) (c .before .before .before .before .before .items .ensures .0) (c .refusal .ensures) (list-refused (wordsIn (c .before .before .before .before .before .before .before .before .before .before .before .before .before .args .reserved .now) (c .before .before .before .before .before .before .before .before .before .before .before .before .before .args .currencies .now) (c .before .before .before .before .before .before .before .before .before .before .before .before .before .args .counters .now)) (c .before .before .before .before .before .before .before .before .before .before .before .before .before .args .depth) (c .before .before .before .before .before .before .before .before .before .before .before .before .before .args .s .now) (c .before .before .before .before .before .before .before .before .before .before .before .before .before .args .c) (c .before .before .before .before .before .before .before .before .before .before .before .before .before .args .d) (c .before .before .before .before .before .before .before .before .before .before .before .before .before .pre .1 .1) (c .before .before .before .before .before .before .before .before .before .before .before .before .before .pre .1 .2) (c .before .before .before .before .before .before .before .if1 .left) _ _)
 
--- src/expressions.rt:339:9
+-- src/expressions.rt:325:9
 list-next-requires : (t : ℕ) → list-lts.Need-next-requires (
   items-below t,
   items.Post,
@@ -1895,7 +1600,7 @@ list-next-requires : (t : ℕ) → list-lts.Need-next-requires (
 ) (list-at t) list.Post
 list-next-requires t c κs = done-items _ _ _ _ _ _ _ _ _ _ (c .before .r .given .1) (c .before .before .before .before .before .items .ensures .0) .holds
 
--- src/expressions.rt:340:26
+-- src/expressions.rt:326:26
 list-sub-plain : (t : ℕ) → list-lts.Need-sub-plain (
   items-below t,
   items.Post,
@@ -1912,7 +1617,7 @@ list-sub-plain : (t : ℕ) → list-lts.Need-sub-plain (
 ) (list-at t) list.Post
 list-sub-plain t c = omega (arith, list-numbers (wordsIn (c .before .before .before .before .before .before .before .before .before .before .before .before .before .before .before .args .reserved .now) (c .before .before .before .before .before .before .before .before .before .before .before .before .before .before .before .args .currencies .now) (c .before .before .before .before .before .before .before .before .before .before .before .before .before .before .before .args .counters .now)) (c .before .before .before .before .before .before .before .before .before .before .before .before .before .before .before .args .depth) (c .before .before .before .before .before .before .before .before .before .before .before .before .before .before .before .args .s .now) (c .before .before .before .before .before .before .before .before .before .before .before .before .before .before .before .args .c) (c .before .before .before .before .before .before .before .before .before .before .before .before .before .before .before .args .d) (c .before .before .before .before .before .before .before .before .before .before .before .before .before .before .before .pre .1 .1) (c .before .before .before .before .before .before .before .before .before .before .before .before .before .before .before .pre .1 .2) (c .before .before .before .before .before .before .before .before .before .if1 .left) _ (c .before .before .before .before .before .before .before .before .before .before .before .before .before .before .before .pre .1 .0 .1) _ _ _ _ _ _ (done-items _ _ _ _ _ _ _ _ _ _ (c .before .before .before .r .given .1) (c .before .before .before .before .before .before .before .items .ensures .0)))
 
--- src/expressions.rt:340:26
+-- src/expressions.rt:326:26
 list-add-plain : (t : ℕ) → list-lts.Need-add-plain (
   items-below t,
   items.Post,
@@ -1929,7 +1634,7 @@ list-add-plain : (t : ℕ) → list-lts.Need-add-plain (
 ) (list-at t) list.Post
 list-add-plain t c = omega (arith, list-numbers (wordsIn (c .before .before .before .before .before .before .before .before .before .before .before .before .before .before .before .args .reserved .now) (c .before .before .before .before .before .before .before .before .before .before .before .before .before .before .before .args .currencies .now) (c .before .before .before .before .before .before .before .before .before .before .before .before .before .before .before .args .counters .now)) (c .before .before .before .before .before .before .before .before .before .before .before .before .before .before .before .args .depth) (c .before .before .before .before .before .before .before .before .before .before .before .before .before .before .before .args .s .now) (c .before .before .before .before .before .before .before .before .before .before .before .before .before .before .before .args .c) (c .before .before .before .before .before .before .before .before .before .before .before .before .before .before .before .args .d) (c .before .before .before .before .before .before .before .before .before .before .before .before .before .before .before .pre .1 .1) (c .before .before .before .before .before .before .before .before .before .before .before .before .before .before .before .pre .1 .2) (c .before .before .before .before .before .before .before .before .before .if1 .left) _ (c .before .before .before .before .before .before .before .before .before .before .before .before .before .before .before .pre .1 .0 .1) _ _ _ _ _ _ (done-items _ _ _ _ _ _ _ _ _ _ (c .before .before .before .r .given .1) (c .before .before .before .before .before .before .before .items .ensures .0)))
 
--- src/expressions.rt:340:17
+-- src/expressions.rt:326:17
 list-plain-requires : (t : ℕ) → list-lts.Need-plain-requires (
   items-below t,
   items.Post,
@@ -1946,7 +1651,7 @@ list-plain-requires : (t : ℕ) → list-lts.Need-plain-requires (
 ) (list-at t) list.Post
 list-plain-requires t c κs = search needs
 
--- src/expressions.rt:340:5
+-- src/expressions.rt:326:5
 list-put-requires : (t : ℕ) → list-lts.Need-put-requires (
   items-below t,
   items.Post,
@@ -1963,7 +1668,7 @@ list-put-requires : (t : ℕ) → list-lts.Need-put-requires (
 ) (list-at t) list.Post
 list-put-requires t c κs = search needs
 
--- src/expressions.rt:341:68
+-- src/expressions.rt:327:68
 list-add-postfixes : (t : ℕ) → list-lts.Need-add-postfixes (
   items-below t,
   items.Post,
@@ -1980,7 +1685,7 @@ list-add-postfixes : (t : ℕ) → list-lts.Need-add-postfixes (
 ) (list-at t) list.Post
 list-add-postfixes t c = omega (arith, list-numbers (wordsIn (c .before .before .before .before .before .before .before .before .before .before .before .before .before .before .before .before .before .before .before .before .args .reserved .now) (c .before .before .before .before .before .before .before .before .before .before .before .before .before .before .before .before .before .before .before .before .args .currencies .now) (c .before .before .before .before .before .before .before .before .before .before .before .before .before .before .before .before .before .before .before .before .args .counters .now)) (c .before .before .before .before .before .before .before .before .before .before .before .before .before .before .before .before .before .before .before .before .args .depth) (c .before .before .before .before .before .before .before .before .before .before .before .before .before .before .before .before .before .before .before .before .args .s .now) (c .before .before .before .before .before .before .before .before .before .before .before .before .before .before .before .before .before .before .before .before .args .c) (c .before .before .before .before .before .before .before .before .before .before .before .before .before .before .before .before .before .before .before .before .args .d) (c .before .before .before .before .before .before .before .before .before .before .before .before .before .before .before .before .before .before .before .before .pre .1 .1) (c .before .before .before .before .before .before .before .before .before .before .before .before .before .before .before .before .before .before .before .before .pre .1 .2) (c .before .before .before .before .before .before .before .before .before .before .before .before .before .before .if1 .left) _ (c .before .before .before .before .before .before .before .before .before .before .before .before .before .before .before .before .before .before .before .before .pre .1 .0 .1) _ _ _ _ _ _ (done-items _ _ _ _ _ _ _ _ _ _ (c .before .before .before .before .before .before .before .before .r .given .1) (c .before .before .before .before .before .before .before .before .before .before .before .before .items .ensures .0)))
 
--- src/expressions.rt:341:5
+-- src/expressions.rt:327:5
 list-postfixes-requires : (t : ℕ) → list-lts.Need-postfixes-requires (
   items-below t,
   items.Post,
@@ -1997,7 +1702,7 @@ list-postfixes-requires : (t : ℕ) → list-lts.Need-postfixes-requires (
 ) (list-at t) list.Post
 list-postfixes-requires t c κs = (omega (arith, c .before .before .before .before .before .before .before .before .before .before .before .before .before .before .before .before .before .before .before .before .pre .0), (list-after (wordsIn (c .before .before .before .before .before .before .before .before .before .before .before .before .before .before .before .before .before .before .before .before .args .reserved .now) (c .before .before .before .before .before .before .before .before .before .before .before .before .before .before .before .before .before .before .before .before .args .currencies .now) (c .before .before .before .before .before .before .before .before .before .before .before .before .before .before .before .before .before .before .before .before .args .counters .now)) (c .before .before .before .before .before .before .before .before .before .before .before .before .before .before .before .before .before .before .before .before .args .depth) (c .before .before .before .before .before .before .before .before .before .before .before .before .before .before .before .before .before .before .before .before .args .s .now) (c .before .before .before .before .before .before .before .before .before .before .before .before .before .before .before .before .before .before .before .before .args .c) (c .before .before .before .before .before .before .before .before .before .before .before .before .before .before .before .before .before .before .before .before .args .d) (c .before .before .before .before .before .before .before .before .before .before .before .before .before .before .before .before .before .before .before .before .pre .1 .1) (c .before .before .before .before .before .before .before .before .before .before .before .before .before .before .before .before .before .before .before .before .pre .1 .2) (c .before .before .before .before .before .before .before .before .before .before .before .before .before .before .if1 .left) _ (c .before .before .before .before .before .before .before .before .before .before .before .before .before .before .before .before .before .before .before .before .pre .1 .0 .1) _ _ _ _ _ _ (done-items _ _ _ _ _ _ _ _ _ _ (c .before .before .before .before .before .before .before .before .r .given .1) (c .before .before .before .before .before .before .before .before .before .before .before .before .items .ensures .0)) (closed-code _ _ _ _ _ _ (c .before .before .before .before .before .before .before .before .r .given .1) (c .before .before .before .before .before .before .before .before .before .before .before .before .items .ensures .1)) (c .before .before .before .before .before .before .next .result) (c .before .before .before .before .before .before .next .ensures), c .before .before .before .before .before .before .before .before .before .before .before .before .before .before .before .before .before .before .before .before .pre .1 .3, omega (arith, list-numbers (wordsIn (c .before .before .before .before .before .before .before .before .before .before .before .before .before .before .before .before .before .before .before .before .args .reserved .now) (c .before .before .before .before .before .before .before .before .before .before .before .before .before .before .before .before .before .before .before .before .args .currencies .now) (c .before .before .before .before .before .before .before .before .before .before .before .before .before .before .before .before .before .before .before .before .args .counters .now)) (c .before .before .before .before .before .before .before .before .before .before .before .before .before .before .before .before .before .before .before .before .args .depth) (c .before .before .before .before .before .before .before .before .before .before .before .before .before .before .before .before .before .before .before .before .args .s .now) (c .before .before .before .before .before .before .before .before .before .before .before .before .before .before .before .before .before .before .before .before .args .c) (c .before .before .before .before .before .before .before .before .before .before .before .before .before .before .before .before .before .before .before .before .args .d) (c .before .before .before .before .before .before .before .before .before .before .before .before .before .before .before .before .before .before .before .before .pre .1 .1) (c .before .before .before .before .before .before .before .before .before .before .before .before .before .before .before .before .before .before .before .before .pre .1 .2) (c .before .before .before .before .before .before .before .before .before .before .before .before .before .before .if1 .left) _ (c .before .before .before .before .before .before .before .before .before .before .before .before .before .before .before .before .before .before .before .before .pre .1 .0 .1) _ _ _ _ _ _ (done-items _ _ _ _ _ _ _ _ _ _ (c .before .before .before .before .before .before .before .before .r .given .1) (c .before .before .before .before .before .before .before .before .before .before .before .before .items .ensures .0)))))
 
--- src/expressions.rt:308:1
+-- src/expressions.rt:294:1
 list-same-length-2 : (t : ℕ) → list-lts.Need-same-length-2 (
   items-below t,
   items.Post,
@@ -2014,7 +1719,7 @@ list-same-length-2 : (t : ℕ) → list-lts.Need-same-length-2 (
 ) (list-at t) list.Post
 list-same-length-2 t c = c .before .before .postfixes .kept .1 .1 .1 .1 .1 .1 .0 ∙ (c .before .before .before .before .before .before .put .kept .0 ∙ c .before .before .before .before .before .before .before .before .before .before .before .before .before .before .before .items .kept .1 .1 .1 .1 .1 .1 .1 .0)
 
--- src/expressions.rt:308:1
+-- src/expressions.rt:294:1
 list-returns-3 : (t : ℕ) → list-lts.Need-returns-3 (
   items-below t,
   items.Post,
@@ -2031,7 +1736,7 @@ list-returns-3 : (t : ℕ) → list-lts.Need-returns-3 (
 ) (list-at t) list.Post
 list-returns-3 t c = meets-as _ _ _ _ _ (c .before .before .postfixes .result) _ (list-done (wordsIn (c .before .before .before .before .before .before .before .before .before .before .before .before .before .before .before .before .before .before .before .before .before .before .before .args .reserved .now) (c .before .before .before .before .before .before .before .before .before .before .before .before .before .before .before .before .before .before .before .before .before .before .before .args .currencies .now) (c .before .before .before .before .before .before .before .before .before .before .before .before .before .before .before .before .before .before .before .before .before .before .before .args .counters .now)) (c .before .before .before .before .before .before .before .before .before .before .before .before .before .before .before .before .before .before .before .before .before .before .before .args .depth) (c .before .before .before .before .before .before .before .before .before .before .before .before .before .before .before .before .before .before .before .before .before .before .before .args .s .now) (c .before .before .before .before .before .before .before .before .before .before .before .before .before .before .before .before .before .before .before .before .before .before .before .args .c) (c .before .before .before .before .before .before .before .before .before .before .before .before .before .before .before .before .before .before .before .before .before .before .before .args .d) (c .before .before .before .before .before .before .before .before .before .before .before .before .before .before .before .before .before .before .before .before .before .before .before .pre .1 .1) (c .before .before .before .before .before .before .before .before .before .before .before .before .before .before .before .before .before .before .before .before .before .before .before .pre .1 .2) (c .before .before .before .before .before .before .before .before .before .before .before .before .before .before .before .before .before .if1 .left) _ (c .before .before .before .before .before .before .before .before .before .before .before .before .before .before .before .before .before .before .before .before .before .before .before .pre .1 .0 .1) _ _ _ _ _ _ (done-items _ _ _ _ _ _ _ _ _ _ (c .before .before .before .before .before .before .before .before .before .before .before .r .given .1) (c .before .before .before .before .before .before .before .before .before .before .before .before .before .before .before .items .ensures .0)) (closed-code _ _ _ _ _ _ (c .before .before .before .before .before .before .before .before .before .before .before .r .given .1) (c .before .before .before .before .before .before .before .before .before .before .before .before .before .before .before .items .ensures .1)) (c .before .before .before .before .before .before .before .before .before .next .result) (c .before .before .before .before .before .before .before .before .before .next .ensures)) (c .before .before .postfixes .ensures _ _ (list-tops (wordsIn (c .before .before .before .before .before .before .before .before .before .before .before .before .before .before .before .before .before .before .before .before .before .before .before .args .reserved .now) (c .before .before .before .before .before .before .before .before .before .before .before .before .before .before .before .before .before .before .before .before .before .before .before .args .currencies .now) (c .before .before .before .before .before .before .before .before .before .before .before .before .before .before .before .before .before .before .before .before .before .before .before .args .counters .now)) (c .before .before .before .before .before .before .before .before .before .before .before .before .before .before .before .before .before .before .before .before .before .before .before .args .depth) (c .before .before .before .before .before .before .before .before .before .before .before .before .before .before .before .before .before .before .before .before .before .before .before .args .s .now) (c .before .before .before .before .before .before .before .before .before .before .before .before .before .before .before .before .before .before .before .before .before .before .before .args .c) (c .before .before .before .before .before .before .before .before .before .before .before .before .before .before .before .before .before .before .before .before .before .before .before .args .d) (c .before .before .before .before .before .before .before .before .before .before .before .before .before .before .before .before .before .before .before .before .before .before .before .pre .1 .1) (c .before .before .before .before .before .before .before .before .before .before .before .before .before .before .before .before .before .before .before .before .before .before .before .pre .1 .2) (c .before .before .before .before .before .before .before .before .before .before .before .before .before .before .before .before .before .if1 .left) _ (c .before .before .before .before .before .before .before .before .before .before .before .before .before .before .before .before .before .before .before .before .before .before .before .pre .1 .0 .1) _ _ _ _ _ _ (done-items _ _ _ _ _ _ _ _ _ _ (c .before .before .before .before .before .before .before .before .before .before .before .r .given .1) (c .before .before .before .before .before .before .before .before .before .before .before .before .before .before .before .items .ensures .0)) _ (item-put _ _ _ _ _ _ _ (c .before .before .before .before .before .before .put .ensures) (c .before .before .before .before .before .before .before .plain .ensures))))
 
--- src/expressions.rt:588:25
+-- src/expressions.rt:574:25
 method-take-requires : (t : ℕ) → method-lts.Need-take-requires (
   take-reads.Asked,
   take-reads.Learnt,
@@ -2048,7 +1753,7 @@ method-take-requires : (t : ℕ) → method-lts.Need-take-requires (
 ) (method-at t) method.Post
 method-take-requires t c κs = search needs
 
--- src/expressions.rt:588:20
+-- src/expressions.rt:574:20
 method-enum-known-d : (t : ℕ) → method-lts.Need-enum-known-d (
   take-reads.Asked,
   take-reads.Learnt,
@@ -2065,7 +1770,7 @@ method-enum-known-d : (t : ℕ) → method-lts.Need-enum-known-d (
 ) (method-at t) method.Post
 method-enum-known-d t c = search needs
 
--- src/expressions.rt:589:9
+-- src/expressions.rt:575:9
 method-enum-told : (t : ℕ) → method-lts.Need-enum-told (
   take-reads.Asked,
   take-reads.Learnt,
@@ -2082,7 +1787,7 @@ method-enum-told : (t : ℕ) → method-lts.Need-enum-told (
 ) (method-at t) method.Post
 method-enum-told t c = search needs
 
--- src/expressions.rt:589:9
+-- src/expressions.rt:575:9
 method-returns : (t : ℕ) → method-lts.Need-returns (
   take-reads.Asked,
   take-reads.Learnt,
@@ -2099,7 +1804,7 @@ method-returns : (t : ℕ) → method-lts.Need-returns (
 ) (method-at t) method.Post
 method-returns t c = method-unnamed (inner (wordsIn (c .before .before .before .before .before .before .before .before .args .reserved .now) (c .before .before .before .before .before .before .before .before .args .currencies .now) (c .before .before .before .before .before .before .before .before .args .counters .now)) (c .before .before .before .before .before .before .before .before .args .depth)) (inner-sized (wordsIn (c .before .before .before .before .before .before .before .before .args .reserved .now) (c .before .before .before .before .before .before .before .before .args .currencies .now) (c .before .before .before .before .before .before .before .before .args .counters .now)) (c .before .before .before .before .before .before .before .before .args .depth)) (c .before .before .before .before .before .before .before .before .args .s .now) (c .before .before .before .before .before .before .before .before .args .c) (c .before .before .before .before .before .before .before .before .pre .1 .0 .0) (c .before .before .before .before .before .before .before .before .args .n) (c .before .before .before .before .before .before .before .before .args .m) (c .before .before .before .before .before .before .before .before .args .out .now) (c .before .before .take .result) _ (c .enum-told .given .1) (c .before .before .take .ensures) (c .before .before .before .before .before .before .before .before .args .out .now)
 
--- src/expressions.rt:591:9
+-- src/expressions.rt:577:9
 method-arguments-requires : (t : ℕ) → method-lts.Need-arguments-requires (
   take-reads.Asked,
   take-reads.Learnt,
@@ -2116,7 +1821,7 @@ method-arguments-requires : (t : ℕ) → method-lts.Need-arguments-requires (
 ) (method-at t) method.Post
 method-arguments-requires t c κs = (omega arith, (method-ready (inner (wordsIn (c .before .before .before .before .before .before .before .before .before .before .args .reserved .now) (c .before .before .before .before .before .before .before .before .before .before .args .currencies .now) (c .before .before .before .before .before .before .before .before .before .before .args .counters .now)) (c .before .before .before .before .before .before .before .before .before .before .args .depth)) (inner-sized (wordsIn (c .before .before .before .before .before .before .before .before .before .before .args .reserved .now) (c .before .before .before .before .before .before .before .before .before .before .args .currencies .now) (c .before .before .before .before .before .before .before .before .before .before .args .counters .now)) (c .before .before .before .before .before .before .before .before .before .before .args .depth)) (c .before .before .before .before .before .before .before .before .before .before .args .s .now) (c .before .before .before .before .before .before .before .before .before .before .args .c) (c .before .before .before .before .before .before .before .before .before .before .pre .1 .0 .0) (c .before .before .before .before .before .before .before .before .before .before .args .n) (c .before .before .before .before .before .before .before .before .before .before .args .m) (c .before .before .before .before .before .before .before .before .before .before .args .out .now) (c .before .before .before .before .take .result) _ (c .before .before .d .given .1) (c .before .before .before .before .take .ensures) (c .before .before .before .before .before .before .before .before .before .before .pre .1 .0 .1), c .before .before .before .before .before .before .before .before .before .before .pre .1 .1))
 
--- src/expressions.rt:592:21
+-- src/expressions.rt:578:21
 method-enum-known-r : (t : ℕ) → method-lts.Need-enum-known-r (
   take-reads.Asked,
   take-reads.Learnt,
@@ -2133,7 +1838,7 @@ method-enum-known-r : (t : ℕ) → method-lts.Need-enum-known-r (
 ) (method-at t) method.Post
 method-enum-known-r t c = search needs
 
--- src/expressions.rt:593:9
+-- src/expressions.rt:579:9
 method-enum-told-2 : (t : ℕ) → method-lts.Need-enum-told-2 (
   take-reads.Asked,
   take-reads.Learnt,
@@ -2150,7 +1855,7 @@ method-enum-told-2 : (t : ℕ) → method-lts.Need-enum-told-2 (
 ) (method-at t) method.Post
 method-enum-told-2 t c = search needs
 
--- src/expressions.rt:593:9
+-- src/expressions.rt:579:9
 method-refusal-requires : (t : ℕ) → method-lts.Need-refusal-requires (
   take-reads.Asked,
   take-reads.Learnt,
@@ -2167,7 +1872,7 @@ method-refusal-requires : (t : ℕ) → method-lts.Need-refusal-requires (
 ) (method-at t) method.Post
 method-refusal-requires t c κs = search needs
 
--- src/expressions.rt:593:9
+-- src/expressions.rt:579:9
 method-same-length : (t : ℕ) → method-lts.Need-same-length (
   take-reads.Asked,
   take-reads.Learnt,
@@ -2184,7 +1889,7 @@ method-same-length : (t : ℕ) → method-lts.Need-same-length (
 ) (method-at t) method.Post
 method-same-length t c = search needs
 
--- src/expressions.rt:593:9
+-- src/expressions.rt:579:9
 method-returns-2 : (t : ℕ) → method-lts.Need-returns-2 (
   take-reads.Asked,
   take-reads.Learnt,
@@ -2201,7 +1906,7 @@ method-returns-2 : (t : ℕ) → method-lts.Need-returns-2 (
 ) (method-at t) method.Post
 method-returns-2 t c = method-refuses (inner (wordsIn (c .before .before .before .before .before .before .before .before .before .before .before .before .before .before .before .before .args .reserved .now) (c .before .before .before .before .before .before .before .before .before .before .before .before .before .before .before .before .args .currencies .now) (c .before .before .before .before .before .before .before .before .before .before .before .before .before .before .before .before .args .counters .now)) (c .before .before .before .before .before .before .before .before .before .before .before .before .before .before .before .before .args .depth)) (inner-sized (wordsIn (c .before .before .before .before .before .before .before .before .before .before .before .before .before .before .before .before .args .reserved .now) (c .before .before .before .before .before .before .before .before .before .before .before .before .before .before .before .before .args .currencies .now) (c .before .before .before .before .before .before .before .before .before .before .before .before .before .before .before .before .args .counters .now)) (c .before .before .before .before .before .before .before .before .before .before .before .before .before .before .before .before .args .depth)) (c .before .before .before .before .before .before .before .before .before .before .before .before .before .before .before .before .args .s .now) (c .before .before .before .before .before .before .before .before .before .before .before .before .before .before .before .before .args .c) (c .before .before .before .before .before .before .before .before .before .before .before .before .before .before .before .before .pre .1 .0 .0) (c .before .before .before .before .before .before .before .before .before .before .before .before .before .before .before .before .args .n) (c .before .before .before .before .before .before .before .before .before .before .before .before .before .before .before .before .args .m) (c .before .before .before .before .before .before .before .before .before .before .before .before .before .before .before .before .args .out .now) (c .before .before .before .before .before .before .before .before .before .before .take .result) _ (c .before .before .before .before .before .before .before .before .d .given .1) (c .before .before .before .before .before .before .before .before .before .before .take .ensures) _ (c .before .before .before .before .before .arguments .result) (c .refusal .result) _ _ (c .before .enum-told2 .given .1) (c .refusal .ensures) (c .before .before .before .before .before .arguments .ensures)
 
--- src/expressions.rt:595:13
+-- src/expressions.rt:581:13
 method-cast-a : (t : ℕ) → method-lts.Need-cast-a (
   take-reads.Asked,
   take-reads.Learnt,
@@ -2218,7 +1923,7 @@ method-cast-a : (t : ℕ) → method-lts.Need-cast-a (
 ) (method-at t) method.Post
 method-cast-a t c = search needs
 
--- src/expressions.rt:596:13
+-- src/expressions.rt:582:13
 method-cast-b : (t : ℕ) → method-lts.Need-cast-b (
   take-reads.Asked,
   take-reads.Learnt,
@@ -2235,7 +1940,7 @@ method-cast-b : (t : ℕ) → method-lts.Need-cast-b (
 ) (method-at t) method.Post
 method-cast-b t c = search needs
 
--- src/expressions.rt:597:26
+-- src/expressions.rt:583:26
 method-sub-method-of : (t : ℕ) → method-lts.Need-sub-method-of (
   take-reads.Asked,
   take-reads.Learnt,
@@ -2252,7 +1957,7 @@ method-sub-method-of : (t : ℕ) → method-lts.Need-sub-method-of (
 ) (method-at t) method.Post
 method-sub-method-of t c = omega (arith, start-in (c .before .before .before .before .before .before .before .before .before .before .before .before .before .before .before .before .before .before .pre .1 .0 .0), end-in (c .before .before .before .before .before .before .before .before .before .before .before .before .before .before .before .before .before .before .pre .1 .0 .0))
 
--- src/expressions.rt:597:26
+-- src/expressions.rt:583:26
 method-part-method-of-start : (t : ℕ) → method-lts.Need-part-method-of-start (
   take-reads.Asked,
   take-reads.Learnt,
@@ -2269,7 +1974,7 @@ method-part-method-of-start : (t : ℕ) → method-lts.Need-part-method-of-start
 ) (method-at t) method.Post
 method-part-method-of-start t c = omega (arith, start-in (c .before .before .before .before .before .before .before .before .before .before .before .before .before .before .before .before .before .before .pre .1 .0 .0), end-in (c .before .before .before .before .before .before .before .before .before .before .before .before .before .before .before .before .before .before .pre .1 .0 .0))
 
--- src/expressions.rt:597:26
+-- src/expressions.rt:583:26
 method-part-method-of-end : (t : ℕ) → method-lts.Need-part-method-of-end (
   take-reads.Asked,
   take-reads.Learnt,
@@ -2286,7 +1991,7 @@ method-part-method-of-end : (t : ℕ) → method-lts.Need-part-method-of-end (
 ) (method-at t) method.Post
 method-part-method-of-end t c = omega (arith, start-in (c .before .before .before .before .before .before .before .before .before .before .before .before .before .before .before .before .before .before .pre .1 .0 .0), end-in (c .before .before .before .before .before .before .before .before .before .before .before .before .before .before .before .before .before .before .pre .1 .0 .0))
 
--- src/expressions.rt:597:9
+-- src/expressions.rt:583:9
 method-method-of-requires : (t : ℕ) → method-lts.Need-method-of-requires (
   take-reads.Asked,
   take-reads.Learnt,
@@ -2303,7 +2008,7 @@ method-method-of-requires : (t : ℕ) → method-lts.Need-method-of-requires (
 ) (method-at t) method.Post
 method-method-of-requires t c κs = search needs
 
--- src/expressions.rt:599:9
+-- src/expressions.rt:585:9
 method-same-length-2 : (t : ℕ) → method-lts.Need-same-length-2 (
   take-reads.Asked,
   take-reads.Learnt,
@@ -2320,7 +2025,7 @@ method-same-length-2 : (t : ℕ) → method-lts.Need-same-length-2 (
 ) (method-at t) method.Post
 method-same-length-2 t c = search needs
 
--- src/expressions.rt:599:9
+-- src/expressions.rt:585:9
 method-returns-3 : (t : ℕ) → method-lts.Need-returns-3 (
   take-reads.Asked,
   take-reads.Learnt,
@@ -2337,7 +2042,7 @@ method-returns-3 : (t : ℕ) → method-lts.Need-returns-3 (
 ) (method-at t) method.Post
 method-returns-3 t c = method-none (inner (wordsIn (c .before .before .before .before .before .before .before .before .before .before .before .before .before .before .before .before .before .before .before .before .before .args .reserved .now) (c .before .before .before .before .before .before .before .before .before .before .before .before .before .before .before .before .before .before .before .before .before .args .currencies .now) (c .before .before .before .before .before .before .before .before .before .before .before .before .before .before .before .before .before .before .before .before .before .args .counters .now)) (c .before .before .before .before .before .before .before .before .before .before .before .before .before .before .before .before .before .before .before .before .before .args .depth)) (inner-sized (wordsIn (c .before .before .before .before .before .before .before .before .before .before .before .before .before .before .before .before .before .before .before .before .before .args .reserved .now) (c .before .before .before .before .before .before .before .before .before .before .before .before .before .before .before .before .before .before .before .before .before .args .currencies .now) (c .before .before .before .before .before .before .before .before .before .before .before .before .before .before .before .before .before .before .before .before .before .args .counters .now)) (c .before .before .before .before .before .before .before .before .before .before .before .before .before .before .before .before .before .before .before .before .before .args .depth)) (c .before .before .before .before .before .before .before .before .before .before .before .before .before .before .before .before .before .before .before .before .before .args .s .now) (c .before .before .before .before .before .before .before .before .before .before .before .before .before .before .before .before .before .before .before .before .before .args .c) (c .before .before .before .before .before .before .before .before .before .before .before .before .before .before .before .before .before .before .before .before .before .pre .1 .0 .0) (c .before .before .before .before .before .before .before .before .before .before .before .before .before .before .before .before .before .before .before .before .before .args .n) (c .before .before .before .before .before .before .before .before .before .before .before .before .before .before .before .before .before .before .before .before .before .args .m) (c .before .before .before .before .before .before .before .before .before .before .before .before .before .before .before .before .before .before .before .before .before .args .out .now) (c .before .before .before .before .before .before .before .before .before .before .before .before .before .before .before .take .result) _ (c .before .before .before .before .before .before .before .before .before .before .before .before .before .d .given .1) (c .before .before .before .before .before .before .before .before .before .before .before .before .before .before .before .take .ensures) _ _ _ _ _ (items-done _ _ _ _ (c .before .before .before .before .before .before .before .before .before .before .arguments .result) _ _ _ _ _ (c .before .before .before .before .before .before .r .given .1) (c .before .before .before .before .before .before .before .before .before .before .arguments .ensures)) _ (c .before .method-of .ensures) (c .if1 .taken) (c .before .before .before .before .before .before .before .before .before .before .before .before .before .before .before .before .before .before .before .before .before .args .out .now)
 
--- src/expressions.rt:601:29
+-- src/expressions.rt:587:29
 method-sub-plain : (t : ℕ) → method-lts.Need-sub-plain (
   take-reads.Asked,
   take-reads.Learnt,
@@ -2354,7 +2059,7 @@ method-sub-plain : (t : ℕ) → method-lts.Need-sub-plain (
 ) (method-at t) method.Post
 method-sub-plain t c = omega (arith, method-numbers (inner (wordsIn (c .before .before .before .before .before .before .before .before .before .before .before .before .before .before .before .before .before .before .before .before .before .before .args .reserved .now) (c .before .before .before .before .before .before .before .before .before .before .before .before .before .before .before .before .before .before .before .before .before .before .args .currencies .now) (c .before .before .before .before .before .before .before .before .before .before .before .before .before .before .before .before .before .before .before .before .before .before .args .counters .now)) (c .before .before .before .before .before .before .before .before .before .before .before .before .before .before .before .before .before .before .before .before .before .before .args .depth)) (inner-sized (wordsIn (c .before .before .before .before .before .before .before .before .before .before .before .before .before .before .before .before .before .before .before .before .before .before .args .reserved .now) (c .before .before .before .before .before .before .before .before .before .before .before .before .before .before .before .before .before .before .before .before .before .before .args .currencies .now) (c .before .before .before .before .before .before .before .before .before .before .before .before .before .before .before .before .before .before .before .before .before .before .args .counters .now)) (c .before .before .before .before .before .before .before .before .before .before .before .before .before .before .before .before .before .before .before .before .before .before .args .depth)) (c .before .before .before .before .before .before .before .before .before .before .before .before .before .before .before .before .before .before .before .before .before .before .args .s .now) (c .before .before .before .before .before .before .before .before .before .before .before .before .before .before .before .before .before .before .before .before .before .before .args .c) (c .before .before .before .before .before .before .before .before .before .before .before .before .before .before .before .before .before .before .before .before .before .before .pre .1 .0 .0) (c .before .before .before .before .before .before .before .before .before .before .before .before .before .before .before .before .before .before .before .before .before .before .args .n) (c .before .before .before .before .before .before .before .before .before .before .before .before .before .before .before .before .before .before .before .before .before .before .args .m) (c .before .before .before .before .before .before .before .before .before .before .before .before .before .before .before .before .before .before .before .before .before .before .args .out .now) (c .before .before .before .before .before .before .before .before .before .before .before .before .before .before .before .before .take .result) _ (c .before .before .before .before .before .before .before .before .before .before .before .before .before .before .d .given .1) (c .before .before .before .before .before .before .before .before .before .before .before .before .before .before .before .before .take .ensures) _ _ _ _ _ (items-done _ _ _ _ (c .before .before .before .before .before .before .before .before .before .before .before .arguments .result) _ _ _ _ _ (c .before .before .before .before .before .before .before .r .given .1) (c .before .before .before .before .before .before .before .before .before .before .before .arguments .ensures)) (c .before .before .before .before .before .before .before .before .before .before .before .before .before .before .before .before .before .before .before .before .before .before .pre .1 .0 .1) (c .before .before .before .before .before .before .before .before .before .before .before .before .before .before .before .before .before .before .before .before .before .before .pre .1 .2))
 
--- src/expressions.rt:601:29
+-- src/expressions.rt:587:29
 method-add-plain : (t : ℕ) → method-lts.Need-add-plain (
   take-reads.Asked,
   take-reads.Learnt,
@@ -2371,7 +2076,7 @@ method-add-plain : (t : ℕ) → method-lts.Need-add-plain (
 ) (method-at t) method.Post
 method-add-plain t c = omega (arith, method-numbers (inner (wordsIn (c .before .before .before .before .before .before .before .before .before .before .before .before .before .before .before .before .before .before .before .before .before .before .args .reserved .now) (c .before .before .before .before .before .before .before .before .before .before .before .before .before .before .before .before .before .before .before .before .before .before .args .currencies .now) (c .before .before .before .before .before .before .before .before .before .before .before .before .before .before .before .before .before .before .before .before .before .before .args .counters .now)) (c .before .before .before .before .before .before .before .before .before .before .before .before .before .before .before .before .before .before .before .before .before .before .args .depth)) (inner-sized (wordsIn (c .before .before .before .before .before .before .before .before .before .before .before .before .before .before .before .before .before .before .before .before .before .before .args .reserved .now) (c .before .before .before .before .before .before .before .before .before .before .before .before .before .before .before .before .before .before .before .before .before .before .args .currencies .now) (c .before .before .before .before .before .before .before .before .before .before .before .before .before .before .before .before .before .before .before .before .before .before .args .counters .now)) (c .before .before .before .before .before .before .before .before .before .before .before .before .before .before .before .before .before .before .before .before .before .before .args .depth)) (c .before .before .before .before .before .before .before .before .before .before .before .before .before .before .before .before .before .before .before .before .before .before .args .s .now) (c .before .before .before .before .before .before .before .before .before .before .before .before .before .before .before .before .before .before .before .before .before .before .args .c) (c .before .before .before .before .before .before .before .before .before .before .before .before .before .before .before .before .before .before .before .before .before .before .pre .1 .0 .0) (c .before .before .before .before .before .before .before .before .before .before .before .before .before .before .before .before .before .before .before .before .before .before .args .n) (c .before .before .before .before .before .before .before .before .before .before .before .before .before .before .before .before .before .before .before .before .before .before .args .m) (c .before .before .before .before .before .before .before .before .before .before .before .before .before .before .before .before .before .before .before .before .before .before .args .out .now) (c .before .before .before .before .before .before .before .before .before .before .before .before .before .before .before .before .take .result) _ (c .before .before .before .before .before .before .before .before .before .before .before .before .before .before .d .given .1) (c .before .before .before .before .before .before .before .before .before .before .before .before .before .before .before .before .take .ensures) _ _ _ _ _ (items-done _ _ _ _ (c .before .before .before .before .before .before .before .before .before .before .before .arguments .result) _ _ _ _ _ (c .before .before .before .before .before .before .before .r .given .1) (c .before .before .before .before .before .before .before .before .before .before .before .arguments .ensures)) (c .before .before .before .before .before .before .before .before .before .before .before .before .before .before .before .before .before .before .before .before .before .before .pre .1 .0 .1) (c .before .before .before .before .before .before .before .before .before .before .before .before .before .before .before .before .before .before .before .before .before .before .pre .1 .2))
 
--- src/expressions.rt:601:40
+-- src/expressions.rt:587:40
 method-add-plain-2 : (t : ℕ) → method-lts.Need-add-plain-2 (
   take-reads.Asked,
   take-reads.Learnt,
@@ -2388,7 +2093,7 @@ method-add-plain-2 : (t : ℕ) → method-lts.Need-add-plain-2 (
 ) (method-at t) method.Post
 method-add-plain-2 t c = omega (arith, method-numbers (inner (wordsIn (c .before .before .before .before .before .before .before .before .before .before .before .before .before .before .before .before .before .before .before .before .before .before .args .reserved .now) (c .before .before .before .before .before .before .before .before .before .before .before .before .before .before .before .before .before .before .before .before .before .before .args .currencies .now) (c .before .before .before .before .before .before .before .before .before .before .before .before .before .before .before .before .before .before .before .before .before .before .args .counters .now)) (c .before .before .before .before .before .before .before .before .before .before .before .before .before .before .before .before .before .before .before .before .before .before .args .depth)) (inner-sized (wordsIn (c .before .before .before .before .before .before .before .before .before .before .before .before .before .before .before .before .before .before .before .before .before .before .args .reserved .now) (c .before .before .before .before .before .before .before .before .before .before .before .before .before .before .before .before .before .before .before .before .before .before .args .currencies .now) (c .before .before .before .before .before .before .before .before .before .before .before .before .before .before .before .before .before .before .before .before .before .before .args .counters .now)) (c .before .before .before .before .before .before .before .before .before .before .before .before .before .before .before .before .before .before .before .before .before .before .args .depth)) (c .before .before .before .before .before .before .before .before .before .before .before .before .before .before .before .before .before .before .before .before .before .before .args .s .now) (c .before .before .before .before .before .before .before .before .before .before .before .before .before .before .before .before .before .before .before .before .before .before .args .c) (c .before .before .before .before .before .before .before .before .before .before .before .before .before .before .before .before .before .before .before .before .before .before .pre .1 .0 .0) (c .before .before .before .before .before .before .before .before .before .before .before .before .before .before .before .before .before .before .before .before .before .before .args .n) (c .before .before .before .before .before .before .before .before .before .before .before .before .before .before .before .before .before .before .before .before .before .before .args .m) (c .before .before .before .before .before .before .before .before .before .before .before .before .before .before .before .before .before .before .before .before .before .before .args .out .now) (c .before .before .before .before .before .before .before .before .before .before .before .before .before .before .before .before .take .result) _ (c .before .before .before .before .before .before .before .before .before .before .before .before .before .before .d .given .1) (c .before .before .before .before .before .before .before .before .before .before .before .before .before .before .before .before .take .ensures) _ _ _ _ _ (items-done _ _ _ _ (c .before .before .before .before .before .before .before .before .before .before .before .arguments .result) _ _ _ _ _ (c .before .before .before .before .before .before .before .r .given .1) (c .before .before .before .before .before .before .before .before .before .before .before .arguments .ensures)) (c .before .before .before .before .before .before .before .before .before .before .before .before .before .before .before .before .before .before .before .before .before .before .pre .1 .0 .1) (c .before .before .before .before .before .before .before .before .before .before .before .before .before .before .before .before .before .before .before .before .before .before .pre .1 .2))
 
--- src/expressions.rt:601:17
+-- src/expressions.rt:587:17
 method-plain-requires : (t : ℕ) → method-lts.Need-plain-requires (
   take-reads.Asked,
   take-reads.Learnt,
@@ -2405,7 +2110,7 @@ method-plain-requires : (t : ℕ) → method-lts.Need-plain-requires (
 ) (method-at t) method.Post
 method-plain-requires t c κs = search needs
 
--- src/expressions.rt:601:5
+-- src/expressions.rt:587:5
 method-put-requires : (t : ℕ) → method-lts.Need-put-requires (
   take-reads.Asked,
   take-reads.Learnt,
@@ -2422,7 +2127,7 @@ method-put-requires : (t : ℕ) → method-lts.Need-put-requires (
 ) (method-at t) method.Post
 method-put-requires t c κs = search needs
 
--- src/expressions.rt:602:19
+-- src/expressions.rt:588:19
 method-add-t30 : (t : ℕ) → method-lts.Need-add-t30 (
   take-reads.Asked,
   take-reads.Learnt,
@@ -2439,7 +2144,7 @@ method-add-t30 : (t : ℕ) → method-lts.Need-add-t30 (
 ) (method-at t) method.Post
 method-add-t30 t c = omega (arith, method-numbers (inner (wordsIn (c .before .before .before .before .before .before .before .before .before .before .before .before .before .before .before .before .before .before .before .before .before .before .before .before .before .before .args .reserved .now) (c .before .before .before .before .before .before .before .before .before .before .before .before .before .before .before .before .before .before .before .before .before .before .before .before .before .before .args .currencies .now) (c .before .before .before .before .before .before .before .before .before .before .before .before .before .before .before .before .before .before .before .before .before .before .before .before .before .before .args .counters .now)) (c .before .before .before .before .before .before .before .before .before .before .before .before .before .before .before .before .before .before .before .before .before .before .before .before .before .before .args .depth)) (inner-sized (wordsIn (c .before .before .before .before .before .before .before .before .before .before .before .before .before .before .before .before .before .before .before .before .before .before .before .before .before .before .args .reserved .now) (c .before .before .before .before .before .before .before .before .before .before .before .before .before .before .before .before .before .before .before .before .before .before .before .before .before .before .args .currencies .now) (c .before .before .before .before .before .before .before .before .before .before .before .before .before .before .before .before .before .before .before .before .before .before .before .before .before .before .args .counters .now)) (c .before .before .before .before .before .before .before .before .before .before .before .before .before .before .before .before .before .before .before .before .before .before .before .before .before .before .args .depth)) (c .before .before .before .before .before .before .before .before .before .before .before .before .before .before .before .before .before .before .before .before .before .before .before .before .before .before .args .s .now) (c .before .before .before .before .before .before .before .before .before .before .before .before .before .before .before .before .before .before .before .before .before .before .before .before .before .before .args .c) (c .before .before .before .before .before .before .before .before .before .before .before .before .before .before .before .before .before .before .before .before .before .before .before .before .before .before .pre .1 .0 .0) (c .before .before .before .before .before .before .before .before .before .before .before .before .before .before .before .before .before .before .before .before .before .before .before .before .before .before .args .n) (c .before .before .before .before .before .before .before .before .before .before .before .before .before .before .before .before .before .before .before .before .before .before .before .before .before .before .args .m) (c .before .before .before .before .before .before .before .before .before .before .before .before .before .before .before .before .before .before .before .before .before .before .before .before .before .before .args .out .now) (c .before .before .before .before .before .before .before .before .before .before .before .before .before .before .before .before .before .before .before .before .take .result) _ (c .before .before .before .before .before .before .before .before .before .before .before .before .before .before .before .before .before .before .d .given .1) (c .before .before .before .before .before .before .before .before .before .before .before .before .before .before .before .before .before .before .before .before .take .ensures) _ _ _ _ _ (items-done _ _ _ _ (c .before .before .before .before .before .before .before .before .before .before .before .before .before .before .before .arguments .result) _ _ _ _ _ (c .before .before .before .before .before .before .before .before .before .before .before .r .given .1) (c .before .before .before .before .before .before .before .before .before .before .before .before .before .before .before .arguments .ensures)) (c .before .before .before .before .before .before .before .before .before .before .before .before .before .before .before .before .before .before .before .before .before .before .before .before .before .before .pre .1 .0 .1) (c .before .before .before .before .before .before .before .before .before .before .before .before .before .before .before .before .before .before .before .before .before .before .before .before .before .before .pre .1 .2))
 
--- src/expressions.rt:574:1
+-- src/expressions.rt:560:1
 method-same-length-3 : (t : ℕ) → method-lts.Need-same-length-3 (
   take-reads.Asked,
   take-reads.Learnt,
@@ -2456,7 +2161,7 @@ method-same-length-3 : (t : ℕ) → method-lts.Need-same-length-3 (
 ) (method-at t) method.Post
 method-same-length-3 t c = search needs
 
--- src/expressions.rt:574:1
+-- src/expressions.rt:560:1
 method-returns-4 : (t : ℕ) → method-lts.Need-returns-4 (
   take-reads.Asked,
   take-reads.Learnt,
@@ -2473,7 +2178,7 @@ method-returns-4 : (t : ℕ) → method-lts.Need-returns-4 (
 ) (method-at t) method.Post
 method-returns-4 t c = method-reads (inner (wordsIn (c .before .before .before .before .before .before .before .before .before .before .before .before .before .before .before .before .before .before .before .before .before .before .before .before .before .before .args .reserved .now) (c .before .before .before .before .before .before .before .before .before .before .before .before .before .before .before .before .before .before .before .before .before .before .before .before .before .before .args .currencies .now) (c .before .before .before .before .before .before .before .before .before .before .before .before .before .before .before .before .before .before .before .before .before .before .before .before .before .before .args .counters .now)) (c .before .before .before .before .before .before .before .before .before .before .before .before .before .before .before .before .before .before .before .before .before .before .before .before .before .before .args .depth)) (inner-sized (wordsIn (c .before .before .before .before .before .before .before .before .before .before .before .before .before .before .before .before .before .before .before .before .before .before .before .before .before .before .args .reserved .now) (c .before .before .before .before .before .before .before .before .before .before .before .before .before .before .before .before .before .before .before .before .before .before .before .before .before .before .args .currencies .now) (c .before .before .before .before .before .before .before .before .before .before .before .before .before .before .before .before .before .before .before .before .before .before .before .before .before .before .args .counters .now)) (c .before .before .before .before .before .before .before .before .before .before .before .before .before .before .before .before .before .before .before .before .before .before .before .before .before .before .args .depth)) (c .before .before .before .before .before .before .before .before .before .before .before .before .before .before .before .before .before .before .before .before .before .before .before .before .before .before .args .s .now) (c .before .before .before .before .before .before .before .before .before .before .before .before .before .before .before .before .before .before .before .before .before .before .before .before .before .before .args .c) (c .before .before .before .before .before .before .before .before .before .before .before .before .before .before .before .before .before .before .before .before .before .before .before .before .before .before .pre .1 .0 .0) (c .before .before .before .before .before .before .before .before .before .before .before .before .before .before .before .before .before .before .before .before .before .before .before .before .before .before .args .n) (c .before .before .before .before .before .before .before .before .before .before .before .before .before .before .before .before .before .before .before .before .before .before .before .before .before .before .args .m) (c .before .before .before .before .before .before .before .before .before .before .before .before .before .before .before .before .before .before .before .before .before .before .before .before .before .before .args .out .now) (c .before .before .before .before .before .before .before .before .before .before .before .before .before .before .before .before .before .before .before .before .take .result) _ (c .before .before .before .before .before .before .before .before .before .before .before .before .before .before .before .before .before .before .d .given .1) (c .before .before .before .before .before .before .before .before .before .before .before .before .before .before .before .before .before .before .before .before .take .ensures) _ _ _ _ _ (items-done _ _ _ _ (c .before .before .before .before .before .before .before .before .before .before .before .before .before .before .before .arguments .result) _ _ _ _ _ (c .before .before .before .before .before .before .before .before .before .before .before .r .given .1) (c .before .before .before .before .before .before .before .before .before .before .before .before .before .before .before .arguments .ensures)) (c .before .before .before .before .before .before .before .before .before .before .before .before .before .before .before .before .before .before .before .before .before .before .before .before .before .before .pre .1 .0 .1) (c .before .before .before .before .before .before .before .before .before .before .before .before .before .before .before .before .before .before .before .before .before .before .before .before .before .before .pre .1 .2) _ (c .before .before .before .before .before .before .method-of .ensures) (c .before .before .before .before .before .if1 .left) _ (post-put _ _ _ (c .before .before .before .plain .result) _ _ _ (c .before .before .before .plain .ensures) (c .before .before .put .ensures))
 
--- src/expressions.rt:394:13
+-- src/expressions.rt:380:13
 name-cast-a : (t : ℕ) → name-lts.Need-cast-a (
   call-of-reads.Asked,
   call-of-reads.Learnt,
@@ -2488,7 +2193,7 @@ name-cast-a : (t : ℕ) → name-lts.Need-cast-a (
 ) (name-at t) name.Post
 name-cast-a t c = search needs
 
--- src/expressions.rt:395:13
+-- src/expressions.rt:381:13
 name-cast-e : (t : ℕ) → name-lts.Need-cast-e (
   call-of-reads.Asked,
   call-of-reads.Learnt,
@@ -2503,7 +2208,7 @@ name-cast-e : (t : ℕ) → name-lts.Need-cast-e (
 ) (name-at t) name.Post
 name-cast-e t c = search needs
 
--- src/expressions.rt:396:24
+-- src/expressions.rt:382:24
 name-sub-call-of : (t : ℕ) → name-lts.Need-sub-call-of (
   call-of-reads.Asked,
   call-of-reads.Learnt,
@@ -2518,7 +2223,7 @@ name-sub-call-of : (t : ℕ) → name-lts.Need-sub-call-of (
 ) (name-at t) name.Post
 name-sub-call-of t c = omega (arith, start-in (c .before .before .before .before .before .before .before .pre .1 .0 .0), end-in (c .before .before .before .before .before .before .before .pre .1 .0 .0))
 
--- src/expressions.rt:396:24
+-- src/expressions.rt:382:24
 name-part-call-of-start : (t : ℕ) → name-lts.Need-part-call-of-start (
   call-of-reads.Asked,
   call-of-reads.Learnt,
@@ -2533,7 +2238,7 @@ name-part-call-of-start : (t : ℕ) → name-lts.Need-part-call-of-start (
 ) (name-at t) name.Post
 name-part-call-of-start t c = omega (arith, start-in (c .before .before .before .before .before .before .before .pre .1 .0 .0), end-in (c .before .before .before .before .before .before .before .pre .1 .0 .0))
 
--- src/expressions.rt:396:24
+-- src/expressions.rt:382:24
 name-part-call-of-end : (t : ℕ) → name-lts.Need-part-call-of-end (
   call-of-reads.Asked,
   call-of-reads.Learnt,
@@ -2548,7 +2253,7 @@ name-part-call-of-end : (t : ℕ) → name-lts.Need-part-call-of-end (
 ) (name-at t) name.Post
 name-part-call-of-end t c = omega (arith, start-in (c .before .before .before .before .before .before .before .pre .1 .0 .0), end-in (c .before .before .before .before .before .before .before .pre .1 .0 .0))
 
--- src/expressions.rt:396:9
+-- src/expressions.rt:382:9
 name-call-of-requires : (t : ℕ) → name-lts.Need-call-of-requires (
   call-of-reads.Asked,
   call-of-reads.Learnt,
@@ -2563,7 +2268,7 @@ name-call-of-requires : (t : ℕ) → name-lts.Need-call-of-requires (
 ) (name-at t) name.Post
 name-call-of-requires t c κs = search needs
 
--- src/expressions.rt:398:13
+-- src/expressions.rt:384:13
 name-variable-at-requires : (t : ℕ) → name-lts.Need-variable-at-requires (
   call-of-reads.Asked,
   call-of-reads.Learnt,
@@ -2578,7 +2283,7 @@ name-variable-at-requires : (t : ℕ) → name-lts.Need-variable-at-requires (
 ) (name-at t) name.Post
 name-variable-at-requires t c κs = search needs
 
--- src/expressions.rt:399:24
+-- src/expressions.rt:385:24
 name-enum-known-r : (t : ℕ) → name-lts.Need-enum-known-r (
   call-of-reads.Asked,
   call-of-reads.Learnt,
@@ -2593,7 +2298,7 @@ name-enum-known-r : (t : ℕ) → name-lts.Need-enum-known-r (
 ) (name-at t) name.Post
 name-enum-known-r t c = search needs
 
--- src/expressions.rt:400:13
+-- src/expressions.rt:386:13
 name-enum-told : (t : ℕ) → name-lts.Need-enum-told (
   call-of-reads.Asked,
   call-of-reads.Learnt,
@@ -2608,7 +2313,7 @@ name-enum-told : (t : ℕ) → name-lts.Need-enum-told (
 ) (name-at t) name.Post
 name-enum-told t c = search needs
 
--- src/expressions.rt:400:13
+-- src/expressions.rt:386:13
 name-same-length : (t : ℕ) → name-lts.Need-same-length (
   call-of-reads.Asked,
   call-of-reads.Learnt,
@@ -2623,7 +2328,7 @@ name-same-length : (t : ℕ) → name-lts.Need-same-length (
 ) (name-at t) name.Post
 name-same-length t c = search needs
 
--- src/expressions.rt:400:13
+-- src/expressions.rt:386:13
 name-returns : (t : ℕ) → name-lts.Need-returns (
   call-of-reads.Asked,
   call-of-reads.Learnt,
@@ -2638,7 +2343,7 @@ name-returns : (t : ℕ) → name-lts.Need-returns (
 ) (name-at t) name.Post
 name-returns t c = name-refuses (c .before .before .before .before .before .before .before .before .before .before .before .before .before .before .before .before .args .reserved .now) (c .before .before .before .before .before .before .before .before .before .before .before .before .before .before .before .before .args .currencies .now) (c .before .before .before .before .before .before .before .before .before .before .before .before .before .before .before .before .args .counters .now) (inner (wordsIn (c .before .before .before .before .before .before .before .before .before .before .before .before .before .before .before .before .args .reserved .now) (c .before .before .before .before .before .before .before .before .before .before .before .before .before .before .before .before .args .currencies .now) (c .before .before .before .before .before .before .before .before .before .before .before .before .before .before .before .before .args .counters .now)) (c .before .before .before .before .before .before .before .before .before .before .before .before .before .before .before .before .args .depth)) (c .before .before .before .before .before .before .before .before .before .before .before .before .before .before .before .before .args .s .now) (c .before .before .before .before .before .before .before .before .before .before .before .before .before .before .before .before .args .c) (c .before .before .before .before .before .before .before .before .before .before .before .before .before .before .before .before .args .d) (c .before .before .before .before .before .before .before .before .before .before .before .before .before .before .before .before .args .n) (c .before .before .before .before .before .before .before .before .before .before .before .before .before .before .before .before .args .out .now) (c .before .before .before .before .before .before .before .call-of .result) (c .before .before .before .before .before .before .before .call-of .ensures) (c .before .before .before .before .before .before .if1 .taken) _ (c .before .before .before .before .variable-at .result) _ _ (c .enum-told .given .1) (c .before .before .before .before .variable-at .ensures)
 
--- src/expressions.rt:402:9
+-- src/expressions.rt:388:9
 name-postfixes-requires : (t : ℕ) → name-lts.Need-postfixes-requires (
   call-of-reads.Asked,
   call-of-reads.Learnt,
@@ -2655,7 +2360,7 @@ name-postfixes-requires t c κs =
     let g = name-numbers (c .before .before .before .before .before .before .before .before .before .before .before .before .before .before .before .before .before .before .args .reserved .now) (c .before .before .before .before .before .before .before .before .before .before .before .before .before .before .before .before .before .before .args .currencies .now) (c .before .before .before .before .before .before .before .before .before .before .before .before .before .before .before .before .before .before .args .counters .now) (inner (wordsIn (c .before .before .before .before .before .before .before .before .before .before .before .before .before .before .before .before .before .before .args .reserved .now) (c .before .before .before .before .before .before .before .before .before .before .before .before .before .before .before .before .before .before .args .currencies .now) (c .before .before .before .before .before .before .before .before .before .before .before .before .before .before .before .before .before .before .args .counters .now)) (c .before .before .before .before .before .before .before .before .before .before .before .before .before .before .before .before .before .before .args .depth)) (c .before .before .before .before .before .before .before .before .before .before .before .before .before .before .before .before .before .before .args .s .now) (c .before .before .before .before .before .before .before .before .before .before .before .before .before .before .before .before .before .before .args .c) (c .before .before .before .before .before .before .before .before .before .before .before .before .before .before .before .before .before .before .args .d) (c .before .before .before .before .before .before .before .before .before .before .before .before .before .before .before .before .before .before .args .n) (c .before .before .before .before .before .before .before .before .before .before .before .before .before .before .before .before .before .before .args .out .now) (c .before .before .before .before .before .before .before .before .before .call-of .result) (c .before .before .before .before .before .before .before .before .before .call-of .ensures) _ _ _ _ (done-reads _ _ _ _ (c .before .before .before .before .before .before .variable-at .result) _ _ _ _ (c .before .before .r .given .1) (c .before .before .before .before .before .before .variable-at .ensures)) (c .before .before .before .before .before .before .before .before .before .before .before .before .before .before .before .before .before .before .pre .1 .0 .1) (c .before .before .before .before .before .before .before .before .before .before .before .before .before .before .before .before .before .before .pre .1 .1) (c .before .before .before .before .before .before .before .before .before .before .before .before .before .before .before .before .before .before .pre .1 .2) in
     (omega arith, (g .0, c .before .before .before .before .before .before .before .before .before .before .before .before .before .before .before .before .before .before .pre .1 .3, g .1))
 
--- src/expressions.rt:402:9
+-- src/expressions.rt:388:9
 name-same-length-2 : (t : ℕ) → name-lts.Need-same-length-2 (
   call-of-reads.Asked,
   call-of-reads.Learnt,
@@ -2670,7 +2375,7 @@ name-same-length-2 : (t : ℕ) → name-lts.Need-same-length-2 (
 ) (name-at t) name.Post
 name-same-length-2 t c = search needs
 
--- src/expressions.rt:402:9
+-- src/expressions.rt:388:9
 name-returns-2 : (t : ℕ) → name-lts.Need-returns-2 (
   call-of-reads.Asked,
   call-of-reads.Learnt,
@@ -2685,7 +2390,7 @@ name-returns-2 : (t : ℕ) → name-lts.Need-returns-2 (
 ) (name-at t) name.Post
 name-returns-2 t c = name-reads (c .before .before .before .before .before .before .before .before .before .before .before .before .before .before .before .before .before .before .before .before .before .args .reserved .now) (c .before .before .before .before .before .before .before .before .before .before .before .before .before .before .before .before .before .before .before .before .before .args .currencies .now) (c .before .before .before .before .before .before .before .before .before .before .before .before .before .before .before .before .before .before .before .before .before .args .counters .now) (inner (wordsIn (c .before .before .before .before .before .before .before .before .before .before .before .before .before .before .before .before .before .before .before .before .before .args .reserved .now) (c .before .before .before .before .before .before .before .before .before .before .before .before .before .before .before .before .before .before .before .before .before .args .currencies .now) (c .before .before .before .before .before .before .before .before .before .before .before .before .before .before .before .before .before .before .before .before .before .args .counters .now)) (c .before .before .before .before .before .before .before .before .before .before .before .before .before .before .before .before .before .before .before .before .before .args .depth)) (c .before .before .before .before .before .before .before .before .before .before .before .before .before .before .before .before .before .before .before .before .before .args .s .now) (c .before .before .before .before .before .before .before .before .before .before .before .before .before .before .before .before .before .before .before .before .before .args .c) (c .before .before .before .before .before .before .before .before .before .before .before .before .before .before .before .before .before .before .before .before .before .args .d) (c .before .before .before .before .before .before .before .before .before .before .before .before .before .before .before .before .before .before .before .before .before .args .n) (c .before .before .before .before .before .before .before .before .before .before .before .before .before .before .before .before .before .before .before .before .before .args .out .now) (c .before .before .before .before .before .before .before .before .before .before .before .before .call-of .result) (c .before .before .before .before .before .before .before .before .before .before .before .before .call-of .ensures) _ _ _ _ (done-reads _ _ _ _ (c .before .before .before .before .before .before .before .before .before .variable-at .result) _ _ _ _ (c .before .before .before .before .before .r .given .1) (c .before .before .before .before .before .before .before .before .before .variable-at .ensures)) (c .before .before .before .before .before .before .before .before .before .before .before .if1 .taken) (c .before .before .postfixes .result) _ (c .before .before .postfixes .ensures)
 
--- src/expressions.rt:405:9
+-- src/expressions.rt:391:9
 name-special-requires : (t : ℕ) → name-lts.Need-special-requires (
   call-of-reads.Asked,
   call-of-reads.Learnt,
@@ -2700,7 +2405,7 @@ name-special-requires : (t : ℕ) → name-lts.Need-special-requires (
 ) (name-at t) name.Post
 name-special-requires t c κs = (ready-behind (c .before .before .before .before .before .before .before .before .before .before .before .before .args .s .now) (c .before .before .before .before .before .before .before .before .before .before .before .before .args .c) (c .before .before .before .before .before .before .before .before .before .before .before .before .args .d) (c .before .before .before .before .before .before .before .before .before .before .before .before .args .n) 0 (c .before .before .before .before .before .before .before .before .before .before .before .before .pre .1 .0 .1) (c .before .before .before .before .before .before .before .before .before .before .before .before .pre .1 .1) (c .before .before .before .before .before .before .before .before .before .before .before .before .pre .1 .2), c .before .before .before .before .before .before .before .before .before .before .before .before .pre .1 .3)
 
--- src/expressions.rt:405:9
+-- src/expressions.rt:391:9
 name-same-length-3 : (t : ℕ) → name-lts.Need-same-length-3 (
   call-of-reads.Asked,
   call-of-reads.Learnt,
@@ -2715,7 +2420,7 @@ name-same-length-3 : (t : ℕ) → name-lts.Need-same-length-3 (
 ) (name-at t) name.Post
 name-same-length-3 t c = search needs
 
--- src/expressions.rt:405:9
+-- src/expressions.rt:391:9
 name-returns-3 : (t : ℕ) → name-lts.Need-returns-3 (
   call-of-reads.Asked,
   call-of-reads.Learnt,
@@ -2730,7 +2435,7 @@ name-returns-3 : (t : ℕ) → name-lts.Need-returns-3 (
 ) (name-at t) name.Post
 name-returns-3 t c = name-special (c .before .before .before .before .before .before .before .before .before .before .before .before .before .before .before .args .reserved .now) (c .before .before .before .before .before .before .before .before .before .before .before .before .before .before .before .args .currencies .now) (c .before .before .before .before .before .before .before .before .before .before .before .before .before .before .before .args .counters .now) (inner (wordsIn (c .before .before .before .before .before .before .before .before .before .before .before .before .before .before .before .args .reserved .now) (c .before .before .before .before .before .before .before .before .before .before .before .before .before .before .before .args .currencies .now) (c .before .before .before .before .before .before .before .before .before .before .before .before .before .before .before .args .counters .now)) (c .before .before .before .before .before .before .before .before .before .before .before .before .before .before .before .args .depth)) (c .before .before .before .before .before .before .before .before .before .before .before .before .before .before .before .args .s .now) (c .before .before .before .before .before .before .before .before .before .before .before .before .before .before .before .args .c) (c .before .before .before .before .before .before .before .before .before .before .before .before .before .before .before .args .d) (c .before .before .before .before .before .before .before .before .before .before .before .before .before .before .before .args .n) (c .before .before .before .before .before .before .before .before .before .before .before .before .before .before .before .args .out .now) (c .before .before .before .before .before .before .call-of .result) (c .before .before .before .before .before .before .call-of .ensures) (c .before .before .before .before .if2 .taken) (c .before .before .special .result) _ (c .before .before .special .ensures)
 
--- src/expressions.rt:407:5
+-- src/expressions.rt:393:5
 name-call-requires : (t : ℕ) → name-lts.Need-call-requires (
   call-of-reads.Asked,
   call-of-reads.Learnt,
@@ -2745,7 +2450,7 @@ name-call-requires : (t : ℕ) → name-lts.Need-call-requires (
 ) (name-at t) name.Post
 name-call-requires t c κs = (omega arith, (ready-behind (c .before .before .before .before .before .before .before .before .before .before .before .before .args .s .now) (c .before .before .before .before .before .before .before .before .before .before .before .before .args .c) (c .before .before .before .before .before .before .before .before .before .before .before .before .args .d) (c .before .before .before .before .before .before .before .before .before .before .before .before .args .n) 0 (c .before .before .before .before .before .before .before .before .before .before .before .before .pre .1 .0 .1) (c .before .before .before .before .before .before .before .before .before .before .before .before .pre .1 .1) (c .before .before .before .before .before .before .before .before .before .before .before .before .pre .1 .2), (c .before .before .before .before .before .before .before .before .before .before .before .before .pre .1 .0 .0), c .before .before .before .before .before .before .before .before .before .before .before .before .pre .1 .2, c .before .before .before .before .before .before .before .before .before .before .before .before .pre .1 .3, c .before .before .before .call-of .ensures, above _ (c .before .before .if1 .left), c .before .if2 .left))
 
--- src/expressions.rt:380:1
+-- src/expressions.rt:366:1
 name-same-length-4 : (t : ℕ) → name-lts.Need-same-length-4 (
   call-of-reads.Asked,
   call-of-reads.Learnt,
@@ -2760,7 +2465,7 @@ name-same-length-4 : (t : ℕ) → name-lts.Need-same-length-4 (
 ) (name-at t) name.Post
 name-same-length-4 t c = search needs
 
--- src/expressions.rt:380:1
+-- src/expressions.rt:366:1
 name-returns-4 : (t : ℕ) → name-lts.Need-returns-4 (
   call-of-reads.Asked,
   call-of-reads.Learnt,
@@ -2775,7 +2480,7 @@ name-returns-4 : (t : ℕ) → name-lts.Need-returns-4 (
 ) (name-at t) name.Post
 name-returns-4 t c = name-call (c .before .before .before .before .before .before .before .before .before .before .before .before .before .before .before .args .reserved .now) (c .before .before .before .before .before .before .before .before .before .before .before .before .before .before .before .args .currencies .now) (c .before .before .before .before .before .before .before .before .before .before .before .before .before .before .before .args .counters .now) (inner (wordsIn (c .before .before .before .before .before .before .before .before .before .before .before .before .before .before .before .args .reserved .now) (c .before .before .before .before .before .before .before .before .before .before .before .before .before .before .before .args .currencies .now) (c .before .before .before .before .before .before .before .before .before .before .before .before .before .before .before .args .counters .now)) (c .before .before .before .before .before .before .before .before .before .before .before .before .before .before .before .args .depth)) (c .before .before .before .before .before .before .before .before .before .before .before .before .before .before .before .args .s .now) (c .before .before .before .before .before .before .before .before .before .before .before .before .before .before .before .args .c) (c .before .before .before .before .before .before .before .before .before .before .before .before .before .before .before .args .d) (c .before .before .before .before .before .before .before .before .before .before .before .before .before .before .before .args .n) (c .before .before .before .before .before .before .before .before .before .before .before .before .before .before .before .args .out .now) (c .before .before .before .before .before .before .call-of .result) (c .before .before .before .before .before .before .call-of .ensures) (c .before .before .before .before .before .if1 .left) (c .before .before .before .before .if2 .left) (c .before .before .call .result) _ (c .before .before .call .ensures)
 
--- src/expressions.rt:295:9
+-- src/expressions.rt:281:9
 parenthesis-returns : (t : ℕ) → parenthesis-lts.Need-returns (
   expression-below t,
   expression.Post,
@@ -2784,7 +2489,7 @@ parenthesis-returns : (t : ℕ) → parenthesis-lts.Need-returns (
 ) (parenthesis-at t) parenthesis.Post
 parenthesis-returns t c = parenthesis-deep (wordsIn (c .before .before .before .before .before .before .args .reserved .now) (c .before .before .before .before .before .before .args .currencies .now) (c .before .before .before .before .before .before .args .counters .now)) (c .before .before .before .before .before .before .args .s .now) (c .before .before .before .before .before .before .args .c) (c .before .before .before .before .before .before .args .d) (c .before .before .before .before .before .before .args .n) (c .before .before .before .before .before .before .args .out .now) (c .before .before .before .before .before .before .args .depth) (c .before .before .before .before .before .before .pre .1 .1) (λ z. omega (arith, z, c .before .before .before .before .before .before .pre .1 .2)) (c .if1 .taken)
 
--- src/expressions.rt:297:62
+-- src/expressions.rt:283:62
 parenthesis-sub-expression : (t : ℕ) → parenthesis-lts.Need-sub-expression (
   expression-below t,
   expression.Post,
@@ -2793,7 +2498,7 @@ parenthesis-sub-expression : (t : ℕ) → parenthesis-lts.Need-sub-expression (
 ) (parenthesis-at t) parenthesis.Post
 parenthesis-sub-expression t c = search needs
 
--- src/expressions.rt:297:9
+-- src/expressions.rt:283:9
 parenthesis-expression-requires : (t : ℕ) → parenthesis-lts.Need-expression-requires (
   expression-below t,
   expression.Post,
@@ -2802,7 +2507,7 @@ parenthesis-expression-requires : (t : ℕ) → parenthesis-lts.Need-expression-
 ) (parenthesis-at t) parenthesis.Post
 parenthesis-expression-requires t c κs = (omega arith, (follow-ready _ (c .before .before .before .before .before .before .before .args .c) (c .before .before .before .before .before .before .before .args .d) _ (λ z. omega (arith, z, c .before .before .before .before .before .before .before .pre .1 .2)) (c .before .before .before .before .before .before .before .pre .1 .1) (c .before .before .before .before .before .before .before .pre .1 .0) .0, c .before .before .before .before .before .before .before .pre .1 .3))
 
--- src/expressions.rt:298:20
+-- src/expressions.rt:284:20
 parenthesis-enum-known-r : (t : ℕ) → parenthesis-lts.Need-enum-known-r (
   expression-below t,
   expression.Post,
@@ -2811,7 +2516,7 @@ parenthesis-enum-known-r : (t : ℕ) → parenthesis-lts.Need-enum-known-r (
 ) (parenthesis-at t) parenthesis.Post
 parenthesis-enum-known-r t c = search needs
 
--- src/expressions.rt:299:9
+-- src/expressions.rt:285:9
 parenthesis-enum-told : (t : ℕ) → parenthesis-lts.Need-enum-told (
   expression-below t,
   expression.Post,
@@ -2820,7 +2525,7 @@ parenthesis-enum-told : (t : ℕ) → parenthesis-lts.Need-enum-told (
 ) (parenthesis-at t) parenthesis.Post
 parenthesis-enum-told t c = search needs
 
--- src/expressions.rt:299:9
+-- src/expressions.rt:285:9
 parenthesis-same-length : (t : ℕ) → parenthesis-lts.Need-same-length (
   expression-below t,
   expression.Post,
@@ -2829,7 +2534,7 @@ parenthesis-same-length : (t : ℕ) → parenthesis-lts.Need-same-length (
 ) (parenthesis-at t) parenthesis.Post
 parenthesis-same-length t c = search needs
 
--- src/expressions.rt:299:9
+-- src/expressions.rt:285:9
 parenthesis-returns-2 : (t : ℕ) → parenthesis-lts.Need-returns-2 (
   expression-below t,
   expression.Post,
@@ -2838,7 +2543,7 @@ parenthesis-returns-2 : (t : ℕ) → parenthesis-lts.Need-returns-2 (
 ) (parenthesis-at t) parenthesis.Post
 parenthesis-returns-2 t c = refused-on _ _ _ _ _ _ _ _ _ _ _ _ (c .enum-told .given .1) (c .before .before .before .before .expression .ensures) (parenthesis-refused (wordsIn (c .before .before .before .before .before .before .before .before .before .before .before .before .args .reserved .now) (c .before .before .before .before .before .before .before .before .before .before .before .before .args .currencies .now) (c .before .before .before .before .before .before .before .before .before .before .before .before .args .counters .now)) (c .before .before .before .before .before .before .before .before .before .before .before .before .args .s .now) (c .before .before .before .before .before .before .before .before .before .before .before .before .args .c) (c .before .before .before .before .before .before .before .before .before .before .before .before .args .d) (c .before .before .before .before .before .before .before .before .before .before .before .before .args .n) (c .before .before .before .before .before .before .before .before .before .before .before .before .args .out .now) (c .before .before .before .before .before .before .before .before .before .before .before .before .args .depth) (c .before .before .before .before .before .before .before .before .before .before .before .before .pre .1 .1) (λ z. omega (arith, z, c .before .before .before .before .before .before .before .before .before .before .before .before .pre .1 .2)) (c .before .before .before .before .before .before .if1 .left) _ _)
 
--- src/expressions.rt:301:11
+-- src/expressions.rt:287:11
 parenthesis-take-requires : (t : ℕ) → parenthesis-lts.Need-take-requires (
   expression-below t,
   expression.Post,
@@ -2847,7 +2552,7 @@ parenthesis-take-requires : (t : ℕ) → parenthesis-lts.Need-take-requires (
 ) (parenthesis-at t) parenthesis.Post
 parenthesis-take-requires t c κs = ((done-reads _ _ _ _ _ _ _ _ _ (c .before .r .given .1) (c .before .before .before .before .before .expression .ensures)) .holds, λ z. omega arith)
 
--- src/expressions.rt:302:19
+-- src/expressions.rt:288:19
 parenthesis-enum-known-b : (t : ℕ) → parenthesis-lts.Need-enum-known-b (
   expression-below t,
   expression.Post,
@@ -2856,7 +2561,7 @@ parenthesis-enum-known-b : (t : ℕ) → parenthesis-lts.Need-enum-known-b (
 ) (parenthesis-at t) parenthesis.Post
 parenthesis-enum-known-b t c = search needs
 
--- src/expressions.rt:303:20
+-- src/expressions.rt:289:20
 parenthesis-enum-known-f : (t : ℕ) → parenthesis-lts.Need-enum-known-f (
   expression-below t,
   expression.Post,
@@ -2865,7 +2570,7 @@ parenthesis-enum-known-f : (t : ℕ) → parenthesis-lts.Need-enum-known-f (
 ) (parenthesis-at t) parenthesis.Post
 parenthesis-enum-known-f t c = search needs
 
--- src/expressions.rt:280:1
+-- src/expressions.rt:266:1
 parenthesis-same-length-2 : (t : ℕ) → parenthesis-lts.Need-same-length-2 (
   expression-below t,
   expression.Post,
@@ -2874,7 +2579,7 @@ parenthesis-same-length-2 : (t : ℕ) → parenthesis-lts.Need-same-length-2 (
 ) (parenthesis-at t) parenthesis.Post
 parenthesis-same-length-2 t c = search needs
 
--- src/expressions.rt:280:1
+-- src/expressions.rt:266:1
 parenthesis-returns-3 : (t : ℕ) → parenthesis-lts.Need-returns-3 (
   expression-below t,
   expression.Post,
@@ -2883,7 +2588,7 @@ parenthesis-returns-3 : (t : ℕ) → parenthesis-lts.Need-returns-3 (
 ) (parenthesis-at t) parenthesis.Post
 parenthesis-returns-3 t c = parenthesis-open (wordsIn (c .before .before .before .before .before .before .before .before .before .before .before .before .before .before .before .before .before .args .reserved .now) (c .before .before .before .before .before .before .before .before .before .before .before .before .before .before .before .before .before .args .currencies .now) (c .before .before .before .before .before .before .before .before .before .before .before .before .before .before .before .before .before .args .counters .now)) (c .before .before .before .before .before .before .before .before .before .before .before .before .before .before .before .before .before .args .s .now) (c .before .before .before .before .before .before .before .before .before .before .before .before .before .before .before .before .before .args .c) (c .before .before .before .before .before .before .before .before .before .before .before .before .before .before .before .before .before .args .d) (c .before .before .before .before .before .before .before .before .before .before .before .before .before .before .before .before .before .args .n) (c .before .before .before .before .before .before .before .before .before .before .before .before .before .before .before .before .before .args .out .now) (c .before .before .before .before .before .before .before .before .before .before .before .before .before .before .before .before .before .args .depth) (c .before .before .before .before .before .before .before .before .before .before .before .before .before .before .before .before .before .pre .1 .1) (λ z. omega (arith, z, c .before .before .before .before .before .before .before .before .before .before .before .before .before .before .before .before .before .pre .1 .2)) (c .before .before .before .before .before .before .before .before .before .before .before .if1 .left) _ _ _ _ (done-reads _ _ _ _ _ _ _ _ _ (c .before .before .before .before .before .r .given .1) (c .before .before .before .before .before .before .before .before .before .expression .ensures)) _ (takes-as _ _ _ _ _ (c .before .b .given .1) (c .before .before .before .take .ensures))
 
--- src/expressions.rt:280:1
+-- src/expressions.rt:266:1
 parenthesis-same-length-3 : (t : ℕ) → parenthesis-lts.Need-same-length-3 (
   expression-below t,
   expression.Post,
@@ -2892,7 +2597,7 @@ parenthesis-same-length-3 : (t : ℕ) → parenthesis-lts.Need-same-length-3 (
 ) (parenthesis-at t) parenthesis.Post
 parenthesis-same-length-3 t c = search needs
 
--- src/expressions.rt:280:1
+-- src/expressions.rt:266:1
 parenthesis-returns-4 : (t : ℕ) → parenthesis-lts.Need-returns-4 (
   expression-below t,
   expression.Post,
@@ -2907,7 +2612,7 @@ pays-Inv-loop s reserved currencies counters depth out₀ n at₀ m₀ count₀ 
 abbrev pays-μ-loop : pays-lts.MeasureT-loop
 pays-μ-loop s reserved currencies counters depth out₀ n at₀ m₀ count₀ out at m count = length (toksAt s (at .start))
 
--- src/expressions.rt:360:9
+-- src/expressions.rt:346:9
 pays-returns : (t : ℕ) → pays-lts.Need-returns (
   stops-pays-reads.Asked,
   stops-pays-reads.Learnt,
@@ -2918,7 +2623,7 @@ pays-returns : (t : ℕ) → pays-lts.Need-returns (
 ) (pays-at t) pays.Post pays-Inv-loop pays-μ-loop
 pays-returns t c = pays-0 (wordsIn (c .before .before .before .before .before .before .args .reserved .now) (c .before .before .before .before .before .before .args .currencies .now) (c .before .before .before .before .before .before .args .counters .now)) (c .before .before .before .before .before .before .args .depth) (c .before .before .before .before .before .before .args .s .now) (c .before .before .before .before .before .before .args .c) (c .before .before .before .before .before .before .args .d) (c .before .before .before .before .before .before .pre .1 .0 .0) (c .before .before .before .before .before .before .pre .1 .1) (c .before .before .before .before .before .before .pre .1 .2) (c .if1 .taken)
 
--- src/expressions.rt:365:5
+-- src/expressions.rt:351:5
 pays-loop-holds : (t : ℕ) → pays-lts.Need-loop-holds (
   stops-pays-reads.Asked,
   stops-pays-reads.Learnt,
@@ -2929,7 +2634,7 @@ pays-loop-holds : (t : ℕ) → pays-lts.Need-loop-holds (
 ) (pays-at t) pays.Post pays-Inv-loop pays-μ-loop
 pays-loop-holds t c = (refl, pay-start (wordsIn (c .before .before .before .before .before .before .args .reserved .now) (c .before .before .before .before .before .before .args .currencies .now) (c .before .before .before .before .before .before .args .counters .now)) (G.primary (wordsIn (c .before .before .before .before .before .before .args .reserved .now) (c .before .before .before .before .before .before .args .currencies .now) (c .before .before .before .before .before .before .args .counters .now)) ((c .before .before .before .before .before .before .args .depth) - 1)) (primary-law (wordsIn (c .before .before .before .before .before .before .args .reserved .now) (c .before .before .before .before .before .before .args .currencies .now) (c .before .before .before .before .before .before .args .counters .now)) ((c .before .before .before .before .before .before .args .depth) - 1)) (primary-size (wordsIn (c .before .before .before .before .before .before .args .reserved .now) (c .before .before .before .before .before .before .args .currencies .now) (c .before .before .before .before .before .before .args .counters .now)) ((c .before .before .before .before .before .before .args .depth) - 1)) (c .before .before .before .before .before .before .args .s .now) _ _ _ (pays-ready (wordsIn (c .before .before .before .before .before .before .args .reserved .now) (c .before .before .before .before .before .before .args .currencies .now) (c .before .before .before .before .before .before .args .counters .now)) (c .before .before .before .before .before .before .args .depth) (c .before .before .before .before .before .before .args .s .now) (c .before .before .before .before .before .before .args .c) (c .before .before .before .before .before .before .args .d) (c .before .before .before .before .before .before .pre .1 .0 .0) (c .before .before .before .before .before .before .pre .1 .1) (c .before .before .before .before .before .before .pre .1 .2) _ (c .before .before .before .before .before .before .pre .1 .0 .1)))
 
--- src/expressions.rt:366:12
+-- src/expressions.rt:352:12
 pays-stops-pays-requires : (t : ℕ) → pays-lts.Need-stops-pays-requires (
   stops-pays-reads.Asked,
   stops-pays-reads.Learnt,
@@ -2940,7 +2645,7 @@ pays-stops-pays-requires : (t : ℕ) → pays-lts.Need-stops-pays-requires (
 ) (pays-at t) pays.Post pays-Inv-loop pays-μ-loop
 pays-stops-pays-requires t c κs = search needs
 
--- src/expressions.rt:367:13
+-- src/expressions.rt:353:13
 pays-payday-at-requires : (t : ℕ) → pays-lts.Need-payday-at-requires (
   stops-pays-reads.Asked,
   stops-pays-reads.Learnt,
@@ -2953,7 +2658,7 @@ pays-payday-at-requires t c κs =
     let r = pay-ready (wordsIn (c .before .before .before .before .before .before .before .before .before .before .args .reserved .now) (c .before .before .before .before .before .before .before .before .before .before .args .currencies .now) (c .before .before .before .before .before .before .before .before .before .before .args .counters .now)) (G.primary (wordsIn (c .before .before .before .before .before .before .before .before .before .before .args .reserved .now) (c .before .before .before .before .before .before .before .before .before .before .args .currencies .now) (c .before .before .before .before .before .before .before .before .before .before .args .counters .now)) ((c .before .before .before .before .before .before .before .before .before .before .args .depth) - 1)) (primary-law (wordsIn (c .before .before .before .before .before .before .before .before .before .before .args .reserved .now) (c .before .before .before .before .before .before .before .before .before .before .args .currencies .now) (c .before .before .before .before .before .before .before .before .before .before .args .counters .now)) ((c .before .before .before .before .before .before .before .before .before .before .args .depth) - 1)) (primary-size (wordsIn (c .before .before .before .before .before .before .before .before .before .before .args .reserved .now) (c .before .before .before .before .before .before .before .before .before .before .args .currencies .now) (c .before .before .before .before .before .before .before .before .before .before .args .counters .now)) ((c .before .before .before .before .before .before .before .before .before .before .args .depth) - 1)) (c .before .before .before .before .before .before .before .before .before .before .args .s .now) _ _ _ _ _ _ _ (c .before .before .before .loop .inv .1) in
     (r .0, c .before .before .before .before .before .before .before .before .before .before .pre .1 .3, r .1)
 
--- src/expressions.rt:367:13
+-- src/expressions.rt:353:13
 pays-same-length : (t : ℕ) → pays-lts.Need-same-length (
   stops-pays-reads.Asked,
   stops-pays-reads.Learnt,
@@ -2964,7 +2669,7 @@ pays-same-length : (t : ℕ) → pays-lts.Need-same-length (
 ) (pays-at t) pays.Post pays-Inv-loop pays-μ-loop
 pays-same-length t c = c .before .before .payday-at .kept .1 .1 .1 .0 ∙ c .before .before .before .before .before .before .loop .inv .0
 
--- src/expressions.rt:367:13
+-- src/expressions.rt:353:13
 pays-returns-2 : (t : ℕ) → pays-lts.Need-returns-2 (
   stops-pays-reads.Asked,
   stops-pays-reads.Learnt,
@@ -2975,7 +2680,7 @@ pays-returns-2 : (t : ℕ) → pays-lts.Need-returns-2 (
 ) (pays-at t) pays.Post pays-Inv-loop pays-μ-loop
 pays-returns-2 t c = pays-done (c .before .before .before .before .before .before .before .before .before .before .before .before .before .args .reserved .now) (c .before .before .before .before .before .before .before .before .before .before .before .before .before .args .counters .now) (c .before .before .before .before .before .before .before .before .before .before .before .before .before .args .currencies .now) (c .before .before .before .before .before .before .before .before .before .before .before .before .before .args .depth) (c .before .before .before .before .before .before .before .before .before .before .before .before .before .args .s .now) (c .before .before .before .before .before .before .before .before .before .before .before .before .before .args .c) (c .before .before .before .before .before .before .before .before .before .before .before .before .before .args .d) (c .before .before .before .before .before .before .before .before .before .before .before .before .before .pre .1 .0 .0) (c .before .before .before .before .before .before .before .before .before .before .before .before .before .pre .1 .1) (c .before .before .before .before .before .before .before .before .before .before .before .before .before .pre .1 .2) (c .before .before .before .before .before .before .before .if1 .left) _ _ _ _ _ _ (c .before .before .before .before .before .before .loop .inv .1) (sym (c .before .before .before .before .before .stops-pays .ensures) ∙ c .before .before .before .before .if2 .taken) (c .before .before .payday-at .result) _ (c .before .before .payday-at .ensures)
 
--- src/expressions.rt:369:67
+-- src/expressions.rt:355:67
 pays-sub-expression : (t : ℕ) → pays-lts.Need-sub-expression (
   stops-pays-reads.Asked,
   stops-pays-reads.Learnt,
@@ -2986,7 +2691,7 @@ pays-sub-expression : (t : ℕ) → pays-lts.Need-sub-expression (
 ) (pays-at t) pays.Post pays-Inv-loop pays-μ-loop
 pays-sub-expression t c = omega (arith, c .before .before .before .if1 .left)
 
--- src/expressions.rt:369:13
+-- src/expressions.rt:355:13
 pays-expression-requires : (t : ℕ) → pays-lts.Need-expression-requires (
   stops-pays-reads.Asked,
   stops-pays-reads.Learnt,
@@ -2997,7 +2702,7 @@ pays-expression-requires : (t : ℕ) → pays-lts.Need-expression-requires (
 ) (pays-at t) pays.Post pays-Inv-loop pays-μ-loop
 pays-expression-requires t c κs = (omega (arith, c .before .before .before .before .before .before .before .before .before .before .pre .0, c .before .before .before .before .if1 .left), (pay-ready (wordsIn (c .before .before .before .before .before .before .before .before .before .before .args .reserved .now) (c .before .before .before .before .before .before .before .before .before .before .args .currencies .now) (c .before .before .before .before .before .before .before .before .before .before .args .counters .now)) (G.primary (wordsIn (c .before .before .before .before .before .before .before .before .before .before .args .reserved .now) (c .before .before .before .before .before .before .before .before .before .before .args .currencies .now) (c .before .before .before .before .before .before .before .before .before .before .args .counters .now)) ((c .before .before .before .before .before .before .before .before .before .before .args .depth) - 1)) (primary-law (wordsIn (c .before .before .before .before .before .before .before .before .before .before .args .reserved .now) (c .before .before .before .before .before .before .before .before .before .before .args .currencies .now) (c .before .before .before .before .before .before .before .before .before .before .args .counters .now)) ((c .before .before .before .before .before .before .before .before .before .before .args .depth) - 1)) (primary-size (wordsIn (c .before .before .before .before .before .before .before .before .before .before .args .reserved .now) (c .before .before .before .before .before .before .before .before .before .before .args .currencies .now) (c .before .before .before .before .before .before .before .before .before .before .args .counters .now)) ((c .before .before .before .before .before .before .before .before .before .before .args .depth) - 1)) (c .before .before .before .before .before .before .before .before .before .before .args .s .now) _ _ _ _ _ _ _ (c .before .before .before .loop .inv .1) .0, c .before .before .before .before .before .before .before .before .before .before .pre .1 .3))
 
--- src/expressions.rt:370:24
+-- src/expressions.rt:356:24
 pays-enum-known-r : (t : ℕ) → pays-lts.Need-enum-known-r (
   stops-pays-reads.Asked,
   stops-pays-reads.Learnt,
@@ -3008,7 +2713,7 @@ pays-enum-known-r : (t : ℕ) → pays-lts.Need-enum-known-r (
 ) (pays-at t) pays.Post pays-Inv-loop pays-μ-loop
 pays-enum-known-r t c = search needs
 
--- src/expressions.rt:371:13
+-- src/expressions.rt:357:13
 pays-enum-told : (t : ℕ) → pays-lts.Need-enum-told (
   stops-pays-reads.Asked,
   stops-pays-reads.Learnt,
@@ -3019,7 +2724,7 @@ pays-enum-told : (t : ℕ) → pays-lts.Need-enum-told (
 ) (pays-at t) pays.Post pays-Inv-loop pays-μ-loop
 pays-enum-told t c = search needs
 
--- src/expressions.rt:371:13
+-- src/expressions.rt:357:13
 pays-same-length-2 : (t : ℕ) → pays-lts.Need-same-length-2 (
   stops-pays-reads.Asked,
   stops-pays-reads.Learnt,
@@ -3030,7 +2735,7 @@ pays-same-length-2 : (t : ℕ) → pays-lts.Need-same-length-2 (
 ) (pays-at t) pays.Post pays-Inv-loop pays-μ-loop
 pays-same-length-2 t c = c .before .before .before .before .expression .kept .1 .1 .1 .1 .1 .1 .0 ∙ c .before .before .before .before .before .before .before .before .loop .inv .0
 
--- src/expressions.rt:371:13
+-- src/expressions.rt:357:13
 pays-returns-3 : (t : ℕ) → pays-lts.Need-returns-3 (
   stops-pays-reads.Asked,
   stops-pays-reads.Learnt,
@@ -3041,7 +2746,7 @@ pays-returns-3 : (t : ℕ) → pays-lts.Need-returns-3 (
 ) (pays-at t) pays.Post pays-Inv-loop pays-μ-loop
 pays-returns-3 t c = refused-on _ _ _ _ _ _ _ _ _ _ _ _ (c .enum-told .given .1) (c .before .before .before .before .expression .ensures) (λ q. pays-refused (wordsIn (c .before .before .before .before .before .before .before .before .before .before .before .before .before .before .before .args .reserved .now) (c .before .before .before .before .before .before .before .before .before .before .before .before .before .before .before .args .currencies .now) (c .before .before .before .before .before .before .before .before .before .before .before .before .before .before .before .args .counters .now)) (c .before .before .before .before .before .before .before .before .before .before .before .before .before .before .before .args .depth) (c .before .before .before .before .before .before .before .before .before .before .before .before .before .before .before .args .s .now) (c .before .before .before .before .before .before .before .before .before .before .before .before .before .before .before .args .c) (c .before .before .before .before .before .before .before .before .before .before .before .before .before .before .before .args .d) (c .before .before .before .before .before .before .before .before .before .before .before .before .before .before .before .pre .1 .0 .0) (c .before .before .before .before .before .before .before .before .before .before .before .before .before .before .before .pre .1 .1) (c .before .before .before .before .before .before .before .before .before .before .before .before .before .before .before .pre .1 .2) (c .before .before .before .before .before .before .before .before .before .if1 .left) _ _ (pay-refused (wordsIn (c .before .before .before .before .before .before .before .before .before .before .before .before .before .before .before .args .reserved .now) (c .before .before .before .before .before .before .before .before .before .before .before .before .before .before .before .args .currencies .now) (c .before .before .before .before .before .before .before .before .before .before .before .before .before .before .before .args .counters .now)) (G.primary (wordsIn (c .before .before .before .before .before .before .before .before .before .before .before .before .before .before .before .args .reserved .now) (c .before .before .before .before .before .before .before .before .before .before .before .before .before .before .before .args .currencies .now) (c .before .before .before .before .before .before .before .before .before .before .before .before .before .before .before .args .counters .now)) ((c .before .before .before .before .before .before .before .before .before .before .before .before .before .before .before .args .depth) - 1)) (primary-law (wordsIn (c .before .before .before .before .before .before .before .before .before .before .before .before .before .before .before .args .reserved .now) (c .before .before .before .before .before .before .before .before .before .before .before .before .before .before .before .args .currencies .now) (c .before .before .before .before .before .before .before .before .before .before .before .before .before .before .before .args .counters .now)) ((c .before .before .before .before .before .before .before .before .before .before .before .before .before .before .before .args .depth) - 1)) (primary-size (wordsIn (c .before .before .before .before .before .before .before .before .before .before .before .before .before .before .before .args .reserved .now) (c .before .before .before .before .before .before .before .before .before .before .before .before .before .before .before .args .currencies .now) (c .before .before .before .before .before .before .before .before .before .before .before .before .before .before .before .args .counters .now)) ((c .before .before .before .before .before .before .before .before .before .before .before .before .before .before .before .args .depth) - 1)) (c .before .before .before .before .before .before .before .before .before .before .before .before .before .before .before .args .s .now) _ _ _ _ _ _ _ (c .before .before .before .before .before .before .before .before .loop .inv .1) (sym (c .before .before .before .before .before .before .before .stops-pays .ensures) ∙ c .before .before .before .before .before .before .if2 .left) _ _ q))
 
--- src/expressions.rt:375:9
+-- src/expressions.rt:361:9
 pays-add-count : (t : ℕ) → pays-lts.Need-add-count (
   stops-pays-reads.Asked,
   stops-pays-reads.Learnt,
@@ -3052,7 +2757,7 @@ pays-add-count : (t : ℕ) → pays-lts.Need-add-count (
 ) (pays-at t) pays.Post pays-Inv-loop pays-μ-loop
 pays-add-count t c = omega (arith, pay-numbers (wordsIn (c .before .before .before .before .before .before .before .before .before .before .before .before .before .before .before .before .args .reserved .now) (c .before .before .before .before .before .before .before .before .before .before .before .before .before .before .before .before .args .currencies .now) (c .before .before .before .before .before .before .before .before .before .before .before .before .before .before .before .before .args .counters .now)) (G.primary (wordsIn (c .before .before .before .before .before .before .before .before .before .before .before .before .before .before .before .before .args .reserved .now) (c .before .before .before .before .before .before .before .before .before .before .before .before .before .before .before .before .args .currencies .now) (c .before .before .before .before .before .before .before .before .before .before .before .before .before .before .before .before .args .counters .now)) ((c .before .before .before .before .before .before .before .before .before .before .before .before .before .before .before .before .args .depth) - 1)) (primary-law (wordsIn (c .before .before .before .before .before .before .before .before .before .before .before .before .before .before .before .before .args .reserved .now) (c .before .before .before .before .before .before .before .before .before .before .before .before .before .before .before .before .args .currencies .now) (c .before .before .before .before .before .before .before .before .before .before .before .before .before .before .before .before .args .counters .now)) ((c .before .before .before .before .before .before .before .before .before .before .before .before .before .before .before .before .args .depth) - 1)) (primary-size (wordsIn (c .before .before .before .before .before .before .before .before .before .before .before .before .before .before .before .before .args .reserved .now) (c .before .before .before .before .before .before .before .before .before .before .before .before .before .before .before .before .args .currencies .now) (c .before .before .before .before .before .before .before .before .before .before .before .before .before .before .before .before .args .counters .now)) ((c .before .before .before .before .before .before .before .before .before .before .before .before .before .before .before .before .args .depth) - 1)) (c .before .before .before .before .before .before .before .before .before .before .before .before .before .before .before .before .args .s .now) _ _ _ _ _ _ _ (c .before .before .before .before .before .before .before .before .before .loop .inv .1) (sym (c .before .before .before .before .before .before .before .before .stops-pays .ensures) ∙ c .before .before .before .before .before .before .before .if2 .left) _ _ _ _ (done-reads _ _ _ _ _ _ _ _ _ (c .before .r .given .1) (c .before .before .before .before .before .expression .ensures)))
 
--- src/expressions.rt:365:5
+-- src/expressions.rt:351:5
 pays-loop-less : (t : ℕ) → pays-lts.Need-loop-less (
   stops-pays-reads.Asked,
   stops-pays-reads.Learnt,
@@ -3063,7 +2768,7 @@ pays-loop-less : (t : ℕ) → pays-lts.Need-loop-less (
 ) (pays-at t) pays.Post pays-Inv-loop pays-μ-loop
 pays-loop-less t c = pay-less (wordsIn (c .before .before .before .before .before .before .before .before .before .before .before .before .before .before .before .before .args .reserved .now) (c .before .before .before .before .before .before .before .before .before .before .before .before .before .before .before .before .args .currencies .now) (c .before .before .before .before .before .before .before .before .before .before .before .before .before .before .before .before .args .counters .now)) (G.primary (wordsIn (c .before .before .before .before .before .before .before .before .before .before .before .before .before .before .before .before .args .reserved .now) (c .before .before .before .before .before .before .before .before .before .before .before .before .before .before .before .before .args .currencies .now) (c .before .before .before .before .before .before .before .before .before .before .before .before .before .before .before .before .args .counters .now)) ((c .before .before .before .before .before .before .before .before .before .before .before .before .before .before .before .before .args .depth) - 1)) (primary-law (wordsIn (c .before .before .before .before .before .before .before .before .before .before .before .before .before .before .before .before .args .reserved .now) (c .before .before .before .before .before .before .before .before .before .before .before .before .before .before .before .before .args .currencies .now) (c .before .before .before .before .before .before .before .before .before .before .before .before .before .before .before .before .args .counters .now)) ((c .before .before .before .before .before .before .before .before .before .before .before .before .before .before .before .before .args .depth) - 1)) (primary-size (wordsIn (c .before .before .before .before .before .before .before .before .before .before .before .before .before .before .before .before .args .reserved .now) (c .before .before .before .before .before .before .before .before .before .before .before .before .before .before .before .before .args .currencies .now) (c .before .before .before .before .before .before .before .before .before .before .before .before .before .before .before .before .args .counters .now)) ((c .before .before .before .before .before .before .before .before .before .before .before .before .before .before .before .before .args .depth) - 1)) (c .before .before .before .before .before .before .before .before .before .before .before .before .before .before .before .before .args .s .now) _ _ _ _ _ _ _ (c .before .before .before .before .before .before .before .before .before .loop .inv .1) (sym (c .before .before .before .before .before .before .before .before .stops-pays .ensures) ∙ c .before .before .before .before .before .before .before .if2 .left) _ _ _ _ (done-reads _ _ _ _ _ _ _ _ _ (c .before .r .given .1) (c .before .before .before .before .before .expression .ensures))
 
--- src/expressions.rt:365:5
+-- src/expressions.rt:351:5
 pays-loop-again : (t : ℕ) → pays-lts.Need-loop-again (
   stops-pays-reads.Asked,
   stops-pays-reads.Learnt,
@@ -3074,7 +2779,7 @@ pays-loop-again : (t : ℕ) → pays-lts.Need-loop-again (
 ) (pays-at t) pays.Post pays-Inv-loop pays-μ-loop
 pays-loop-again t c = (c .before .before .before .before .before .expression .kept .1 .1 .1 .1 .1 .1 .0 ∙ c .before .before .before .before .before .before .before .before .before .loop .inv .0, pay-next (wordsIn (c .before .before .before .before .before .before .before .before .before .before .before .before .before .before .before .before .args .reserved .now) (c .before .before .before .before .before .before .before .before .before .before .before .before .before .before .before .before .args .currencies .now) (c .before .before .before .before .before .before .before .before .before .before .before .before .before .before .before .before .args .counters .now)) (G.primary (wordsIn (c .before .before .before .before .before .before .before .before .before .before .before .before .before .before .before .before .args .reserved .now) (c .before .before .before .before .before .before .before .before .before .before .before .before .before .before .before .before .args .currencies .now) (c .before .before .before .before .before .before .before .before .before .before .before .before .before .before .before .before .args .counters .now)) ((c .before .before .before .before .before .before .before .before .before .before .before .before .before .before .before .before .args .depth) - 1)) (primary-law (wordsIn (c .before .before .before .before .before .before .before .before .before .before .before .before .before .before .before .before .args .reserved .now) (c .before .before .before .before .before .before .before .before .before .before .before .before .before .before .before .before .args .currencies .now) (c .before .before .before .before .before .before .before .before .before .before .before .before .before .before .before .before .args .counters .now)) ((c .before .before .before .before .before .before .before .before .before .before .before .before .before .before .before .before .args .depth) - 1)) (primary-size (wordsIn (c .before .before .before .before .before .before .before .before .before .before .before .before .before .before .before .before .args .reserved .now) (c .before .before .before .before .before .before .before .before .before .before .before .before .before .before .before .before .args .currencies .now) (c .before .before .before .before .before .before .before .before .before .before .before .before .before .before .before .before .args .counters .now)) ((c .before .before .before .before .before .before .before .before .before .before .before .before .before .before .before .before .args .depth) - 1)) (c .before .before .before .before .before .before .before .before .before .before .before .before .before .before .before .before .args .s .now) _ _ _ _ _ _ _ (c .before .before .before .before .before .before .before .before .before .loop .inv .1) (sym (c .before .before .before .before .before .before .before .before .stops-pays .ensures) ∙ c .before .before .before .before .before .before .before .if2 .left) _ _ _ _ (done-reads _ _ _ _ _ _ _ _ _ (c .before .r .given .1) (c .before .before .before .before .before .expression .ensures)))
 
--- src/expressions.rt:563:9
+-- src/expressions.rt:549:9
 postfix-next-requires : (t : ℕ) → postfix-lts.Need-next-requires (
   next-reads.Asked,
   next-reads.Learnt,
@@ -3085,7 +2790,7 @@ postfix-next-requires : (t : ℕ) → postfix-lts.Need-next-requires (
 ) (postfix-at t) postfix.Post
 postfix-next-requires t c κs = search needs
 
--- src/expressions.rt:565:9
+-- src/expressions.rt:551:9
 postfix-method-requires : (t : ℕ) → postfix-lts.Need-method-requires (
   next-reads.Asked,
   next-reads.Learnt,
@@ -3096,7 +2801,7 @@ postfix-method-requires : (t : ℕ) → postfix-lts.Need-method-requires (
 ) (postfix-at t) postfix.Post
 postfix-method-requires t c κs = (omega arith, (postfix-ready (wordsIn (c .before .before .before .before .before .before .before .before .before .args .reserved .now) (c .before .before .before .before .before .before .before .before .before .args .currencies .now) (c .before .before .before .before .before .before .before .before .before .args .counters .now)) (c .before .before .before .before .before .before .before .before .before .args .depth) (c .before .before .before .before .before .before .before .before .before .args .s .now) (c .before .before .before .before .before .before .before .before .before .args .c) (c .before .before .before .next .result) (c .before .before .before .before .before .before .before .before .before .pre .1 .0 .0) (c .before .before .before .next .ensures) (c .before .before .before .before .before .before .before .before .before .args .m) (c .before .before .before .before .before .before .before .before .before .pre .1 .3) (c .before .before .before .before .before .before .before .before .before .pre .1 .0 .1), c .before .before .before .before .before .before .before .before .before .pre .1 .1, c .before .before .before .before .before .before .before .before .before .pre .1 .2))
 
--- src/expressions.rt:565:9
+-- src/expressions.rt:551:9
 postfix-same-length : (t : ℕ) → postfix-lts.Need-same-length (
   next-reads.Asked,
   next-reads.Learnt,
@@ -3107,7 +2812,7 @@ postfix-same-length : (t : ℕ) → postfix-lts.Need-same-length (
 ) (postfix-at t) postfix.Post
 postfix-same-length t c = search needs
 
--- src/expressions.rt:565:9
+-- src/expressions.rt:551:9
 postfix-returns : (t : ℕ) → postfix-lts.Need-returns (
   next-reads.Asked,
   next-reads.Learnt,
@@ -3118,7 +2823,7 @@ postfix-returns : (t : ℕ) → postfix-lts.Need-returns (
 ) (postfix-at t) postfix.Post
 postfix-returns t c = turns-as (c .before .before .before .before .before .before .before .before .before .before .before .before .args .s .now) (λ x. postfixTurn (inner (wordsIn (c .before .before .before .before .before .before .before .before .before .before .before .before .args .reserved .now) (c .before .before .before .before .before .before .before .before .before .before .before .before .args .currencies .now) (c .before .before .before .before .before .before .before .before .before .before .before .before .args .counters .now)) (c .before .before .before .before .before .before .before .before .before .before .before .before .args .depth)) x (toksAt (c .before .before .before .before .before .before .before .before .before .before .before .before .args .s .now) (c .before .before .before .before .before .before .before .before .before .before .before .before .args .c .start))) (λ x. methodOf (inner (wordsIn (c .before .before .before .before .before .before .before .before .before .before .before .before .args .reserved .now) (c .before .before .before .before .before .before .before .before .before .before .before .before .args .currencies .now) (c .before .before .before .before .before .before .before .before .before .before .before .before .args .counters .now)) (c .before .before .before .before .before .before .before .before .before .before .before .before .args .depth)) x (toksAt (c .before .before .before .before .before .before .before .before .before .before .before .before .args .s .now) (c .before .before .before .before .before .before .next .result .start))) _ _ _ _ (c .before .before .before .before .before .before .before .before .before .before .before .before .args .c) (c .before .before .before .before .before .before .next .result) (c .before .before .method .result) (postfix-dot (wordsIn (c .before .before .before .before .before .before .before .before .before .before .before .before .args .reserved .now) (c .before .before .before .before .before .before .before .before .before .before .before .before .args .currencies .now) (c .before .before .before .before .before .before .before .before .before .before .before .before .args .counters .now)) (c .before .before .before .before .before .before .before .before .before .before .before .before .args .depth) (c .before .before .before .before .before .before .before .before .before .before .before .before .args .s .now) (c .before .before .before .before .before .before .before .before .before .before .before .before .args .c) (c .before .before .before .before .before .before .next .result) (c .before .before .before .before .before .before .before .before .before .before .before .before .pre .1 .0 .0) (c .before .before .before .before .before .before .next .ensures) (c .before .before .before .before .if1 .taken)) (omega (arith, postfix-fewer (wordsIn (c .before .before .before .before .before .before .before .before .before .before .before .before .args .reserved .now) (c .before .before .before .before .before .before .before .before .before .before .before .before .args .currencies .now) (c .before .before .before .before .before .before .before .before .before .before .before .before .args .counters .now)) (c .before .before .before .before .before .before .before .before .before .before .before .before .args .depth) (c .before .before .before .before .before .before .before .before .before .before .before .before .args .s .now) (c .before .before .before .before .before .before .before .before .before .before .before .before .args .c) (c .before .before .before .before .before .before .next .result) (c .before .before .before .before .before .before .before .before .before .before .before .before .pre .1 .0 .0) (c .before .before .before .before .before .before .next .ensures) (c .before .before .before .before .before .before .before .before .before .before .before .before .pre .1 .3))) (c .before .before .method .ensures)
 
--- src/expressions.rt:568:9
+-- src/expressions.rt:554:9
 postfix-returns-2 : (t : ℕ) → postfix-lts.Need-returns-2 (
   next-reads.Asked,
   next-reads.Learnt,
@@ -3129,7 +2834,7 @@ postfix-returns-2 : (t : ℕ) → postfix-lts.Need-returns-2 (
 ) (postfix-at t) postfix.Post
 postfix-returns-2 t c = postfix-low (wordsIn (c .before .before .before .before .before .before .before .before .before .args .reserved .now) (c .before .before .before .before .before .before .before .before .before .args .currencies .now) (c .before .before .before .before .before .before .before .before .before .args .counters .now)) (c .before .before .before .before .before .before .before .before .before .args .depth) (c .before .before .before .before .before .before .before .before .before .args .s .now) (c .before .before .before .before .before .before .before .before .before .args .c) (c .before .before .before .next .result) (c .before .before .before .before .before .before .before .before .before .pre .1 .0 .0) (c .before .before .before .next .ensures) (c .before .before .before .before .before .before .before .before .before .pre .1 .3) (c .before .if1 .left) (c .if2 .taken) _ _ _ (c .before .before .before .before .before .before .before .before .before .args .out .now)
 
--- src/expressions.rt:570:49
+-- src/expressions.rt:556:49
 postfix-sub-index : (t : ℕ) → postfix-lts.Need-sub-index (
   next-reads.Asked,
   next-reads.Learnt,
@@ -3140,7 +2845,7 @@ postfix-sub-index : (t : ℕ) → postfix-lts.Need-sub-index (
 ) (postfix-at t) postfix.Post
 postfix-sub-index t c = search needs
 
--- src/expressions.rt:570:5
+-- src/expressions.rt:556:5
 postfix-index-requires : (t : ℕ) → postfix-lts.Need-index-requires (
   next-reads.Asked,
   next-reads.Learnt,
@@ -3151,7 +2856,7 @@ postfix-index-requires : (t : ℕ) → postfix-lts.Need-index-requires (
 ) (postfix-at t) postfix.Post
 postfix-index-requires t c κs = (omega (arith, above _ (c .before .if2 .left)), (postfix-ready (wordsIn (c .before .before .before .before .before .before .before .before .before .before .args .reserved .now) (c .before .before .before .before .before .before .before .before .before .before .args .currencies .now) (c .before .before .before .before .before .before .before .before .before .before .args .counters .now)) (c .before .before .before .before .before .before .before .before .before .before .args .depth) (c .before .before .before .before .before .before .before .before .before .before .args .s .now) (c .before .before .before .before .before .before .before .before .before .before .args .c) (c .before .before .before .before .next .result) (c .before .before .before .before .before .before .before .before .before .before .pre .1 .0 .0) (c .before .before .before .before .next .ensures) (c .before .before .before .before .before .before .before .before .before .before .args .m) (c .before .before .before .before .before .before .before .before .before .before .pre .1 .3) (c .before .before .before .before .before .before .before .before .before .before .pre .1 .0 .1), c .before .before .before .before .before .before .before .before .before .before .pre .1 .1, c .before .before .before .before .before .before .before .before .before .before .pre .1 .2))
 
--- src/expressions.rt:549:1
+-- src/expressions.rt:535:1
 postfix-same-length-2 : (t : ℕ) → postfix-lts.Need-same-length-2 (
   next-reads.Asked,
   next-reads.Learnt,
@@ -3162,7 +2867,7 @@ postfix-same-length-2 : (t : ℕ) → postfix-lts.Need-same-length-2 (
 ) (postfix-at t) postfix.Post
 postfix-same-length-2 t c = search needs
 
--- src/expressions.rt:549:1
+-- src/expressions.rt:535:1
 postfix-returns-3 : (t : ℕ) → postfix-lts.Need-returns-3 (
   next-reads.Asked,
   next-reads.Learnt,
@@ -3179,7 +2884,7 @@ postfixes-Inv-loop s reserved currencies counters depth out₀ n m at₀ k₀ ou
 abbrev postfixes-μ-loop : postfixes-lts.MeasureT-loop
 postfixes-μ-loop s reserved currencies counters depth out₀ n m at₀ k₀ out at k = length (toksAt s (at .start))
 
--- src/expressions.rt:534:5
+-- src/expressions.rt:520:5
 postfixes-loop-holds : (t : ℕ) → postfixes-lts.Need-loop-holds (
   is-postfix-reads.Asked,
   is-postfix-reads.Learnt,
@@ -3188,7 +2893,7 @@ postfixes-loop-holds : (t : ℕ) → postfixes-lts.Need-loop-holds (
 ) (postfixes-at t) postfixes.Post postfixes-Inv-loop postfixes-μ-loop
 postfixes-loop-holds t c = (refl, c .before .before .before .before .before .pre .1 .0, c .before .before .before .before .before .pre .1 .2, λ R o h. h)
 
--- src/expressions.rt:536:13
+-- src/expressions.rt:522:13
 postfixes-is-postfix-requires : (t : ℕ) → postfixes-lts.Need-is-postfix-requires (
   is-postfix-reads.Asked,
   is-postfix-reads.Learnt,
@@ -3197,7 +2902,7 @@ postfixes-is-postfix-requires : (t : ℕ) → postfixes-lts.Need-is-postfix-requ
 ) (postfixes-at t) postfixes.Post postfixes-Inv-loop postfixes-μ-loop
 postfixes-is-postfix-requires t c κs = search needs
 
--- src/expressions.rt:537:13
+-- src/expressions.rt:523:13
 postfixes-same-length : (t : ℕ) → postfixes-lts.Need-same-length (
   is-postfix-reads.Asked,
   is-postfix-reads.Learnt,
@@ -3206,7 +2911,7 @@ postfixes-same-length : (t : ℕ) → postfixes-lts.Need-same-length (
 ) (postfixes-at t) postfixes.Post postfixes-Inv-loop postfixes-μ-loop
 postfixes-same-length t c = c .before .before .loop .inv .0
 
--- src/expressions.rt:537:13
+-- src/expressions.rt:523:13
 postfixes-returns : (t : ℕ) → postfixes-lts.Need-returns (
   is-postfix-reads.Asked,
   is-postfix-reads.Learnt,
@@ -3215,7 +2920,7 @@ postfixes-returns : (t : ℕ) → postfixes-lts.Need-returns (
 ) (postfixes-at t) postfixes.Post postfixes-Inv-loop postfixes-μ-loop
 postfixes-returns t c = λ x o h. post-exit (inner (wordsIn (c .before .before .before .before .before .before .before .before .args .reserved .now) (c .before .before .before .before .before .before .before .before .args .currencies .now) (c .before .before .before .before .before .before .before .before .args .counters .now)) (c .before .before .before .before .before .before .before .before .args .depth)) (each-inner (wordsIn (c .before .before .before .before .before .before .before .before .args .reserved .now) (c .before .before .before .before .before .before .before .before .args .currencies .now) (c .before .before .before .before .before .before .before .before .args .counters .now)) (c .before .before .before .before .before .before .before .before .args .depth)) (c .before .before .before .before .before .before .before .before .args .s .now) _ _ o _ _ _ (c .before .before .loop .inv .3 _ o (post-enter (inner (wordsIn (c .before .before .before .before .before .before .before .before .args .reserved .now) (c .before .before .before .before .before .before .before .before .args .currencies .now) (c .before .before .before .before .before .before .before .before .args .counters .now)) (c .before .before .before .before .before .before .before .before .args .depth)) (each-inner (wordsIn (c .before .before .before .before .before .before .before .before .args .reserved .now) (c .before .before .before .before .before .before .before .before .args .currencies .now) (c .before .before .before .before .before .before .before .before .args .counters .now)) (c .before .before .before .before .before .before .before .before .args .depth)) (c .before .before .before .before .before .before .before .before .args .s .now) x _ o _ _ _ h)) (c .before .before .loop .inv .1 .0) (sign-no (c .before .is-postfix .result) _ (c .before .is-postfix .ensures) (c .if1 .taken))
 
--- src/expressions.rt:539:13
+-- src/expressions.rt:525:13
 postfixes-postfix-requires : (t : ℕ) → postfixes-lts.Need-postfix-requires (
   is-postfix-reads.Asked,
   is-postfix-reads.Learnt,
@@ -3224,7 +2929,7 @@ postfixes-postfix-requires : (t : ℕ) → postfixes-lts.Need-postfix-requires (
 ) (postfixes-at t) postfixes.Post postfixes-Inv-loop postfixes-μ-loop
 postfixes-postfix-requires t c κs = (omega (arith, c .before .before .before .before .before .before .before .before .before .pre .0), (c .before .before .before .loop .inv .1, c .before .before .before .before .before .before .before .before .before .pre .1 .1, c .before .before .before .loop .inv .2, sign-yes (c .before .before .is-postfix .result) _ (c .before .before .is-postfix .ensures) (c .before .if1 .left)))
 
--- src/expressions.rt:540:24
+-- src/expressions.rt:526:24
 postfixes-enum-known-r : (t : ℕ) → postfixes-lts.Need-enum-known-r (
   is-postfix-reads.Asked,
   is-postfix-reads.Learnt,
@@ -3233,7 +2938,7 @@ postfixes-enum-known-r : (t : ℕ) → postfixes-lts.Need-enum-known-r (
 ) (postfixes-at t) postfixes.Post postfixes-Inv-loop postfixes-μ-loop
 postfixes-enum-known-r t c = search needs
 
--- src/expressions.rt:541:13
+-- src/expressions.rt:527:13
 postfixes-enum-told : (t : ℕ) → postfixes-lts.Need-enum-told (
   is-postfix-reads.Asked,
   is-postfix-reads.Learnt,
@@ -3242,7 +2947,7 @@ postfixes-enum-told : (t : ℕ) → postfixes-lts.Need-enum-told (
 ) (postfixes-at t) postfixes.Post postfixes-Inv-loop postfixes-μ-loop
 postfixes-enum-told t c = search needs
 
--- src/expressions.rt:541:13
+-- src/expressions.rt:527:13
 postfixes-same-length-2 : (t : ℕ) → postfixes-lts.Need-same-length-2 (
   is-postfix-reads.Asked,
   is-postfix-reads.Learnt,
@@ -3251,7 +2956,7 @@ postfixes-same-length-2 : (t : ℕ) → postfixes-lts.Need-same-length-2 (
 ) (postfixes-at t) postfixes.Post postfixes-Inv-loop postfixes-μ-loop
 postfixes-same-length-2 t c = c .before .before .before .before .postfix .kept .1 .1 .1 .1 .1 .1 .0 ∙ c .before .before .before .before .before .before .before .before .loop .inv .0
 
--- src/expressions.rt:541:13
+-- src/expressions.rt:527:13
 postfixes-returns-2 : (t : ℕ) → postfixes-lts.Need-returns-2 (
   is-postfix-reads.Asked,
   is-postfix-reads.Learnt,
@@ -3260,7 +2965,7 @@ postfixes-returns-2 : (t : ℕ) → postfixes-lts.Need-returns-2 (
 ) (postfixes-at t) postfixes.Post postfixes-Inv-loop postfixes-μ-loop
 postfixes-returns-2 t c = λ x o h. post-refused (inner (wordsIn (c .before .before .before .before .before .before .before .before .before .before .before .before .before .before .args .reserved .now) (c .before .before .before .before .before .before .before .before .before .before .before .before .before .before .args .currencies .now) (c .before .before .before .before .before .before .before .before .before .before .before .before .before .before .args .counters .now)) (c .before .before .before .before .before .before .before .before .before .before .before .before .before .before .args .depth)) (each-inner (wordsIn (c .before .before .before .before .before .before .before .before .before .before .before .before .before .before .args .reserved .now) (c .before .before .before .before .before .before .before .before .before .before .before .before .before .before .args .currencies .now) (c .before .before .before .before .before .before .before .before .before .before .before .before .before .before .args .counters .now)) (c .before .before .before .before .before .before .before .before .before .before .before .before .before .before .args .depth)) (c .before .before .before .before .before .before .before .before .before .before .before .before .before .before .args .s .now) _ _ o _ _ _ (c .before .before .before .before .before .before .before .before .loop .inv .3 _ o (post-enter (inner (wordsIn (c .before .before .before .before .before .before .before .before .before .before .before .before .before .before .args .reserved .now) (c .before .before .before .before .before .before .before .before .before .before .before .before .before .before .args .currencies .now) (c .before .before .before .before .before .before .before .before .before .before .before .before .before .before .args .counters .now)) (c .before .before .before .before .before .before .before .before .before .before .before .before .before .before .args .depth)) (each-inner (wordsIn (c .before .before .before .before .before .before .before .before .before .before .before .before .before .before .args .reserved .now) (c .before .before .before .before .before .before .before .before .before .before .before .before .before .before .args .currencies .now) (c .before .before .before .before .before .before .before .before .before .before .before .before .before .before .args .counters .now)) (c .before .before .before .before .before .before .before .before .before .before .before .before .before .before .args .depth)) (c .before .before .before .before .before .before .before .before .before .before .before .before .before .before .args .s .now) x _ o _ _ _ h)) (c .before .before .before .before .postfix .result) _ (c .before .before .before .before .postfix .ensures) _ _ (c .enum-told .given .1)
 
--- src/expressions.rt:534:5
+-- src/expressions.rt:520:5
 postfixes-loop-less : (t : ℕ) → postfixes-lts.Need-loop-less (
   is-postfix-reads.Asked,
   is-postfix-reads.Learnt,
@@ -3269,7 +2974,7 @@ postfixes-loop-less : (t : ℕ) → postfixes-lts.Need-loop-less (
 ) (postfixes-at t) postfixes.Post postfixes-Inv-loop postfixes-μ-loop
 postfixes-loop-less t c = (onward-done _ _ _ (c .before .before .before .before .before .postfix .result) _ _ _ (c .before .r .given .1) (c .before .before .before .before .before .postfix .ensures .1)) .2
 
--- src/expressions.rt:534:5
+-- src/expressions.rt:520:5
 postfixes-loop-again : (t : ℕ) → postfixes-lts.Need-loop-again (
   is-postfix-reads.Asked,
   is-postfix-reads.Learnt,
@@ -3279,357 +2984,182 @@ postfixes-loop-again : (t : ℕ) → postfixes-lts.Need-loop-again (
 postfixes-loop-again t c = (c .before .before .before .before .before .postfix .kept .1 .1 .1 .1 .1 .1 .0 ∙ c .before .before .before .before .before .before .before .before .before .loop .inv .0, (onward-done _ _ _ (c .before .before .before .before .before .postfix .result) _ _ _ (c .before .r .given .1) (c .before .before .before .before .before .postfix .ensures .1)) .0, (onward-done _ _ _ (c .before .before .before .before .before .postfix .result) _ _ _ (c .before .r .given .1) (c .before .before .before .before .before .postfix .ensures .1)) .1, λ R o h. post-more (inner (wordsIn (c .before .before .before .before .before .before .before .before .before .before .before .before .before .before .before .args .reserved .now) (c .before .before .before .before .before .before .before .before .before .before .before .before .before .before .before .args .currencies .now) (c .before .before .before .before .before .before .before .before .before .before .before .before .before .before .before .args .counters .now)) (c .before .before .before .before .before .before .before .before .before .before .before .before .before .before .before .args .depth)) (each-inner (wordsIn (c .before .before .before .before .before .before .before .before .before .before .before .before .before .before .before .args .reserved .now) (c .before .before .before .before .before .before .before .before .before .before .before .before .before .before .before .args .currencies .now) (c .before .before .before .before .before .before .before .before .before .before .before .before .before .before .before .args .counters .now)) (c .before .before .before .before .before .before .before .before .before .before .before .before .before .before .before .args .depth)) (c .before .before .before .before .before .before .before .before .before .before .before .before .before .before .before .args .s .now) R _ o _ _ _ (c .before .before .before .before .before .before .before .before .before .loop .inv .3 R o h) (c .before .before .before .before .before .postfix .result) _ (c .before .before .before .before .before .postfix .ensures) _ _ _ (c .before .r .given .1))
 
 abbrev power-Inv-loop : power-lts.InvT-loop
-power-Inv-loop s reserved currencies counters depth out₀ n n1 p1 at₀ m₀ p₀ out at m p = (length out ≡ length out₀) × ((R : Out Tree) (o : List ℕ) → Chain (isSign "**") ((G.primary (wordsIn reserved currencies counters) depth)) s R n o at₀ m₀ p₀ out₀ → Chain (isSign "**") ((G.primary (wordsIn reserved currencies counters) depth)) s R n o at m p out)
+power-Inv-loop s reserved currencies counters depth out₀ n at₀ m₀ sign₀ out at m sign = (length out ≡ length out₀) × Pending (isSign "**") powerSign (G.primary (wordsIn reserved currencies counters) depth) s (G.power (G.primary (wordsIn reserved currencies counters) depth) (toksAt s (at₀ .start))) n out₀ sign at m out
 
 abbrev power-μ-loop : power-lts.MeasureT-loop
-power-μ-loop s reserved currencies counters depth out₀ n n1 p1 at₀ m₀ p₀ out at m p = length (toksAt s (at .start))
+power-μ-loop s reserved currencies counters depth out₀ n at₀ m₀ sign₀ out at m sign = length (toksAt s (at .start))
 
--- src/expressions.rt:210:9
-power-primary-requires : (t : ℕ) → power-lts.Need-primary-requires (
-  primary-below t,
-  primary.Post,
-  is-power-reads.Asked,
-  is-power-reads.Learnt,
-  next-reads.Asked,
-  next-reads.Learnt,
-  plain-reads.Asked,
-  plain-reads.Learnt,
-  put-reads.Asked,
-  put-reads.Learnt,
-) (power-at t) power.Post power-Inv-loop power-μ-loop
-power-primary-requires t c κs = search needs
-
--- src/expressions.rt:211:20
-power-enum-known-r : (t : ℕ) → power-lts.Need-enum-known-r (
-  primary-below t,
-  primary.Post,
-  is-power-reads.Asked,
-  is-power-reads.Learnt,
-  next-reads.Asked,
-  next-reads.Learnt,
-  plain-reads.Asked,
-  plain-reads.Learnt,
-  put-reads.Asked,
-  put-reads.Learnt,
-) (power-at t) power.Post power-Inv-loop power-μ-loop
-power-enum-known-r t c = search needs
-
--- src/expressions.rt:212:9
-power-enum-told : (t : ℕ) → power-lts.Need-enum-told (
-  primary-below t,
-  primary.Post,
-  is-power-reads.Asked,
-  is-power-reads.Learnt,
-  next-reads.Asked,
-  next-reads.Learnt,
-  plain-reads.Asked,
-  plain-reads.Learnt,
-  put-reads.Asked,
-  put-reads.Learnt,
-) (power-at t) power.Post power-Inv-loop power-μ-loop
-power-enum-told t c = search needs
-
--- src/expressions.rt:212:9
-power-same-length : (t : ℕ) → power-lts.Need-same-length (
-  primary-below t,
-  primary.Post,
-  is-power-reads.Asked,
-  is-power-reads.Learnt,
-  next-reads.Asked,
-  next-reads.Learnt,
-  plain-reads.Asked,
-  plain-reads.Learnt,
-  put-reads.Asked,
-  put-reads.Learnt,
-) (power-at t) power.Post power-Inv-loop power-μ-loop
-power-same-length t c = search needs
-
--- src/expressions.rt:212:9
-power-returns : (t : ℕ) → power-lts.Need-returns (
-  primary-below t,
-  primary.Post,
-  is-power-reads.Asked,
-  is-power-reads.Learnt,
-  next-reads.Asked,
-  next-reads.Learnt,
-  plain-reads.Asked,
-  plain-reads.Learnt,
-  put-reads.Asked,
-  put-reads.Learnt,
-) (power-at t) power.Post power-Inv-loop power-μ-loop
-power-returns t c = refused-on _ _ _ _ _ _ _ _ _ _ _ _ (c .enum-told .given .1) (c .before .before .before .before .primary .ensures) (chain-refused (power-level (wordsIn (c .before .before .before .before .before .before .before .before .before .before .before .args .reserved .now) (c .before .before .before .before .before .before .before .before .before .before .before .args .currencies .now) (c .before .before .before .before .before .before .before .before .before .before .before .args .counters .now)) (c .before .before .before .before .before .before .before .before .before .before .before .args .depth)) (c .before .before .before .before .before .before .before .before .before .before .before .args .s .now) (c .before .before .before .before .before .before .before .before .before .before .before .args .c) _ _)
-
--- src/expressions.rt:217:5
+-- src/expressions.rt:204:5
 power-loop-holds : (t : ℕ) → power-lts.Need-loop-holds (
   primary-below t,
   primary.Post,
+  join-reads.Asked,
+  join-reads.Learnt,
   is-power-reads.Asked,
   is-power-reads.Learnt,
   next-reads.Asked,
   next-reads.Learnt,
-  plain-reads.Asked,
-  plain-reads.Learnt,
-  put-reads.Asked,
-  put-reads.Learnt,
 ) (power-at t) power.Post power-Inv-loop power-μ-loop
-power-loop-holds t c = (refl, λ R o h. h)
+unfolding G.power
+power-loop-holds t c = (refl, pend-first (power-level (wordsIn (c .before .before .before .before .before .args .reserved .now) (c .before .before .before .before .before .args .currencies .now) (c .before .before .before .before .before .args .counters .now)) (c .before .before .before .before .before .args .depth)) (c .before .before .before .before .before .args .s .now) (c .before .before .before .before .before .args .c) (c .before .before .before .before .before .args .n) (c .before .before .before .before .before .args .out .now) (c .before .before .before .before .before .pre .1 .0))
 
-power-chain : (t : ℕ) (c : power-lts.At-loop (
+-- src/expressions.rt:205:13
+power-primary-requires : (t : ℕ) → power-lts.Need-primary-requires (
   primary-below t,
   primary.Post,
+  join-reads.Asked,
+  join-reads.Learnt,
   is-power-reads.Asked,
   is-power-reads.Learnt,
   next-reads.Asked,
   next-reads.Learnt,
-  plain-reads.Asked,
-  plain-reads.Learnt,
-  put-reads.Asked,
-  put-reads.Learnt,
-) (power-at t) power.Post power-Inv-loop power-μ-loop) → Chain (isSign "**") ((G.primary (wordsIn (c .before .before .before .before .before .before .before .before .before .before .before .before .before .args .reserved .now) (c .before .before .before .before .before .before .before .before .before .before .before .before .before .args .currencies .now) (c .before .before .before .before .before .before .before .before .before .before .before .before .before .args .counters .now)) (c .before .before .before .before .before .before .before .before .before .before .before .before .before .args .depth))) (c .before .before .before .before .before .before .before .before .before .before .before .before .before .args .s .now) (G.power (G.primary (wordsIn (c .before .before .before .before .before .before .before .before .before .before .before .before .before .args .reserved .now) (c .before .before .before .before .before .before .before .before .before .before .before .before .before .args .currencies .now) (c .before .before .before .before .before .before .before .before .before .before .before .before .before .args .counters .now)) (c .before .before .before .before .before .before .before .before .before .before .before .before .before .args .depth)) (toksAt (c .before .before .before .before .before .before .before .before .before .before .before .before .before .args .s .now) (c .before .before .before .before .before .before .before .before .before .before .before .before .before .args .c .start))) (c .before .before .before .before .before .before .before .before .before .before .before .before .before .args .n) (c .before .before .before .before .before .before .before .before .before .before .before .before .before .args .out .now) (c .loop .at) (c .loop .m) (c .loop .p) (c .loop .out)
-power-chain t c =
-    c .loop .inv .1 _ _ (chain-enter (power-level (wordsIn (c .before .before .before .before .before .before .before .before .before .before .before .before .before .args .reserved .now) (c .before .before .before .before .before .before .before .before .before .before .before .before .before .args .currencies .now) (c .before .before .before .before .before .before .before .before .before .before .before .before .before .args .counters .now)) (c .before .before .before .before .before .before .before .before .before .before .before .before .before .args .depth)) (c .before .before .before .before .before .before .before .before .before .before .before .before .before .args .s .now) (c .before .before .before .before .before .before .before .before .before .before .before .before .before .args .c) _ _ _ _ _ _ (c .before .before .before .before .before .before .before .before .before .before .before .before .before .pre .1 .0 .1) (done-reads _ _ _ _ _ _ _ _ _ (c .before .before .r .given .1) (c .before .before .before .before .before .before .primary .ensures)))
+) (power-at t) power.Post power-Inv-loop power-μ-loop
+power-primary-requires t c κs = (omega (arith, c .before .before .before .before .before .before .before .pre .0), (pend-ready (power-level (wordsIn (c .before .before .before .before .before .before .before .args .reserved .now) (c .before .before .before .before .before .before .before .args .currencies .now) (c .before .before .before .before .before .before .before .args .counters .now)) (c .before .before .before .before .before .before .before .args .depth)) (c .before .before .before .before .before .before .before .args .s .now) _ _ _ _ _ _ _ (c .before .loop .inv .1), c .before .before .before .before .before .before .before .pre .1 .1))
 
--- src/expressions.rt:219:13
+-- src/expressions.rt:206:24
+power-enum-known-r : (t : ℕ) → power-lts.Need-enum-known-r (
+  primary-below t,
+  primary.Post,
+  join-reads.Asked,
+  join-reads.Learnt,
+  is-power-reads.Asked,
+  is-power-reads.Learnt,
+  next-reads.Asked,
+  next-reads.Learnt,
+) (power-at t) power.Post power-Inv-loop power-μ-loop
+power-enum-known-r t c = search needs
+
+-- src/expressions.rt:207:13
+power-enum-told : (t : ℕ) → power-lts.Need-enum-told (
+  primary-below t,
+  primary.Post,
+  join-reads.Asked,
+  join-reads.Learnt,
+  is-power-reads.Asked,
+  is-power-reads.Learnt,
+  next-reads.Asked,
+  next-reads.Learnt,
+) (power-at t) power.Post power-Inv-loop power-μ-loop
+power-enum-told t c = search needs
+
+-- src/expressions.rt:207:13
+power-same-length : (t : ℕ) → power-lts.Need-same-length (
+  primary-below t,
+  primary.Post,
+  join-reads.Asked,
+  join-reads.Learnt,
+  is-power-reads.Asked,
+  is-power-reads.Learnt,
+  next-reads.Asked,
+  next-reads.Learnt,
+) (power-at t) power.Post power-Inv-loop power-μ-loop
+power-same-length t c = c .before .before .before .before .primary .kept .1 .1 .1 .1 .1 .1 .0 ∙ c .before .before .before .before .before .before .loop .inv .0
+
+-- src/expressions.rt:207:13
+power-returns : (t : ℕ) → power-lts.Need-returns (
+  primary-below t,
+  primary.Post,
+  join-reads.Asked,
+  join-reads.Learnt,
+  is-power-reads.Asked,
+  is-power-reads.Learnt,
+  next-reads.Asked,
+  next-reads.Learnt,
+) (power-at t) power.Post power-Inv-loop power-μ-loop
+power-returns t c = refused-on _ _ _ _ _ _ _ _ _ _ _ _ (c .enum-told .given .1) (c .before .before .before .before .primary .ensures) (pend-refused (power-level (wordsIn (c .before .before .before .before .before .before .before .before .before .before .before .before .args .reserved .now) (c .before .before .before .before .before .before .before .before .before .before .before .before .args .currencies .now) (c .before .before .before .before .before .before .before .before .before .before .before .before .args .counters .now)) (c .before .before .before .before .before .before .before .before .before .before .before .before .args .depth)) (c .before .before .before .before .before .before .before .before .before .before .before .before .args .s .now) _ _ _ _ _ _ _ (c .before .before .before .before .before .before .loop .inv .1) _ _)
+
+-- src/expressions.rt:209:13
+power-join-requires : (t : ℕ) → power-lts.Need-join-requires (
+  primary-below t,
+  primary.Post,
+  join-reads.Asked,
+  join-reads.Learnt,
+  is-power-reads.Asked,
+  is-power-reads.Learnt,
+  next-reads.Asked,
+  next-reads.Learnt,
+) (power-at t) power.Post power-Inv-loop power-μ-loop
+power-join-requires t c κs = pend-numbers (power-level (wordsIn (c .before .before .before .before .before .before .before .before .before .before .before .before .before .before .args .reserved .now) (c .before .before .before .before .before .before .before .before .before .before .before .before .before .before .args .currencies .now) (c .before .before .before .before .before .before .before .before .before .before .before .before .before .before .args .counters .now)) (c .before .before .before .before .before .before .before .before .before .before .before .before .before .before .args .depth)) (c .before .before .before .before .before .before .before .before .before .before .before .before .before .before .args .s .now) _ _ _ _ _ _ _ (c .before .before .before .before .before .before .before .before .loop .inv .1) _ _ _ _ (done-reads _ _ _ _ _ _ _ _ _ (c .before .before .r .given .1) (c .before .before .before .before .before .before .primary .ensures))
+
+-- src/expressions.rt:211:13
 power-is-power-requires : (t : ℕ) → power-lts.Need-is-power-requires (
   primary-below t,
   primary.Post,
+  join-reads.Asked,
+  join-reads.Learnt,
   is-power-reads.Asked,
   is-power-reads.Learnt,
   next-reads.Asked,
   next-reads.Learnt,
-  plain-reads.Asked,
-  plain-reads.Learnt,
-  put-reads.Asked,
-  put-reads.Learnt,
 ) (power-at t) power.Post power-Inv-loop power-μ-loop
 power-is-power-requires t c κs = search needs
 
--- src/expressions.rt:220:13
+-- src/expressions.rt:212:13
 power-same-length-2 : (t : ℕ) → power-lts.Need-same-length-2 (
   primary-below t,
   primary.Post,
+  join-reads.Asked,
+  join-reads.Learnt,
   is-power-reads.Asked,
   is-power-reads.Learnt,
   next-reads.Asked,
   next-reads.Learnt,
-  plain-reads.Asked,
-  plain-reads.Learnt,
-  put-reads.Asked,
-  put-reads.Learnt,
 ) (power-at t) power.Post power-Inv-loop power-μ-loop
-power-same-length-2 t c = c .before .before .loop .inv .0 ∙ c .before .before .before .before .before .before .before .before .primary .kept .1 .1 .1 .1 .1 .1 .0
+power-same-length-2 t c = c .before .before .before .before .join .kept .0 ∙ (c .before .before .before .before .before .before .before .before .before .before .before .primary .kept .1 .1 .1 .1 .1 .1 .0 ∙ c .before .before .before .before .before .before .before .before .before .before .before .before .before .loop .inv .0)
 
--- src/expressions.rt:220:13
+-- src/expressions.rt:212:13
 power-returns-2 : (t : ℕ) → power-lts.Need-returns-2 (
   primary-below t,
   primary.Post,
+  join-reads.Asked,
+  join-reads.Learnt,
   is-power-reads.Asked,
   is-power-reads.Learnt,
   next-reads.Asked,
   next-reads.Learnt,
-  plain-reads.Asked,
-  plain-reads.Learnt,
-  put-reads.Asked,
-  put-reads.Learnt,
 ) (power-at t) power.Post power-Inv-loop power-μ-loop
-power-returns-2 t c = chain-exit (power-level (wordsIn (c .before .before .before .before .before .before .before .before .before .before .before .before .before .before .before .args .reserved .now) (c .before .before .before .before .before .before .before .before .before .before .before .before .before .before .before .args .currencies .now) (c .before .before .before .before .before .before .before .before .before .before .before .before .before .before .before .args .counters .now)) (c .before .before .before .before .before .before .before .before .before .before .before .before .before .before .before .args .depth)) (c .before .before .before .before .before .before .before .before .before .before .before .before .before .before .before .args .s .now) _ _ _ _ _ _ _ (power-chain t (c .before .before)) (sym (c .before .is-power .ensures) ∙ not-true _ (c .if1 .taken))
+power-returns-2 t c = chain-exit (power-level (wordsIn (c .before .before .before .before .before .before .before .before .before .before .before .before .before .before .before .before .before .before .before .args .reserved .now) (c .before .before .before .before .before .before .before .before .before .before .before .before .before .before .before .before .before .before .before .args .currencies .now) (c .before .before .before .before .before .before .before .before .before .before .before .before .before .before .before .before .before .before .before .args .counters .now)) (c .before .before .before .before .before .before .before .before .before .before .before .before .before .before .before .before .before .before .before .args .depth)) (c .before .before .before .before .before .before .before .before .before .before .before .before .before .before .before .before .before .before .before .args .s .now) _ _ _ _ _ _ _ (pend-chain (power-level (wordsIn (c .before .before .before .before .before .before .before .before .before .before .before .before .before .before .before .before .before .before .before .args .reserved .now) (c .before .before .before .before .before .before .before .before .before .before .before .before .before .before .before .before .before .before .before .args .currencies .now) (c .before .before .before .before .before .before .before .before .before .before .before .before .before .before .before .before .before .before .before .args .counters .now)) (c .before .before .before .before .before .before .before .before .before .before .before .before .before .before .before .before .before .before .before .args .depth)) (c .before .before .before .before .before .before .before .before .before .before .before .before .before .before .before .before .before .before .before .args .s .now) _ _ _ _ _ _ _ (c .before .before .before .before .before .before .before .before .before .before .before .before .before .loop .inv .1) _ _ _ _ (done-reads _ _ _ _ _ _ _ _ _ (c .before .before .before .before .before .before .before .r .given .1) (c .before .before .before .before .before .before .before .before .before .before .before .primary .ensures)) (c .before .before .before .before .join .result) _ (c .before .before .before .before .join .ensures)) (sym (c .before .is-power .ensures) ∙ not-true _ (c .if1 .taken))
 
--- src/expressions.rt:222:13
+-- src/expressions.rt:214:9
 power-next-requires : (t : ℕ) → power-lts.Need-next-requires (
   primary-below t,
   primary.Post,
+  join-reads.Asked,
+  join-reads.Learnt,
   is-power-reads.Asked,
   is-power-reads.Learnt,
   next-reads.Asked,
   next-reads.Learnt,
-  plain-reads.Asked,
-  plain-reads.Learnt,
-  put-reads.Asked,
-  put-reads.Learnt,
 ) (power-at t) power.Post power-Inv-loop power-μ-loop
-power-next-requires t c κs = (power-chain t (c .before .before)) .holds
+power-next-requires t c κs = (pend-chain (power-level (wordsIn (c .before .before .before .before .before .before .before .before .before .before .before .before .before .before .before .before .before .before .before .args .reserved .now) (c .before .before .before .before .before .before .before .before .before .before .before .before .before .before .before .before .before .before .before .args .currencies .now) (c .before .before .before .before .before .before .before .before .before .before .before .before .before .before .before .before .before .before .before .args .counters .now)) (c .before .before .before .before .before .before .before .before .before .before .before .before .before .before .before .before .before .before .before .args .depth)) (c .before .before .before .before .before .before .before .before .before .before .before .before .before .before .before .before .before .before .before .args .s .now) _ _ _ _ _ _ _ (c .before .before .before .before .before .before .before .before .before .before .before .before .before .loop .inv .1) _ _ _ _ (done-reads _ _ _ _ _ _ _ _ _ (c .before .before .before .before .before .before .before .r .given .1) (c .before .before .before .before .before .before .before .before .before .before .before .primary .ensures)) (c .before .before .before .before .join .result) _ (c .before .before .before .before .join .ensures)) .holds
 
--- src/expressions.rt:223:13
-power-primary-requires-2 : (t : ℕ) → power-lts.Need-primary-requires-2 (
-  primary-below t,
-  primary.Post,
-  is-power-reads.Asked,
-  is-power-reads.Learnt,
-  next-reads.Asked,
-  next-reads.Learnt,
-  plain-reads.Asked,
-  plain-reads.Learnt,
-  put-reads.Asked,
-  put-reads.Learnt,
-) (power-at t) power.Post power-Inv-loop power-μ-loop
-power-primary-requires-2 t c κs = (omega (arith, c .before .before .before .before .before .before .before .before .before .before .before .before .before .before .before .before .before .pre .0), (sign-ready (power-level (wordsIn (c .before .before .before .before .before .before .before .before .before .before .before .before .before .before .before .before .before .args .reserved .now) (c .before .before .before .before .before .before .before .before .before .before .before .before .before .before .before .before .before .args .currencies .now) (c .before .before .before .before .before .before .before .before .before .before .before .before .before .before .before .before .before .args .counters .now)) (c .before .before .before .before .before .before .before .before .before .before .before .before .before .before .before .before .before .args .depth)) (c .before .before .before .before .before .before .before .before .before .before .before .before .before .before .before .before .before .args .s .now) _ _ _ _ _ _ _ (power-chain t (c .before .before .before .before)) (sym (c .before .before .before .is-power .ensures) ∙ not-false _ (c .before .before .if1 .left)) (c .before .next .result) (c .before .next .ensures), c .before .before .before .before .before .before .before .before .before .before .before .before .before .before .before .before .before .pre .1 .1))
-
--- src/expressions.rt:224:24
-power-enum-known-q : (t : ℕ) → power-lts.Need-enum-known-q (
-  primary-below t,
-  primary.Post,
-  is-power-reads.Asked,
-  is-power-reads.Learnt,
-  next-reads.Asked,
-  next-reads.Learnt,
-  plain-reads.Asked,
-  plain-reads.Learnt,
-  put-reads.Asked,
-  put-reads.Learnt,
-) (power-at t) power.Post power-Inv-loop power-μ-loop
-power-enum-known-q t c = search needs
-
--- src/expressions.rt:225:13
-power-enum-told-2 : (t : ℕ) → power-lts.Need-enum-told-2 (
-  primary-below t,
-  primary.Post,
-  is-power-reads.Asked,
-  is-power-reads.Learnt,
-  next-reads.Asked,
-  next-reads.Learnt,
-  plain-reads.Asked,
-  plain-reads.Learnt,
-  put-reads.Asked,
-  put-reads.Learnt,
-) (power-at t) power.Post power-Inv-loop power-μ-loop
-power-enum-told-2 t c = search needs
-
--- src/expressions.rt:225:13
-power-same-length-3 : (t : ℕ) → power-lts.Need-same-length-3 (
-  primary-below t,
-  primary.Post,
-  is-power-reads.Asked,
-  is-power-reads.Learnt,
-  next-reads.Asked,
-  next-reads.Learnt,
-  plain-reads.Asked,
-  plain-reads.Learnt,
-  put-reads.Asked,
-  put-reads.Learnt,
-) (power-at t) power.Post power-Inv-loop power-μ-loop
-power-same-length-3 t c = c .before .before .before .before .primary2 .kept .1 .1 .1 .1 .1 .1 .0 ∙ (c .before .before .before .before .before .before .before .before .before .loop .inv .0 ∙ c .before .before .before .before .before .before .before .before .before .before .before .before .before .before .before .primary .kept .1 .1 .1 .1 .1 .1 .0)
-
--- src/expressions.rt:225:13
-power-returns-3 : (t : ℕ) → power-lts.Need-returns-3 (
-  primary-below t,
-  primary.Post,
-  is-power-reads.Asked,
-  is-power-reads.Learnt,
-  next-reads.Asked,
-  next-reads.Learnt,
-  plain-reads.Asked,
-  plain-reads.Learnt,
-  put-reads.Asked,
-  put-reads.Learnt,
-) (power-at t) power.Post power-Inv-loop power-μ-loop
-power-returns-3 t c = refused-on _ _ _ _ _ _ _ _ _ _ _ _ (c .enum-told2 .given .1) (c .before .before .before .before .primary2 .ensures) (sign-refused (power-level (wordsIn (c .before .before .before .before .before .before .before .before .before .before .before .before .before .before .before .before .before .before .before .before .before .before .args .reserved .now) (c .before .before .before .before .before .before .before .before .before .before .before .before .before .before .before .before .before .before .before .before .before .before .args .currencies .now) (c .before .before .before .before .before .before .before .before .before .before .before .before .before .before .before .before .before .before .before .before .before .before .args .counters .now)) (c .before .before .before .before .before .before .before .before .before .before .before .before .before .before .before .before .before .before .before .before .before .before .args .depth)) (c .before .before .before .before .before .before .before .before .before .before .before .before .before .before .before .before .before .before .before .before .before .before .args .s .now) _ _ _ _ _ _ _ (power-chain t (c .before .before .before .before .before .before .before .before .before)) (sym (c .before .before .before .before .before .before .before .before .is-power .ensures) ∙ not-false _ (c .before .before .before .before .before .before .before .if1 .left)) (c .before .before .before .before .before .before .next .result) (c .before .before .before .before .before .before .next .ensures) _ _)
-
--- src/expressions.rt:227:34
-power-sub-plain : (t : ℕ) → power-lts.Need-sub-plain (
-  primary-below t,
-  primary.Post,
-  is-power-reads.Asked,
-  is-power-reads.Learnt,
-  next-reads.Asked,
-  next-reads.Learnt,
-  plain-reads.Asked,
-  plain-reads.Learnt,
-  put-reads.Asked,
-  put-reads.Learnt,
-) (power-at t) power.Post power-Inv-loop power-μ-loop
-power-sub-plain t c = omega (arith, sign-numbers (power-level (wordsIn (c .before .before .before .before .before .before .before .before .before .before .before .before .before .before .before .before .before .before .before .before .before .before .before .before .args .reserved .now) (c .before .before .before .before .before .before .before .before .before .before .before .before .before .before .before .before .before .before .before .before .before .before .before .before .args .currencies .now) (c .before .before .before .before .before .before .before .before .before .before .before .before .before .before .before .before .before .before .before .before .before .before .before .before .args .counters .now)) (c .before .before .before .before .before .before .before .before .before .before .before .before .before .before .before .before .before .before .before .before .before .before .before .before .args .depth)) (c .before .before .before .before .before .before .before .before .before .before .before .before .before .before .before .before .before .before .before .before .before .before .before .before .args .s .now) _ _ _ _ _ _ _ (power-chain t (c .before .before .before .before .before .before .before .before .before .before .before)) (sym (c .before .before .before .before .before .before .before .before .before .before .is-power .ensures) ∙ not-false _ (c .before .before .before .before .before .before .before .before .before .if1 .left)) (c .before .before .before .before .before .before .before .before .next .result) (c .before .before .before .before .before .before .before .before .next .ensures) _ _ _ _ (done-reads _ _ _ _ _ _ _ _ _ (c .before .before .q .given .1) (c .before .before .before .before .before .before .primary2 .ensures)))
-
--- src/expressions.rt:227:34
-power-add-plain : (t : ℕ) → power-lts.Need-add-plain (
-  primary-below t,
-  primary.Post,
-  is-power-reads.Asked,
-  is-power-reads.Learnt,
-  next-reads.Asked,
-  next-reads.Learnt,
-  plain-reads.Asked,
-  plain-reads.Learnt,
-  put-reads.Asked,
-  put-reads.Learnt,
-) (power-at t) power.Post power-Inv-loop power-μ-loop
-power-add-plain t c = omega (arith, sign-numbers (power-level (wordsIn (c .before .before .before .before .before .before .before .before .before .before .before .before .before .before .before .before .before .before .before .before .before .before .before .before .args .reserved .now) (c .before .before .before .before .before .before .before .before .before .before .before .before .before .before .before .before .before .before .before .before .before .before .before .before .args .currencies .now) (c .before .before .before .before .before .before .before .before .before .before .before .before .before .before .before .before .before .before .before .before .before .before .before .before .args .counters .now)) (c .before .before .before .before .before .before .before .before .before .before .before .before .before .before .before .before .before .before .before .before .before .before .before .before .args .depth)) (c .before .before .before .before .before .before .before .before .before .before .before .before .before .before .before .before .before .before .before .before .before .before .before .before .args .s .now) _ _ _ _ _ _ _ (power-chain t (c .before .before .before .before .before .before .before .before .before .before .before)) (sym (c .before .before .before .before .before .before .before .before .before .before .is-power .ensures) ∙ not-false _ (c .before .before .before .before .before .before .before .before .before .if1 .left)) (c .before .before .before .before .before .before .before .before .next .result) (c .before .before .before .before .before .before .before .before .next .ensures) _ _ _ _ (done-reads _ _ _ _ _ _ _ _ _ (c .before .before .q .given .1) (c .before .before .before .before .before .before .primary2 .ensures)))
-
--- src/expressions.rt:227:22
-power-plain-requires : (t : ℕ) → power-lts.Need-plain-requires (
-  primary-below t,
-  primary.Post,
-  is-power-reads.Asked,
-  is-power-reads.Learnt,
-  next-reads.Asked,
-  next-reads.Learnt,
-  plain-reads.Asked,
-  plain-reads.Learnt,
-  put-reads.Asked,
-  put-reads.Learnt,
-) (power-at t) power.Post power-Inv-loop power-μ-loop
-power-plain-requires t c κs = search needs
-
--- src/expressions.rt:227:9
-power-put-requires : (t : ℕ) → power-lts.Need-put-requires (
-  primary-below t,
-  primary.Post,
-  is-power-reads.Asked,
-  is-power-reads.Learnt,
-  next-reads.Asked,
-  next-reads.Learnt,
-  plain-reads.Asked,
-  plain-reads.Learnt,
-  put-reads.Asked,
-  put-reads.Learnt,
-) (power-at t) power.Post power-Inv-loop power-μ-loop
-power-put-requires t c κs = search needs
-
--- src/expressions.rt:229:13
-power-add-m : (t : ℕ) → power-lts.Need-add-m (
-  primary-below t,
-  primary.Post,
-  is-power-reads.Asked,
-  is-power-reads.Learnt,
-  next-reads.Asked,
-  next-reads.Learnt,
-  plain-reads.Asked,
-  plain-reads.Learnt,
-  put-reads.Asked,
-  put-reads.Learnt,
-) (power-at t) power.Post power-Inv-loop power-μ-loop
-power-add-m t c = omega (arith, sign-numbers (power-level (wordsIn (c .before .before .before .before .before .before .before .before .before .before .before .before .before .before .before .before .before .before .before .before .before .before .before .before .before .before .before .before .args .reserved .now) (c .before .before .before .before .before .before .before .before .before .before .before .before .before .before .before .before .before .before .before .before .before .before .before .before .before .before .before .before .args .currencies .now) (c .before .before .before .before .before .before .before .before .before .before .before .before .before .before .before .before .before .before .before .before .before .before .before .before .before .before .before .before .args .counters .now)) (c .before .before .before .before .before .before .before .before .before .before .before .before .before .before .before .before .before .before .before .before .before .before .before .before .before .before .before .before .args .depth)) (c .before .before .before .before .before .before .before .before .before .before .before .before .before .before .before .before .before .before .before .before .before .before .before .before .before .before .before .before .args .s .now) _ _ _ _ _ _ _ (power-chain t (c .before .before .before .before .before .before .before .before .before .before .before .before .before .before .before)) (sym (c .before .before .before .before .before .before .before .before .before .before .before .before .before .before .is-power .ensures) ∙ not-false _ (c .before .before .before .before .before .before .before .before .before .before .before .before .before .if1 .left)) (c .before .before .before .before .before .before .before .before .before .before .before .before .next .result) (c .before .before .before .before .before .before .before .before .before .before .before .before .next .ensures) _ _ _ _ (done-reads _ _ _ _ _ _ _ _ _ (c .before .before .before .before .before .before .q .given .1) (c .before .before .before .before .before .before .before .before .before .before .primary2 .ensures)))
-
--- src/expressions.rt:217:5
+-- src/expressions.rt:204:5
 power-loop-less : (t : ℕ) → power-lts.Need-loop-less (
   primary-below t,
   primary.Post,
+  join-reads.Asked,
+  join-reads.Learnt,
   is-power-reads.Asked,
   is-power-reads.Learnt,
   next-reads.Asked,
   next-reads.Learnt,
-  plain-reads.Asked,
-  plain-reads.Learnt,
-  put-reads.Asked,
-  put-reads.Learnt,
 ) (power-at t) power.Post power-Inv-loop power-μ-loop
-power-loop-less t c = sign-less (power-level (wordsIn (c .before .before .before .before .before .before .before .before .before .before .before .before .before .before .before .before .before .before .before .before .before .before .before .before .before .before .before .before .args .reserved .now) (c .before .before .before .before .before .before .before .before .before .before .before .before .before .before .before .before .before .before .before .before .before .before .before .before .before .before .before .before .args .currencies .now) (c .before .before .before .before .before .before .before .before .before .before .before .before .before .before .before .before .before .before .before .before .before .before .before .before .before .before .before .before .args .counters .now)) (c .before .before .before .before .before .before .before .before .before .before .before .before .before .before .before .before .before .before .before .before .before .before .before .before .before .before .before .before .args .depth)) (c .before .before .before .before .before .before .before .before .before .before .before .before .before .before .before .before .before .before .before .before .before .before .before .before .before .before .before .before .args .s .now) _ _ _ _ _ _ _ (power-chain t (c .before .before .before .before .before .before .before .before .before .before .before .before .before .before .before)) (sym (c .before .before .before .before .before .before .before .before .before .before .before .before .before .before .is-power .ensures) ∙ not-false _ (c .before .before .before .before .before .before .before .before .before .before .before .before .before .if1 .left)) (c .before .before .before .before .before .before .before .before .before .before .before .before .next .result) (c .before .before .before .before .before .before .before .before .before .before .before .before .next .ensures) _ _ _ _ (done-reads _ _ _ _ _ _ _ _ _ (c .before .before .before .before .before .before .q .given .1) (c .before .before .before .before .before .before .before .before .before .before .primary2 .ensures))
+power-loop-less t c = pend-less (power-level (wordsIn (c .before .before .before .before .before .before .before .before .before .before .before .before .before .before .before .before .before .before .before .before .args .reserved .now) (c .before .before .before .before .before .before .before .before .before .before .before .before .before .before .before .before .before .before .before .before .args .currencies .now) (c .before .before .before .before .before .before .before .before .before .before .before .before .before .before .before .before .before .before .before .before .args .counters .now)) (c .before .before .before .before .before .before .before .before .before .before .before .before .before .before .before .before .before .before .before .before .args .depth)) (c .before .before .before .before .before .before .before .before .before .before .before .before .before .before .before .before .before .before .before .before .args .s .now) _ _ _ _ _ _ _ (c .before .before .before .before .before .before .before .before .before .before .before .before .before .before .loop .inv .1) _ _ _ _ (done-reads _ _ _ _ _ _ _ _ _ (c .before .before .before .before .before .before .before .before .r .given .1) (c .before .before .before .before .before .before .before .before .before .before .before .before .primary .ensures)) (sym (c .before .before .is-power .ensures) ∙ not-false _ (c .before .if1 .left)) (c .next .result) (c .next .ensures)
 
--- src/expressions.rt:217:5
+-- src/expressions.rt:204:5
 power-loop-again : (t : ℕ) → power-lts.Need-loop-again (
   primary-below t,
   primary.Post,
+  join-reads.Asked,
+  join-reads.Learnt,
   is-power-reads.Asked,
   is-power-reads.Learnt,
   next-reads.Asked,
   next-reads.Learnt,
-  plain-reads.Asked,
-  plain-reads.Learnt,
-  put-reads.Asked,
-  put-reads.Learnt,
 ) (power-at t) power.Post power-Inv-loop power-μ-loop
-power-loop-again t c = (c .before .before .put .kept .0 ∙ (c .before .before .before .before .before .before .before .before .before .before .primary2 .kept .1 .1 .1 .1 .1 .1 .0 ∙ c .before .before .before .before .before .before .before .before .before .before .before .before .before .before .before .loop .inv .0), λ R o h. sign-more (power-level (wordsIn (c .before .before .before .before .before .before .before .before .before .before .before .before .before .before .before .before .before .before .before .before .before .before .before .before .before .before .before .before .args .reserved .now) (c .before .before .before .before .before .before .before .before .before .before .before .before .before .before .before .before .before .before .before .before .before .before .before .before .before .before .before .before .args .currencies .now) (c .before .before .before .before .before .before .before .before .before .before .before .before .before .before .before .before .before .before .before .before .before .before .before .before .before .before .before .before .args .counters .now)) (c .before .before .before .before .before .before .before .before .before .before .before .before .before .before .before .before .before .before .before .before .before .before .before .before .before .before .before .before .args .depth)) (c .before .before .before .before .before .before .before .before .before .before .before .before .before .before .before .before .before .before .before .before .before .before .before .before .before .before .before .before .args .s .now) _ _ _ _ _ _ _ (c .before .before .before .before .before .before .before .before .before .before .before .before .before .before .before .loop .inv .1 R o h) (sym (c .before .before .before .before .before .before .before .before .before .before .before .before .before .before .is-power .ensures) ∙ not-false _ (c .before .before .before .before .before .before .before .before .before .before .before .before .before .if1 .left)) (c .before .before .before .before .before .before .before .before .before .before .before .before .next .result) (c .before .before .before .before .before .before .before .before .before .before .before .before .next .ensures) _ _ _ _ (done-reads _ _ _ _ _ _ _ _ _ (c .before .before .before .before .before .before .q .given .1) (c .before .before .before .before .before .before .before .before .before .before .primary2 .ensures)) _ (put-plain _ _ _ _ _ _ _ (c .before .before .before .plain .ensures) (c .before .before .put .ensures)))
+power-loop-again t c = (c .before .before .before .before .before .join .kept .0 ∙ (c .before .before .before .before .before .before .before .before .before .before .before .before .primary .kept .1 .1 .1 .1 .1 .1 .0 ∙ c .before .before .before .before .before .before .before .before .before .before .before .before .before .before .loop .inv .0), pend-next (power-level (wordsIn (c .before .before .before .before .before .before .before .before .before .before .before .before .before .before .before .before .before .before .before .before .args .reserved .now) (c .before .before .before .before .before .before .before .before .before .before .before .before .before .before .before .before .before .before .before .before .args .currencies .now) (c .before .before .before .before .before .before .before .before .before .before .before .before .before .before .before .before .before .before .before .before .args .counters .now)) (c .before .before .before .before .before .before .before .before .before .before .before .before .before .before .before .before .before .before .before .before .args .depth)) (c .before .before .before .before .before .before .before .before .before .before .before .before .before .before .before .before .before .before .before .before .args .s .now) _ _ _ _ _ _ _ (pend-chain (power-level (wordsIn (c .before .before .before .before .before .before .before .before .before .before .before .before .before .before .before .before .before .before .before .before .args .reserved .now) (c .before .before .before .before .before .before .before .before .before .before .before .before .before .before .before .before .before .before .before .before .args .currencies .now) (c .before .before .before .before .before .before .before .before .before .before .before .before .before .before .before .before .before .before .before .before .args .counters .now)) (c .before .before .before .before .before .before .before .before .before .before .before .before .before .before .before .before .before .before .before .before .args .depth)) (c .before .before .before .before .before .before .before .before .before .before .before .before .before .before .before .before .before .before .before .before .args .s .now) _ _ _ _ _ _ _ (c .before .before .before .before .before .before .before .before .before .before .before .before .before .before .loop .inv .1) _ _ _ _ (done-reads _ _ _ _ _ _ _ _ _ (c .before .before .before .before .before .before .before .before .r .given .1) (c .before .before .before .before .before .before .before .before .before .before .before .before .primary .ensures)) (c .before .before .before .before .before .join .result) _ (c .before .before .before .before .before .join .ensures)) (sym (c .before .before .is-power .ensures) ∙ not-false _ (c .before .if1 .left)) (c .next .result) (c .next .ensures))
 
--- src/expressions.rt:248:9
+-- src/expressions.rt:234:9
 primary-next-requires : (t : ℕ) → primary-lts.Need-next-requires (
   next-reads.Asked,
   next-reads.Learnt,
@@ -3654,7 +3184,7 @@ primary-next-requires : (t : ℕ) → primary-lts.Need-next-requires (
 ) (primary-at t) primary.Post
 primary-next-requires t c κs = search needs
 
--- src/expressions.rt:251:23
+-- src/expressions.rt:237:23
 primary-parenthesis-requires : (t : ℕ) → primary-lts.Need-parenthesis-requires (
   next-reads.Asked,
   next-reads.Learnt,
@@ -3679,7 +3209,7 @@ primary-parenthesis-requires : (t : ℕ) → primary-lts.Need-parenthesis-requir
 ) (primary-at t) primary.Post
 primary-parenthesis-requires t c κs = search needs
 
--- src/expressions.rt:254:17
+-- src/expressions.rt:240:17
 primary-returns : (t : ℕ) → primary-lts.Need-returns (
   next-reads.Asked,
   next-reads.Learnt,
@@ -3704,7 +3234,7 @@ primary-returns : (t : ℕ) → primary-lts.Need-returns (
 ) (primary-at t) primary.Post
 primary-returns t c = prim-plus-0 (wordsIn (c .before .before .before .before .before .before .before .before .args .reserved .now) (c .before .before .before .before .before .before .before .before .args .currencies .now) (c .before .before .before .before .before .before .before .before .args .counters .now)) (c .before .before .before .before .before .before .before .before .args .s .now) (c .before .before .before .before .before .before .before .before .args .c) (c .before .before .before .before .before .before .before .before .pre .1 .0 .0) (c .before .before .before .before .before .before .before .before .args .depth) (c .before .match .keys2) (c .if1 .taken)
 
--- src/expressions.rt:256:59
+-- src/expressions.rt:242:59
 primary-sub-primary : (t : ℕ) → primary-lts.Need-sub-primary (
   next-reads.Asked,
   next-reads.Learnt,
@@ -3729,7 +3259,7 @@ primary-sub-primary : (t : ℕ) → primary-lts.Need-sub-primary (
 ) (primary-at t) primary.Post
 primary-sub-primary t c = search needs
 
--- src/expressions.rt:256:13
+-- src/expressions.rt:242:13
 primary-primary-requires : (t : ℕ) → primary-lts.Need-primary-requires (
   next-reads.Asked,
   next-reads.Learnt,
@@ -3754,7 +3284,7 @@ primary-primary-requires : (t : ℕ) → primary-lts.Need-primary-requires (
 ) (primary-at t) primary.Post
 primary-primary-requires t c κs = (omega arith, (follow-ready _ (c .before .before .before .before .before .before .before .before .before .args .c) (c .before .before .before .next .result) _ (λ z. omega (arith, z, c .before .before .match .keys2)) (c .before .before .before .next .ensures) (c .before .before .before .before .before .before .before .before .before .pre .1 .0) .0, c .before .before .before .before .before .before .before .before .before .pre .1 .1))
 
--- src/expressions.rt:260:17
+-- src/expressions.rt:246:17
 primary-constant-at-requires : (t : ℕ) → primary-lts.Need-constant-at-requires (
   next-reads.Asked,
   next-reads.Learnt,
@@ -3779,7 +3309,7 @@ primary-constant-at-requires : (t : ℕ) → primary-lts.Need-constant-at-requir
 ) (primary-at t) primary.Post
 primary-constant-at-requires t c κs = ((follow-ready _ (c .before .before .before .before .before .before .before .before .before .before .args .c) (c .before .before .before .before .next .result) _ (λ z. omega (arith, z, c .before .before .before .match .keys3)) (c .before .before .before .before .next .ensures) (c .before .before .before .before .before .before .before .before .before .before .pre .1 .0) .0), c .before .if2 .taken)
 
--- src/expressions.rt:260:17
+-- src/expressions.rt:246:17
 primary-same-length : (t : ℕ) → primary-lts.Need-same-length (
   next-reads.Asked,
   next-reads.Learnt,
@@ -3804,7 +3334,7 @@ primary-same-length : (t : ℕ) → primary-lts.Need-same-length (
 ) (primary-at t) primary.Post
 primary-same-length t c = search needs
 
--- src/expressions.rt:260:17
+-- src/expressions.rt:246:17
 primary-returns-2 : (t : ℕ) → primary-lts.Need-returns-2 (
   next-reads.Asked,
   next-reads.Learnt,
@@ -3829,7 +3359,7 @@ primary-returns-2 : (t : ℕ) → primary-lts.Need-returns-2 (
 ) (primary-at t) primary.Post
 primary-returns-2 t c = meets-as _ _ _ _ _ (c .before .before .constant-at .result) _ (prim-minus-number (wordsIn (c .before .before .before .before .before .before .before .before .before .before .before .before .before .args .reserved .now) (c .before .before .before .before .before .before .before .before .before .before .before .before .before .args .currencies .now) (c .before .before .before .before .before .before .before .before .before .before .before .before .before .args .counters .now)) (c .before .before .before .before .before .before .before .before .before .before .before .before .before .args .s .now) (c .before .before .before .before .before .before .before .before .before .before .before .before .before .args .c) (c .before .before .before .before .before .before .before .before .before .before .before .before .before .pre .1 .0 .0) (c .before .before .before .before .before .before .before .before .before .before .before .before .before .args .depth) (c .before .before .before .before .before .before .before .next .result) (c .before .before .before .before .before .before .before .next .ensures) (c .before .before .before .before .before .before .match .keys3) (c .before .before .before .before .if2 .taken)) (c .before .before .constant-at .ensures)
 
--- src/expressions.rt:263:17
+-- src/expressions.rt:249:17
 primary-returns-3 : (t : ℕ) → primary-lts.Need-returns-3 (
   next-reads.Asked,
   next-reads.Learnt,
@@ -3854,7 +3384,7 @@ primary-returns-3 : (t : ℕ) → primary-lts.Need-returns-3 (
 ) (primary-at t) primary.Post
 primary-returns-3 t c = prim-minus-0 (wordsIn (c .before .before .before .before .before .before .before .before .before .before .args .reserved .now) (c .before .before .before .before .before .before .before .before .before .before .args .currencies .now) (c .before .before .before .before .before .before .before .before .before .before .args .counters .now)) (c .before .before .before .before .before .before .before .before .before .before .args .s .now) (c .before .before .before .before .before .before .before .before .before .before .args .c) (c .before .before .before .before .before .before .before .before .before .before .pre .1 .0 .0) (c .before .before .before .before .before .before .before .before .before .before .args .depth) (c .before .before .before .before .next .result) (c .before .before .before .before .next .ensures) (c .before .before .before .match .keys3) (c .before .if2 .left) (c .if3 .taken)
 
--- src/expressions.rt:265:67
+-- src/expressions.rt:251:67
 primary-sub-primary-2 : (t : ℕ) → primary-lts.Need-sub-primary-2 (
   next-reads.Asked,
   next-reads.Learnt,
@@ -3879,7 +3409,7 @@ primary-sub-primary-2 : (t : ℕ) → primary-lts.Need-sub-primary-2 (
 ) (primary-at t) primary.Post
 primary-sub-primary-2 t c = search needs
 
--- src/expressions.rt:265:17
+-- src/expressions.rt:251:17
 primary-primary-requires-2 : (t : ℕ) → primary-lts.Need-primary-requires-2 (
   next-reads.Asked,
   next-reads.Learnt,
@@ -3904,7 +3434,7 @@ primary-primary-requires-2 : (t : ℕ) → primary-lts.Need-primary-requires-2 (
 ) (primary-at t) primary.Post
 primary-primary-requires-2 t c κs = (omega arith, (follow-ready _ (c .before .before .before .before .before .before .before .before .before .before .before .args .c) (c .before .before .before .before .before .next .result) _ (λ z. omega (arith, z, c .before .before .before .before .match .keys3)) (c .before .before .before .before .before .next .ensures) (c .before .before .before .before .before .before .before .before .before .before .before .pre .1 .0) .0, c .before .before .before .before .before .before .before .before .before .before .before .pre .1 .1))
 
--- src/expressions.rt:266:28
+-- src/expressions.rt:252:28
 primary-enum-known-r : (t : ℕ) → primary-lts.Need-enum-known-r (
   next-reads.Asked,
   next-reads.Learnt,
@@ -3929,7 +3459,7 @@ primary-enum-known-r : (t : ℕ) → primary-lts.Need-enum-known-r (
 ) (primary-at t) primary.Post
 primary-enum-known-r t c = search needs
 
--- src/expressions.rt:267:17
+-- src/expressions.rt:253:17
 primary-enum-told : (t : ℕ) → primary-lts.Need-enum-told (
   next-reads.Asked,
   next-reads.Learnt,
@@ -3954,7 +3484,7 @@ primary-enum-told : (t : ℕ) → primary-lts.Need-enum-told (
 ) (primary-at t) primary.Post
 primary-enum-told t c = search needs
 
--- src/expressions.rt:267:17
+-- src/expressions.rt:253:17
 primary-same-length-2 : (t : ℕ) → primary-lts.Need-same-length-2 (
   next-reads.Asked,
   next-reads.Learnt,
@@ -3979,7 +3509,7 @@ primary-same-length-2 : (t : ℕ) → primary-lts.Need-same-length-2 (
 ) (primary-at t) primary.Post
 primary-same-length-2 t c = search needs
 
--- src/expressions.rt:267:17
+-- src/expressions.rt:253:17
 primary-returns-4 : (t : ℕ) → primary-lts.Need-returns-4 (
   next-reads.Asked,
   next-reads.Learnt,
@@ -4004,7 +3534,7 @@ primary-returns-4 : (t : ℕ) → primary-lts.Need-returns-4 (
 ) (primary-at t) primary.Post
 primary-returns-4 t c = refused-on _ _ _ _ _ _ _ _ _ _ _ _ (c .enum-told .given .1) (c .before .before .before .before .primary2 .ensures) (λ e. prim-minus (wordsIn (c .before .before .before .before .before .before .before .before .before .before .before .before .before .before .before .before .args .reserved .now) (c .before .before .before .before .before .before .before .before .before .before .before .before .before .before .before .before .args .currencies .now) (c .before .before .before .before .before .before .before .before .before .before .before .before .before .before .before .before .args .counters .now)) (c .before .before .before .before .before .before .before .before .before .before .before .before .before .before .before .before .args .s .now) (c .before .before .before .before .before .before .before .before .before .before .before .before .before .before .before .before .args .c) (c .before .before .before .before .before .before .before .before .before .before .before .before .before .before .before .before .pre .1 .0 .0) (c .before .before .before .before .before .before .before .before .before .before .before .before .before .before .before .before .args .depth) (c .before .before .before .before .before .before .before .before .before .before .next .result) (c .before .before .before .before .before .before .before .before .before .before .next .ensures) (c .before .before .before .before .before .before .before .before .before .match .keys3) (c .before .before .before .before .before .before .before .if2 .left) (c .before .before .before .before .before .before .if3 .left) ∙ bind-refused _ _ _ _ _ e)
 
--- src/expressions.rt:269:34
+-- src/expressions.rt:255:34
 primary-sub-plain : (t : ℕ) → primary-lts.Need-sub-plain (
   next-reads.Asked,
   next-reads.Learnt,
@@ -4029,7 +3559,7 @@ primary-sub-plain : (t : ℕ) → primary-lts.Need-sub-plain (
 ) (primary-at t) primary.Post
 primary-sub-plain t c = omega (arith, read-numbers (c .before .before .before .before .before .before .before .before .before .before .before .before .before .before .before .before .before .before .args .s .now) (G.primary (wordsIn (c .before .before .before .before .before .before .before .before .before .before .before .before .before .before .before .before .before .before .args .reserved .now) (c .before .before .before .before .before .before .before .before .before .before .before .before .before .before .before .before .before .before .args .currencies .now) (c .before .before .before .before .before .before .before .before .before .before .before .before .before .before .before .before .before .before .args .counters .now)) (c .before .before .before .before .before .before .before .before .before .before .before .before .before .before .before .before .before .before .args .depth - 1)) (primary-size (wordsIn (c .before .before .before .before .before .before .before .before .before .before .before .before .before .before .before .before .before .before .args .reserved .now) (c .before .before .before .before .before .before .before .before .before .before .before .before .before .before .before .before .before .before .args .currencies .now) (c .before .before .before .before .before .before .before .before .before .before .before .before .before .before .before .before .before .before .args .counters .now)) (c .before .before .before .before .before .before .before .before .before .before .before .before .before .before .before .before .before .before .args .depth - 1)) (c .before .before .before .before .before .before .before .before .before .before .before .before .next .result) _ _ _ _ _ _ (done-reads _ _ _ _ _ _ _ _ _ (c .before .before .r .given .1) (c .before .before .before .before .before .before .primary2 .ensures)) ((follow-ready _ (c .before .before .before .before .before .before .before .before .before .before .before .before .before .before .before .before .before .before .args .c) (c .before .before .before .before .before .before .before .before .before .before .before .before .next .result) _ (λ z. omega (arith, z, c .before .before .before .before .before .before .before .before .before .before .before .match .keys3)) (c .before .before .before .before .before .before .before .before .before .before .before .before .next .ensures) (c .before .before .before .before .before .before .before .before .before .before .before .before .before .before .before .before .before .before .pre .1 .0) .0) .1), follow-ready _ (c .before .before .before .before .before .before .before .before .before .before .before .before .before .before .before .before .before .before .args .c) (c .before .before .before .before .before .before .before .before .before .before .before .before .next .result) _ (λ z. omega (arith, z, c .before .before .before .before .before .before .before .before .before .before .before .match .keys3)) (c .before .before .before .before .before .before .before .before .before .before .before .before .next .ensures) (c .before .before .before .before .before .before .before .before .before .before .before .before .before .before .before .before .before .before .pre .1 .0) .1)
 
--- src/expressions.rt:269:34
+-- src/expressions.rt:255:34
 primary-add-plain : (t : ℕ) → primary-lts.Need-add-plain (
   next-reads.Asked,
   next-reads.Learnt,
@@ -4054,7 +3584,7 @@ primary-add-plain : (t : ℕ) → primary-lts.Need-add-plain (
 ) (primary-at t) primary.Post
 primary-add-plain t c = omega (arith, read-numbers (c .before .before .before .before .before .before .before .before .before .before .before .before .before .before .before .before .before .before .args .s .now) (G.primary (wordsIn (c .before .before .before .before .before .before .before .before .before .before .before .before .before .before .before .before .before .before .args .reserved .now) (c .before .before .before .before .before .before .before .before .before .before .before .before .before .before .before .before .before .before .args .currencies .now) (c .before .before .before .before .before .before .before .before .before .before .before .before .before .before .before .before .before .before .args .counters .now)) (c .before .before .before .before .before .before .before .before .before .before .before .before .before .before .before .before .before .before .args .depth - 1)) (primary-size (wordsIn (c .before .before .before .before .before .before .before .before .before .before .before .before .before .before .before .before .before .before .args .reserved .now) (c .before .before .before .before .before .before .before .before .before .before .before .before .before .before .before .before .before .before .args .currencies .now) (c .before .before .before .before .before .before .before .before .before .before .before .before .before .before .before .before .before .before .args .counters .now)) (c .before .before .before .before .before .before .before .before .before .before .before .before .before .before .before .before .before .before .args .depth - 1)) (c .before .before .before .before .before .before .before .before .before .before .before .before .next .result) _ _ _ _ _ _ (done-reads _ _ _ _ _ _ _ _ _ (c .before .before .r .given .1) (c .before .before .before .before .before .before .primary2 .ensures)) ((follow-ready _ (c .before .before .before .before .before .before .before .before .before .before .before .before .before .before .before .before .before .before .args .c) (c .before .before .before .before .before .before .before .before .before .before .before .before .next .result) _ (λ z. omega (arith, z, c .before .before .before .before .before .before .before .before .before .before .before .match .keys3)) (c .before .before .before .before .before .before .before .before .before .before .before .before .next .ensures) (c .before .before .before .before .before .before .before .before .before .before .before .before .before .before .before .before .before .before .pre .1 .0) .0) .1), follow-ready _ (c .before .before .before .before .before .before .before .before .before .before .before .before .before .before .before .before .before .before .args .c) (c .before .before .before .before .before .before .before .before .before .before .before .before .next .result) _ (λ z. omega (arith, z, c .before .before .before .before .before .before .before .before .before .before .before .match .keys3)) (c .before .before .before .before .before .before .before .before .before .before .before .before .next .ensures) (c .before .before .before .before .before .before .before .before .before .before .before .before .before .before .before .before .before .before .pre .1 .0) .1)
 
--- src/expressions.rt:269:25
+-- src/expressions.rt:255:25
 primary-plain-requires : (t : ℕ) → primary-lts.Need-plain-requires (
   next-reads.Asked,
   next-reads.Learnt,
@@ -4079,7 +3609,7 @@ primary-plain-requires : (t : ℕ) → primary-lts.Need-plain-requires (
 ) (primary-at t) primary.Post
 primary-plain-requires t c κs = search needs
 
--- src/expressions.rt:269:13
+-- src/expressions.rt:255:13
 primary-put-requires : (t : ℕ) → primary-lts.Need-put-requires (
   next-reads.Asked,
   next-reads.Learnt,
@@ -4104,7 +3634,7 @@ primary-put-requires : (t : ℕ) → primary-lts.Need-put-requires (
 ) (primary-at t) primary.Post
 primary-put-requires t c κs = search needs
 
--- src/expressions.rt:270:27
+-- src/expressions.rt:256:27
 primary-add-t24 : (t : ℕ) → primary-lts.Need-add-t24 (
   next-reads.Asked,
   next-reads.Learnt,
@@ -4129,7 +3659,7 @@ primary-add-t24 : (t : ℕ) → primary-lts.Need-add-t24 (
 ) (primary-at t) primary.Post
 primary-add-t24 t c = omega (arith, read-numbers (c .before .before .before .before .before .before .before .before .before .before .before .before .before .before .before .before .before .before .before .before .before .before .args .s .now) (G.primary (wordsIn (c .before .before .before .before .before .before .before .before .before .before .before .before .before .before .before .before .before .before .before .before .before .before .args .reserved .now) (c .before .before .before .before .before .before .before .before .before .before .before .before .before .before .before .before .before .before .before .before .before .before .args .currencies .now) (c .before .before .before .before .before .before .before .before .before .before .before .before .before .before .before .before .before .before .before .before .before .before .args .counters .now)) (c .before .before .before .before .before .before .before .before .before .before .before .before .before .before .before .before .before .before .before .before .before .before .args .depth - 1)) (primary-size (wordsIn (c .before .before .before .before .before .before .before .before .before .before .before .before .before .before .before .before .before .before .before .before .before .before .args .reserved .now) (c .before .before .before .before .before .before .before .before .before .before .before .before .before .before .before .before .before .before .before .before .before .before .args .currencies .now) (c .before .before .before .before .before .before .before .before .before .before .before .before .before .before .before .before .before .before .before .before .before .before .args .counters .now)) (c .before .before .before .before .before .before .before .before .before .before .before .before .before .before .before .before .before .before .before .before .before .before .args .depth - 1)) (c .before .before .before .before .before .before .before .before .before .before .before .before .before .before .before .before .next .result) _ _ _ _ _ _ (done-reads _ _ _ _ _ _ _ _ _ (c .before .before .before .before .before .before .r .given .1) (c .before .before .before .before .before .before .before .before .before .before .primary2 .ensures)) ((follow-ready _ (c .before .before .before .before .before .before .before .before .before .before .before .before .before .before .before .before .before .before .before .before .before .before .args .c) (c .before .before .before .before .before .before .before .before .before .before .before .before .before .before .before .before .next .result) _ (λ z. omega (arith, z, c .before .before .before .before .before .before .before .before .before .before .before .before .before .before .before .match .keys3)) (c .before .before .before .before .before .before .before .before .before .before .before .before .before .before .before .before .next .ensures) (c .before .before .before .before .before .before .before .before .before .before .before .before .before .before .before .before .before .before .before .before .before .before .pre .1 .0) .0) .1), follow-ready _ (c .before .before .before .before .before .before .before .before .before .before .before .before .before .before .before .before .before .before .before .before .before .before .args .c) (c .before .before .before .before .before .before .before .before .before .before .before .before .before .before .before .before .next .result) _ (λ z. omega (arith, z, c .before .before .before .before .before .before .before .before .before .before .before .before .before .before .before .match .keys3)) (c .before .before .before .before .before .before .before .before .before .before .before .before .before .before .before .before .next .ensures) (c .before .before .before .before .before .before .before .before .before .before .before .before .before .before .before .before .before .before .before .before .before .before .pre .1 .0) .1)
 
--- src/expressions.rt:272:25
+-- src/expressions.rt:258:25
 primary-list-requires : (t : ℕ) → primary-lts.Need-list-requires (
   next-reads.Asked,
   next-reads.Learnt,
@@ -4154,7 +3684,7 @@ primary-list-requires : (t : ℕ) → primary-lts.Need-list-requires (
 ) (primary-at t) primary.Post
 primary-list-requires t c κs = search needs
 
--- src/expressions.rt:273:17
+-- src/expressions.rt:259:17
 primary-pays-requires : (t : ℕ) → primary-lts.Need-pays-requires (
   next-reads.Asked,
   next-reads.Learnt,
@@ -4179,7 +3709,7 @@ primary-pays-requires : (t : ℕ) → primary-lts.Need-pays-requires (
 ) (primary-at t) primary.Post
 primary-pays-requires t c κs = search needs
 
--- src/expressions.rt:274:17
+-- src/expressions.rt:260:17
 primary-name-requires : (t : ℕ) → primary-lts.Need-name-requires (
   next-reads.Asked,
   next-reads.Learnt,
@@ -4204,7 +3734,7 @@ primary-name-requires : (t : ℕ) → primary-lts.Need-name-requires (
 ) (primary-at t) primary.Post
 primary-name-requires t c κs = search needs
 
--- src/expressions.rt:275:14
+-- src/expressions.rt:261:14
 primary-atom-at-requires : (t : ℕ) → primary-lts.Need-atom-at-requires (
   next-reads.Asked,
   next-reads.Learnt,
@@ -4229,7 +3759,7 @@ primary-atom-at-requires : (t : ℕ) → primary-lts.Need-atom-at-requires (
 ) (primary-at t) primary.Post
 primary-atom-at-requires t c κs = search needs
 
--- src/expressions.rt:235:1
+-- src/expressions.rt:221:1
 primary-same-length-3 : (t : ℕ) → primary-lts.Need-same-length-3 (
   next-reads.Asked,
   next-reads.Learnt,
@@ -4254,7 +3784,7 @@ primary-same-length-3 : (t : ℕ) → primary-lts.Need-same-length-3 (
 ) (primary-at t) primary.Post
 primary-same-length-3 t c = search needs
 
--- src/expressions.rt:235:1
+-- src/expressions.rt:221:1
 primary-returns-5 : (t : ℕ) → primary-lts.Need-returns-5 (
   next-reads.Asked,
   next-reads.Learnt,
@@ -4279,7 +3809,7 @@ primary-returns-5 : (t : ℕ) → primary-lts.Need-returns-5 (
 ) (primary-at t) primary.Post
 primary-returns-5 t c = meets-as _ _ _ _ _ (c .before .before .parenthesis .result) _ (prim-paren (wordsIn (c .before .before .before .before .before .before .before .before .before .before .before .args .reserved .now) (c .before .before .before .before .before .before .before .before .before .before .before .args .currencies .now) (c .before .before .before .before .before .before .before .before .before .before .before .args .counters .now)) (c .before .before .before .before .before .before .before .before .before .before .before .args .s .now) (c .before .before .before .before .before .before .before .before .before .before .before .args .c) (c .before .before .before .before .before .before .before .before .before .before .before .pre .1 .0 .0) (c .before .before .before .before .before .before .before .before .before .before .before .args .depth) (c .before .before .before .before .match .keys1)) (c .before .before .parenthesis .ensures)
 
--- src/expressions.rt:235:1
+-- src/expressions.rt:221:1
 primary-same-length-4 : (t : ℕ) → primary-lts.Need-same-length-4 (
   next-reads.Asked,
   next-reads.Learnt,
@@ -4304,7 +3834,7 @@ primary-same-length-4 : (t : ℕ) → primary-lts.Need-same-length-4 (
 ) (primary-at t) primary.Post
 primary-same-length-4 t c = search needs
 
--- src/expressions.rt:235:1
+-- src/expressions.rt:221:1
 primary-returns-6 : (t : ℕ) → primary-lts.Need-returns-6 (
   next-reads.Asked,
   next-reads.Learnt,
@@ -4329,7 +3859,7 @@ primary-returns-6 : (t : ℕ) → primary-lts.Need-returns-6 (
 ) (primary-at t) primary.Post
 primary-returns-6 t c = meets-as _ _ _ _ _ (c .before .before .primary .result) _ (prim-plus (wordsIn (c .before .before .before .before .before .before .before .before .before .before .before .before .args .reserved .now) (c .before .before .before .before .before .before .before .before .before .before .before .before .args .currencies .now) (c .before .before .before .before .before .before .before .before .before .before .before .before .args .counters .now)) (c .before .before .before .before .before .before .before .before .before .before .before .before .args .s .now) (c .before .before .before .before .before .before .before .before .before .before .before .before .args .c) (c .before .before .before .before .before .before .before .before .before .before .before .before .pre .1 .0 .0) (c .before .before .before .before .before .before .before .before .before .before .before .before .args .depth) (c .before .before .before .before .before .before .next .result) (c .before .before .before .before .before .before .next .ensures) (c .before .before .before .before .before .match .keys2) (c .before .before .before .before .if1 .left)) (c .before .before .primary .ensures)
 
--- src/expressions.rt:235:1
+-- src/expressions.rt:221:1
 primary-same-length-5 : (t : ℕ) → primary-lts.Need-same-length-5 (
   next-reads.Asked,
   next-reads.Learnt,
@@ -4354,7 +3884,7 @@ primary-same-length-5 : (t : ℕ) → primary-lts.Need-same-length-5 (
 ) (primary-at t) primary.Post
 primary-same-length-5 t c = search needs
 
--- src/expressions.rt:235:1
+-- src/expressions.rt:221:1
 primary-returns-7 : (t : ℕ) → primary-lts.Need-returns-7 (
   next-reads.Asked,
   next-reads.Learnt,
@@ -4379,7 +3909,7 @@ primary-returns-7 : (t : ℕ) → primary-lts.Need-returns-7 (
 ) (primary-at t) primary.Post
 primary-returns-7 t c = reads-as _ _ _ _ _ _ _ _ _ (prim-minus (wordsIn (c .before .before .before .before .before .before .before .before .before .before .before .before .before .before .before .before .before .before .before .before .before .before .args .reserved .now) (c .before .before .before .before .before .before .before .before .before .before .before .before .before .before .before .before .before .before .before .before .before .before .args .currencies .now) (c .before .before .before .before .before .before .before .before .before .before .before .before .before .before .before .before .before .before .before .before .before .before .args .counters .now)) (c .before .before .before .before .before .before .before .before .before .before .before .before .before .before .before .before .before .before .before .before .before .before .args .s .now) (c .before .before .before .before .before .before .before .before .before .before .before .before .before .before .before .before .before .before .before .before .before .before .args .c) (c .before .before .before .before .before .before .before .before .before .before .before .before .before .before .before .before .before .before .before .before .before .before .pre .1 .0 .0) (c .before .before .before .before .before .before .before .before .before .before .before .before .before .before .before .before .before .before .before .before .before .before .args .depth) (c .before .before .before .before .before .before .before .before .before .before .before .before .before .before .before .before .next .result) (c .before .before .before .before .before .before .before .before .before .before .before .before .before .before .before .before .next .ensures) (c .before .before .before .before .before .before .before .before .before .before .before .before .before .before .before .match .keys3) (c .before .before .before .before .before .before .before .before .before .before .before .before .before .if2 .left) (c .before .before .before .before .before .before .before .before .before .before .before .before .if3 .left)) (negate-reads (wordsIn (c .before .before .before .before .before .before .before .before .before .before .before .before .before .before .before .before .before .before .before .before .before .before .args .reserved .now) (c .before .before .before .before .before .before .before .before .before .before .before .before .before .before .before .before .before .before .before .before .before .before .args .currencies .now) (c .before .before .before .before .before .before .before .before .before .before .before .before .before .before .before .before .before .before .before .before .before .before .args .counters .now)) (G.primary (wordsIn (c .before .before .before .before .before .before .before .before .before .before .before .before .before .before .before .before .before .before .before .before .before .before .args .reserved .now) (c .before .before .before .before .before .before .before .before .before .before .before .before .before .before .before .before .before .before .before .before .before .before .args .currencies .now) (c .before .before .before .before .before .before .before .before .before .before .before .before .before .before .before .before .before .before .before .before .before .before .args .counters .now)) (c .before .before .before .before .before .before .before .before .before .before .before .before .before .before .before .before .before .before .before .before .before .before .args .depth - 1)) _ _ _ _ _ _ _ _ _ (done-reads _ _ _ _ _ _ _ _ _ (c .before .before .before .before .before .before .r .given .1) (c .before .before .before .before .before .before .before .before .before .before .primary2 .ensures)) (put-plain _ _ _ _ _ _ _ (c .before .before .before .plain .ensures) (c .before .before .put .ensures)))
 
--- src/expressions.rt:235:1
+-- src/expressions.rt:221:1
 primary-same-length-6 : (t : ℕ) → primary-lts.Need-same-length-6 (
   next-reads.Asked,
   next-reads.Learnt,
@@ -4404,7 +3934,7 @@ primary-same-length-6 : (t : ℕ) → primary-lts.Need-same-length-6 (
 ) (primary-at t) primary.Post
 primary-same-length-6 t c = search needs
 
--- src/expressions.rt:235:1
+-- src/expressions.rt:221:1
 primary-returns-8 : (t : ℕ) → primary-lts.Need-returns-8 (
   next-reads.Asked,
   next-reads.Learnt,
@@ -4429,7 +3959,7 @@ primary-returns-8 : (t : ℕ) → primary-lts.Need-returns-8 (
 ) (primary-at t) primary.Post
 primary-returns-8 t c = meets-as _ _ _ _ _ (c .before .before .list .result) _ (prim-list (wordsIn (c .before .before .before .before .before .before .before .before .before .before .before .args .reserved .now) (c .before .before .before .before .before .before .before .before .before .before .before .args .currencies .now) (c .before .before .before .before .before .before .before .before .before .before .before .args .counters .now)) (c .before .before .before .before .before .before .before .before .before .before .before .args .s .now) (c .before .before .before .before .before .before .before .before .before .before .before .args .c) (c .before .before .before .before .before .before .before .before .before .before .before .pre .1 .0 .0) (c .before .before .before .before .before .before .before .before .before .before .before .args .depth) (c .before .before .before .before .match .keys4)) (c .before .before .list .ensures)
 
--- src/expressions.rt:235:1
+-- src/expressions.rt:221:1
 primary-same-length-7 : (t : ℕ) → primary-lts.Need-same-length-7 (
   next-reads.Asked,
   next-reads.Learnt,
@@ -4454,7 +3984,7 @@ primary-same-length-7 : (t : ℕ) → primary-lts.Need-same-length-7 (
 ) (primary-at t) primary.Post
 primary-same-length-7 t c = search needs
 
--- src/expressions.rt:235:1
+-- src/expressions.rt:221:1
 primary-returns-9 : (t : ℕ) → primary-lts.Need-returns-9 (
   next-reads.Asked,
   next-reads.Learnt,
@@ -4479,7 +4009,7 @@ primary-returns-9 : (t : ℕ) → primary-lts.Need-returns-9 (
 ) (primary-at t) primary.Post
 primary-returns-9 t c = meets-as _ _ _ _ _ (c .before .before .pays .result) _ (prim-pays (wordsIn (c .before .before .before .before .before .before .before .before .before .before .before .args .reserved .now) (c .before .before .before .before .before .before .before .before .before .before .before .args .currencies .now) (c .before .before .before .before .before .before .before .before .before .before .before .args .counters .now)) (c .before .before .before .before .before .before .before .before .before .before .before .args .s .now) (c .before .before .before .before .before .before .before .before .before .before .before .args .c) (c .before .before .before .before .before .before .before .before .before .before .before .pre .1 .0 .0) (c .before .before .before .before .before .before .before .before .before .before .before .args .depth) (c .before .before .before .before .match .keys5)) (c .before .before .pays .ensures)
 
--- src/expressions.rt:235:1
+-- src/expressions.rt:221:1
 primary-same-length-8 : (t : ℕ) → primary-lts.Need-same-length-8 (
   next-reads.Asked,
   next-reads.Learnt,
@@ -4504,7 +4034,7 @@ primary-same-length-8 : (t : ℕ) → primary-lts.Need-same-length-8 (
 ) (primary-at t) primary.Post
 primary-same-length-8 t c = search needs
 
--- src/expressions.rt:235:1
+-- src/expressions.rt:221:1
 primary-returns-10 : (t : ℕ) → primary-lts.Need-returns-10 (
   next-reads.Asked,
   next-reads.Learnt,
@@ -4529,7 +4059,7 @@ primary-returns-10 : (t : ℕ) → primary-lts.Need-returns-10 (
 ) (primary-at t) primary.Post
 primary-returns-10 t c = meets-as _ _ _ _ _ (c .before .before .name .result) _ (prim-name (wordsIn (c .before .before .before .before .before .before .before .before .before .before .before .args .reserved .now) (c .before .before .before .before .before .before .before .before .before .before .before .args .currencies .now) (c .before .before .before .before .before .before .before .before .before .before .before .args .counters .now)) (c .before .before .before .before .before .before .before .before .before .before .before .args .s .now) (c .before .before .before .before .before .before .before .before .before .before .before .args .c) (c .before .before .before .before .before .before .before .before .before .before .before .pre .1 .0 .0) (c .before .before .before .before .before .before .before .before .before .before .before .args .depth) (c .before .before .before .before .before .next .result) (c .before .before .before .before .before .next .ensures) (c .before .before .before .before .match .keys6)) (c .before .before .name .ensures)
 
--- src/expressions.rt:235:1
+-- src/expressions.rt:221:1
 primary-same-length-9 : (t : ℕ) → primary-lts.Need-same-length-9 (
   next-reads.Asked,
   next-reads.Learnt,
@@ -4554,7 +4084,7 @@ primary-same-length-9 : (t : ℕ) → primary-lts.Need-same-length-9 (
 ) (primary-at t) primary.Post
 primary-same-length-9 t c = search needs
 
--- src/expressions.rt:235:1
+-- src/expressions.rt:221:1
 primary-returns-11 : (t : ℕ) → primary-lts.Need-returns-11 (
   next-reads.Asked,
   next-reads.Learnt,
@@ -4582,708 +4112,356 @@ primary-returns-11 t c =
     meets-as _ _ _ _ _ (c .before .before .atom-at .result) _ (prim-atom (wordsIn (c .before .before .before .before .before .before .before .before .before .before .before .args .reserved .now) (c .before .before .before .before .before .before .before .before .before .before .before .args .currencies .now) (c .before .before .before .before .before .before .before .before .before .before .before .args .counters .now)) (c .before .before .before .before .before .before .before .before .before .before .before .args .s .now) (c .before .before .before .before .before .before .before .before .before .before .before .args .c) (c .before .before .before .before .before .before .before .before .before .before .before .pre .1 .0 .0) (c .before .before .before .before .before .before .before .before .before .before .before .args .depth) (r .0 .0 .0 .0 .0 .1) (r .0 .0 .0 .0 .1) (r .0 .0 .0 .1) (r .0 .0 .1) (r .0 .1) (r .1)) (c .before .before .atom-at .ensures)
 
 abbrev product-Inv-loop : product-lts.InvT-loop
-product-Inv-loop s reserved currencies counters depth out₀ n n1 p1 at₀ m₀ p₀ out at m p = (length out ≡ length out₀) × ((R : Out Tree) (o : List ℕ) → Chain (λ u. isSign "*" u || isSign "/" u) (G.power (G.primary (wordsIn reserved currencies counters) depth)) s R n o at₀ m₀ p₀ out₀ → Chain (λ u. isSign "*" u || isSign "/" u) (G.power (G.primary (wordsIn reserved currencies counters) depth)) s R n o at m p out)
+product-Inv-loop s reserved currencies counters depth out₀ n at₀ m₀ sign₀ out at m sign = (length out ≡ length out₀) × Pending (λ u. isSign "*" u || isSign "/" u) productSign (G.power (G.primary (wordsIn reserved currencies counters) depth)) s (G.product (G.primary (wordsIn reserved currencies counters) depth) (toksAt s (at₀ .start))) n out₀ sign at m out
 
 abbrev product-μ-loop : product-lts.MeasureT-loop
-product-μ-loop s reserved currencies counters depth out₀ n n1 p1 at₀ m₀ p₀ out at m p = length (toksAt s (at .start))
+product-μ-loop s reserved currencies counters depth out₀ n at₀ m₀ sign₀ out at m sign = length (toksAt s (at .start))
 
--- src/expressions.rt:172:9
-product-power-requires : (t : ℕ) → product-lts.Need-power-requires (
-  power-below t,
-  power.Post,
-  is-product-reads.Asked,
-  is-product-reads.Learnt,
-  next-reads.Asked,
-  next-reads.Learnt,
-  plain-reads.Asked,
-  plain-reads.Learnt,
-  put-reads.Asked,
-  put-reads.Learnt,
-) (product-at t) product.Post product-Inv-loop product-μ-loop
-product-power-requires t c κs = search needs
-
--- src/expressions.rt:173:20
-product-enum-known-r : (t : ℕ) → product-lts.Need-enum-known-r (
-  power-below t,
-  power.Post,
-  is-product-reads.Asked,
-  is-product-reads.Learnt,
-  next-reads.Asked,
-  next-reads.Learnt,
-  plain-reads.Asked,
-  plain-reads.Learnt,
-  put-reads.Asked,
-  put-reads.Learnt,
-) (product-at t) product.Post product-Inv-loop product-μ-loop
-product-enum-known-r t c = search needs
-
--- src/expressions.rt:174:9
-product-enum-told : (t : ℕ) → product-lts.Need-enum-told (
-  power-below t,
-  power.Post,
-  is-product-reads.Asked,
-  is-product-reads.Learnt,
-  next-reads.Asked,
-  next-reads.Learnt,
-  plain-reads.Asked,
-  plain-reads.Learnt,
-  put-reads.Asked,
-  put-reads.Learnt,
-) (product-at t) product.Post product-Inv-loop product-μ-loop
-product-enum-told t c = search needs
-
--- src/expressions.rt:174:9
-product-same-length : (t : ℕ) → product-lts.Need-same-length (
-  power-below t,
-  power.Post,
-  is-product-reads.Asked,
-  is-product-reads.Learnt,
-  next-reads.Asked,
-  next-reads.Learnt,
-  plain-reads.Asked,
-  plain-reads.Learnt,
-  put-reads.Asked,
-  put-reads.Learnt,
-) (product-at t) product.Post product-Inv-loop product-μ-loop
-product-same-length t c = search needs
-
--- src/expressions.rt:174:9
-product-returns : (t : ℕ) → product-lts.Need-returns (
-  power-below t,
-  power.Post,
-  is-product-reads.Asked,
-  is-product-reads.Learnt,
-  next-reads.Asked,
-  next-reads.Learnt,
-  plain-reads.Asked,
-  plain-reads.Learnt,
-  put-reads.Asked,
-  put-reads.Learnt,
-) (product-at t) product.Post product-Inv-loop product-μ-loop
-product-returns t c = refused-on _ _ _ _ _ _ _ _ _ _ _ _ (c .enum-told .given .1) (c .before .before .before .before .power .ensures) (chain-refused (product-level (wordsIn (c .before .before .before .before .before .before .before .before .before .before .before .args .reserved .now) (c .before .before .before .before .before .before .before .before .before .before .before .args .currencies .now) (c .before .before .before .before .before .before .before .before .before .before .before .args .counters .now)) (c .before .before .before .before .before .before .before .before .before .before .before .args .depth)) (c .before .before .before .before .before .before .before .before .before .before .before .args .s .now) (c .before .before .before .before .before .before .before .before .before .before .before .args .c) _ _)
-
--- src/expressions.rt:179:5
+-- src/expressions.rt:171:5
 product-loop-holds : (t : ℕ) → product-lts.Need-loop-holds (
   power-below t,
   power.Post,
+  join-reads.Asked,
+  join-reads.Learnt,
   is-product-reads.Asked,
   is-product-reads.Learnt,
   next-reads.Asked,
   next-reads.Learnt,
-  plain-reads.Asked,
-  plain-reads.Learnt,
-  put-reads.Asked,
-  put-reads.Learnt,
 ) (product-at t) product.Post product-Inv-loop product-μ-loop
-product-loop-holds t c = (refl, λ R o h. h)
+unfolding G.product
+product-loop-holds t c = (refl, pend-first (product-level (wordsIn (c .before .before .before .before .before .args .reserved .now) (c .before .before .before .before .before .args .currencies .now) (c .before .before .before .before .before .args .counters .now)) (c .before .before .before .before .before .args .depth)) (c .before .before .before .before .before .args .s .now) (c .before .before .before .before .before .args .c) (c .before .before .before .before .before .args .n) (c .before .before .before .before .before .args .out .now) (c .before .before .before .before .before .pre .1 .0))
 
-product-chain : (t : ℕ) (c : product-lts.At-loop (
+-- src/expressions.rt:172:13
+product-power-requires : (t : ℕ) → product-lts.Need-power-requires (
   power-below t,
   power.Post,
+  join-reads.Asked,
+  join-reads.Learnt,
   is-product-reads.Asked,
   is-product-reads.Learnt,
   next-reads.Asked,
   next-reads.Learnt,
-  plain-reads.Asked,
-  plain-reads.Learnt,
-  put-reads.Asked,
-  put-reads.Learnt,
-) (product-at t) product.Post product-Inv-loop product-μ-loop) → Chain (λ u. isSign "*" u || isSign "/" u) (G.power (G.primary (wordsIn (c .before .before .before .before .before .before .before .before .before .before .before .before .before .args .reserved .now) (c .before .before .before .before .before .before .before .before .before .before .before .before .before .args .currencies .now) (c .before .before .before .before .before .before .before .before .before .before .before .before .before .args .counters .now)) (c .before .before .before .before .before .before .before .before .before .before .before .before .before .args .depth))) (c .before .before .before .before .before .before .before .before .before .before .before .before .before .args .s .now) (G.product (G.primary (wordsIn (c .before .before .before .before .before .before .before .before .before .before .before .before .before .args .reserved .now) (c .before .before .before .before .before .before .before .before .before .before .before .before .before .args .currencies .now) (c .before .before .before .before .before .before .before .before .before .before .before .before .before .args .counters .now)) (c .before .before .before .before .before .before .before .before .before .before .before .before .before .args .depth)) (toksAt (c .before .before .before .before .before .before .before .before .before .before .before .before .before .args .s .now) (c .before .before .before .before .before .before .before .before .before .before .before .before .before .args .c .start))) (c .before .before .before .before .before .before .before .before .before .before .before .before .before .args .n) (c .before .before .before .before .before .before .before .before .before .before .before .before .before .args .out .now) (c .loop .at) (c .loop .m) (c .loop .p) (c .loop .out)
-product-chain t c =
-    c .loop .inv .1 _ _ (chain-enter (product-level (wordsIn (c .before .before .before .before .before .before .before .before .before .before .before .before .before .args .reserved .now) (c .before .before .before .before .before .before .before .before .before .before .before .before .before .args .currencies .now) (c .before .before .before .before .before .before .before .before .before .before .before .before .before .args .counters .now)) (c .before .before .before .before .before .before .before .before .before .before .before .before .before .args .depth)) (c .before .before .before .before .before .before .before .before .before .before .before .before .before .args .s .now) (c .before .before .before .before .before .before .before .before .before .before .before .before .before .args .c) _ _ _ _ _ _ (c .before .before .before .before .before .before .before .before .before .before .before .before .before .pre .1 .0 .1) (done-reads _ _ _ _ _ _ _ _ _ (c .before .before .r .given .1) (c .before .before .before .before .before .before .power .ensures)))
+) (product-at t) product.Post product-Inv-loop product-μ-loop
+product-power-requires t c κs = (omega (arith, c .before .before .before .before .before .before .before .pre .0), (pend-ready (product-level (wordsIn (c .before .before .before .before .before .before .before .args .reserved .now) (c .before .before .before .before .before .before .before .args .currencies .now) (c .before .before .before .before .before .before .before .args .counters .now)) (c .before .before .before .before .before .before .before .args .depth)) (c .before .before .before .before .before .before .before .args .s .now) _ _ _ _ _ _ _ (c .before .loop .inv .1), c .before .before .before .before .before .before .before .pre .1 .1))
 
--- src/expressions.rt:181:13
+-- src/expressions.rt:173:24
+product-enum-known-r : (t : ℕ) → product-lts.Need-enum-known-r (
+  power-below t,
+  power.Post,
+  join-reads.Asked,
+  join-reads.Learnt,
+  is-product-reads.Asked,
+  is-product-reads.Learnt,
+  next-reads.Asked,
+  next-reads.Learnt,
+) (product-at t) product.Post product-Inv-loop product-μ-loop
+product-enum-known-r t c = search needs
+
+-- src/expressions.rt:174:13
+product-enum-told : (t : ℕ) → product-lts.Need-enum-told (
+  power-below t,
+  power.Post,
+  join-reads.Asked,
+  join-reads.Learnt,
+  is-product-reads.Asked,
+  is-product-reads.Learnt,
+  next-reads.Asked,
+  next-reads.Learnt,
+) (product-at t) product.Post product-Inv-loop product-μ-loop
+product-enum-told t c = search needs
+
+-- src/expressions.rt:174:13
+product-same-length : (t : ℕ) → product-lts.Need-same-length (
+  power-below t,
+  power.Post,
+  join-reads.Asked,
+  join-reads.Learnt,
+  is-product-reads.Asked,
+  is-product-reads.Learnt,
+  next-reads.Asked,
+  next-reads.Learnt,
+) (product-at t) product.Post product-Inv-loop product-μ-loop
+product-same-length t c = c .before .before .before .before .power .kept .1 .1 .1 .1 .1 .1 .0 ∙ c .before .before .before .before .before .before .loop .inv .0
+
+-- src/expressions.rt:174:13
+product-returns : (t : ℕ) → product-lts.Need-returns (
+  power-below t,
+  power.Post,
+  join-reads.Asked,
+  join-reads.Learnt,
+  is-product-reads.Asked,
+  is-product-reads.Learnt,
+  next-reads.Asked,
+  next-reads.Learnt,
+) (product-at t) product.Post product-Inv-loop product-μ-loop
+product-returns t c = refused-on _ _ _ _ _ _ _ _ _ _ _ _ (c .enum-told .given .1) (c .before .before .before .before .power .ensures) (pend-refused (product-level (wordsIn (c .before .before .before .before .before .before .before .before .before .before .before .before .args .reserved .now) (c .before .before .before .before .before .before .before .before .before .before .before .before .args .currencies .now) (c .before .before .before .before .before .before .before .before .before .before .before .before .args .counters .now)) (c .before .before .before .before .before .before .before .before .before .before .before .before .args .depth)) (c .before .before .before .before .before .before .before .before .before .before .before .before .args .s .now) _ _ _ _ _ _ _ (c .before .before .before .before .before .before .loop .inv .1) _ _)
+
+-- src/expressions.rt:176:13
+product-join-requires : (t : ℕ) → product-lts.Need-join-requires (
+  power-below t,
+  power.Post,
+  join-reads.Asked,
+  join-reads.Learnt,
+  is-product-reads.Asked,
+  is-product-reads.Learnt,
+  next-reads.Asked,
+  next-reads.Learnt,
+) (product-at t) product.Post product-Inv-loop product-μ-loop
+product-join-requires t c κs = pend-numbers (product-level (wordsIn (c .before .before .before .before .before .before .before .before .before .before .before .before .before .before .args .reserved .now) (c .before .before .before .before .before .before .before .before .before .before .before .before .before .before .args .currencies .now) (c .before .before .before .before .before .before .before .before .before .before .before .before .before .before .args .counters .now)) (c .before .before .before .before .before .before .before .before .before .before .before .before .before .before .args .depth)) (c .before .before .before .before .before .before .before .before .before .before .before .before .before .before .args .s .now) _ _ _ _ _ _ _ (c .before .before .before .before .before .before .before .before .loop .inv .1) _ _ _ _ (done-reads _ _ _ _ _ _ _ _ _ (c .before .before .r .given .1) (c .before .before .before .before .before .before .power .ensures))
+
+-- src/expressions.rt:178:13
 product-is-product-requires : (t : ℕ) → product-lts.Need-is-product-requires (
   power-below t,
   power.Post,
+  join-reads.Asked,
+  join-reads.Learnt,
   is-product-reads.Asked,
   is-product-reads.Learnt,
   next-reads.Asked,
   next-reads.Learnt,
-  plain-reads.Asked,
-  plain-reads.Learnt,
-  put-reads.Asked,
-  put-reads.Learnt,
 ) (product-at t) product.Post product-Inv-loop product-μ-loop
 product-is-product-requires t c κs = search needs
 
--- src/expressions.rt:182:13
+-- src/expressions.rt:179:13
 product-same-length-2 : (t : ℕ) → product-lts.Need-same-length-2 (
   power-below t,
   power.Post,
+  join-reads.Asked,
+  join-reads.Learnt,
   is-product-reads.Asked,
   is-product-reads.Learnt,
   next-reads.Asked,
   next-reads.Learnt,
-  plain-reads.Asked,
-  plain-reads.Learnt,
-  put-reads.Asked,
-  put-reads.Learnt,
 ) (product-at t) product.Post product-Inv-loop product-μ-loop
-product-same-length-2 t c = c .before .before .loop .inv .0 ∙ c .before .before .before .before .before .before .before .before .power .kept .1 .1 .1 .1 .1 .1 .0
+product-same-length-2 t c = c .before .before .before .before .join .kept .0 ∙ (c .before .before .before .before .before .before .before .before .before .before .before .power .kept .1 .1 .1 .1 .1 .1 .0 ∙ c .before .before .before .before .before .before .before .before .before .before .before .before .before .loop .inv .0)
 
--- src/expressions.rt:182:13
+-- src/expressions.rt:179:13
 product-returns-2 : (t : ℕ) → product-lts.Need-returns-2 (
   power-below t,
   power.Post,
+  join-reads.Asked,
+  join-reads.Learnt,
   is-product-reads.Asked,
   is-product-reads.Learnt,
   next-reads.Asked,
   next-reads.Learnt,
-  plain-reads.Asked,
-  plain-reads.Learnt,
-  put-reads.Asked,
-  put-reads.Learnt,
 ) (product-at t) product.Post product-Inv-loop product-μ-loop
-product-returns-2 t c = chain-exit (product-level (wordsIn (c .before .before .before .before .before .before .before .before .before .before .before .before .before .before .before .args .reserved .now) (c .before .before .before .before .before .before .before .before .before .before .before .before .before .before .before .args .currencies .now) (c .before .before .before .before .before .before .before .before .before .before .before .before .before .before .before .args .counters .now)) (c .before .before .before .before .before .before .before .before .before .before .before .before .before .before .before .args .depth)) (c .before .before .before .before .before .before .before .before .before .before .before .before .before .before .before .args .s .now) _ _ _ _ _ _ _ (product-chain t (c .before .before)) (sym (c .before .is-product .ensures) ∙ not-true _ (c .if1 .taken))
+product-returns-2 t c = chain-exit (product-level (wordsIn (c .before .before .before .before .before .before .before .before .before .before .before .before .before .before .before .before .before .before .before .args .reserved .now) (c .before .before .before .before .before .before .before .before .before .before .before .before .before .before .before .before .before .before .before .args .currencies .now) (c .before .before .before .before .before .before .before .before .before .before .before .before .before .before .before .before .before .before .before .args .counters .now)) (c .before .before .before .before .before .before .before .before .before .before .before .before .before .before .before .before .before .before .before .args .depth)) (c .before .before .before .before .before .before .before .before .before .before .before .before .before .before .before .before .before .before .before .args .s .now) _ _ _ _ _ _ _ (pend-chain (product-level (wordsIn (c .before .before .before .before .before .before .before .before .before .before .before .before .before .before .before .before .before .before .before .args .reserved .now) (c .before .before .before .before .before .before .before .before .before .before .before .before .before .before .before .before .before .before .before .args .currencies .now) (c .before .before .before .before .before .before .before .before .before .before .before .before .before .before .before .before .before .before .before .args .counters .now)) (c .before .before .before .before .before .before .before .before .before .before .before .before .before .before .before .before .before .before .before .args .depth)) (c .before .before .before .before .before .before .before .before .before .before .before .before .before .before .before .before .before .before .before .args .s .now) _ _ _ _ _ _ _ (c .before .before .before .before .before .before .before .before .before .before .before .before .before .loop .inv .1) _ _ _ _ (done-reads _ _ _ _ _ _ _ _ _ (c .before .before .before .before .before .before .before .r .given .1) (c .before .before .before .before .before .before .before .before .before .before .before .power .ensures)) (c .before .before .before .before .join .result) _ (c .before .before .before .before .join .ensures)) (sym (c .before .is-product .ensures) ∙ not-true _ (c .if1 .taken))
 
--- src/expressions.rt:184:13
+-- src/expressions.rt:181:9
 product-next-requires : (t : ℕ) → product-lts.Need-next-requires (
   power-below t,
   power.Post,
+  join-reads.Asked,
+  join-reads.Learnt,
   is-product-reads.Asked,
   is-product-reads.Learnt,
   next-reads.Asked,
   next-reads.Learnt,
-  plain-reads.Asked,
-  plain-reads.Learnt,
-  put-reads.Asked,
-  put-reads.Learnt,
 ) (product-at t) product.Post product-Inv-loop product-μ-loop
-product-next-requires t c κs = (product-chain t (c .before .before)) .holds
+product-next-requires t c κs = (pend-chain (product-level (wordsIn (c .before .before .before .before .before .before .before .before .before .before .before .before .before .before .before .before .before .before .before .args .reserved .now) (c .before .before .before .before .before .before .before .before .before .before .before .before .before .before .before .before .before .before .before .args .currencies .now) (c .before .before .before .before .before .before .before .before .before .before .before .before .before .before .before .before .before .before .before .args .counters .now)) (c .before .before .before .before .before .before .before .before .before .before .before .before .before .before .before .before .before .before .before .args .depth)) (c .before .before .before .before .before .before .before .before .before .before .before .before .before .before .before .before .before .before .before .args .s .now) _ _ _ _ _ _ _ (c .before .before .before .before .before .before .before .before .before .before .before .before .before .loop .inv .1) _ _ _ _ (done-reads _ _ _ _ _ _ _ _ _ (c .before .before .before .before .before .before .before .r .given .1) (c .before .before .before .before .before .before .before .before .before .before .before .power .ensures)) (c .before .before .before .before .join .result) _ (c .before .before .before .before .join .ensures)) .holds
 
--- src/expressions.rt:185:13
-product-power-requires-2 : (t : ℕ) → product-lts.Need-power-requires-2 (
-  power-below t,
-  power.Post,
-  is-product-reads.Asked,
-  is-product-reads.Learnt,
-  next-reads.Asked,
-  next-reads.Learnt,
-  plain-reads.Asked,
-  plain-reads.Learnt,
-  put-reads.Asked,
-  put-reads.Learnt,
-) (product-at t) product.Post product-Inv-loop product-μ-loop
-product-power-requires-2 t c κs = (omega (arith, c .before .before .before .before .before .before .before .before .before .before .before .before .before .before .before .before .before .pre .0), (sign-ready (product-level (wordsIn (c .before .before .before .before .before .before .before .before .before .before .before .before .before .before .before .before .before .args .reserved .now) (c .before .before .before .before .before .before .before .before .before .before .before .before .before .before .before .before .before .args .currencies .now) (c .before .before .before .before .before .before .before .before .before .before .before .before .before .before .before .before .before .args .counters .now)) (c .before .before .before .before .before .before .before .before .before .before .before .before .before .before .before .before .before .args .depth)) (c .before .before .before .before .before .before .before .before .before .before .before .before .before .before .before .before .before .args .s .now) _ _ _ _ _ _ _ (product-chain t (c .before .before .before .before)) (sym (c .before .before .before .is-product .ensures) ∙ not-false _ (c .before .before .if1 .left)) (c .before .next .result) (c .before .next .ensures), c .before .before .before .before .before .before .before .before .before .before .before .before .before .before .before .before .before .pre .1 .1))
-
--- src/expressions.rt:186:24
-product-enum-known-q : (t : ℕ) → product-lts.Need-enum-known-q (
-  power-below t,
-  power.Post,
-  is-product-reads.Asked,
-  is-product-reads.Learnt,
-  next-reads.Asked,
-  next-reads.Learnt,
-  plain-reads.Asked,
-  plain-reads.Learnt,
-  put-reads.Asked,
-  put-reads.Learnt,
-) (product-at t) product.Post product-Inv-loop product-μ-loop
-product-enum-known-q t c = search needs
-
--- src/expressions.rt:187:13
-product-enum-told-2 : (t : ℕ) → product-lts.Need-enum-told-2 (
-  power-below t,
-  power.Post,
-  is-product-reads.Asked,
-  is-product-reads.Learnt,
-  next-reads.Asked,
-  next-reads.Learnt,
-  plain-reads.Asked,
-  plain-reads.Learnt,
-  put-reads.Asked,
-  put-reads.Learnt,
-) (product-at t) product.Post product-Inv-loop product-μ-loop
-product-enum-told-2 t c = search needs
-
--- src/expressions.rt:187:13
-product-same-length-3 : (t : ℕ) → product-lts.Need-same-length-3 (
-  power-below t,
-  power.Post,
-  is-product-reads.Asked,
-  is-product-reads.Learnt,
-  next-reads.Asked,
-  next-reads.Learnt,
-  plain-reads.Asked,
-  plain-reads.Learnt,
-  put-reads.Asked,
-  put-reads.Learnt,
-) (product-at t) product.Post product-Inv-loop product-μ-loop
-product-same-length-3 t c = c .before .before .before .before .power2 .kept .1 .1 .1 .1 .1 .1 .0 ∙ (c .before .before .before .before .before .before .before .before .before .loop .inv .0 ∙ c .before .before .before .before .before .before .before .before .before .before .before .before .before .before .before .power .kept .1 .1 .1 .1 .1 .1 .0)
-
--- src/expressions.rt:187:13
-product-returns-3 : (t : ℕ) → product-lts.Need-returns-3 (
-  power-below t,
-  power.Post,
-  is-product-reads.Asked,
-  is-product-reads.Learnt,
-  next-reads.Asked,
-  next-reads.Learnt,
-  plain-reads.Asked,
-  plain-reads.Learnt,
-  put-reads.Asked,
-  put-reads.Learnt,
-) (product-at t) product.Post product-Inv-loop product-μ-loop
-product-returns-3 t c = refused-on _ _ _ _ _ _ _ _ _ _ _ _ (c .enum-told2 .given .1) (c .before .before .before .before .power2 .ensures) (sign-refused (product-level (wordsIn (c .before .before .before .before .before .before .before .before .before .before .before .before .before .before .before .before .before .before .before .before .before .before .args .reserved .now) (c .before .before .before .before .before .before .before .before .before .before .before .before .before .before .before .before .before .before .before .before .before .before .args .currencies .now) (c .before .before .before .before .before .before .before .before .before .before .before .before .before .before .before .before .before .before .before .before .before .before .args .counters .now)) (c .before .before .before .before .before .before .before .before .before .before .before .before .before .before .before .before .before .before .before .before .before .before .args .depth)) (c .before .before .before .before .before .before .before .before .before .before .before .before .before .before .before .before .before .before .before .before .before .before .args .s .now) _ _ _ _ _ _ _ (product-chain t (c .before .before .before .before .before .before .before .before .before)) (sym (c .before .before .before .before .before .before .before .before .is-product .ensures) ∙ not-false _ (c .before .before .before .before .before .before .before .if1 .left)) (c .before .before .before .before .before .before .next .result) (c .before .before .before .before .before .before .next .ensures) _ _)
-
--- src/expressions.rt:189:34
-product-sub-plain : (t : ℕ) → product-lts.Need-sub-plain (
-  power-below t,
-  power.Post,
-  is-product-reads.Asked,
-  is-product-reads.Learnt,
-  next-reads.Asked,
-  next-reads.Learnt,
-  plain-reads.Asked,
-  plain-reads.Learnt,
-  put-reads.Asked,
-  put-reads.Learnt,
-) (product-at t) product.Post product-Inv-loop product-μ-loop
-product-sub-plain t c = omega (arith, sign-numbers (product-level (wordsIn (c .before .before .before .before .before .before .before .before .before .before .before .before .before .before .before .before .before .before .before .before .before .before .before .before .args .reserved .now) (c .before .before .before .before .before .before .before .before .before .before .before .before .before .before .before .before .before .before .before .before .before .before .before .before .args .currencies .now) (c .before .before .before .before .before .before .before .before .before .before .before .before .before .before .before .before .before .before .before .before .before .before .before .before .args .counters .now)) (c .before .before .before .before .before .before .before .before .before .before .before .before .before .before .before .before .before .before .before .before .before .before .before .before .args .depth)) (c .before .before .before .before .before .before .before .before .before .before .before .before .before .before .before .before .before .before .before .before .before .before .before .before .args .s .now) _ _ _ _ _ _ _ (product-chain t (c .before .before .before .before .before .before .before .before .before .before .before)) (sym (c .before .before .before .before .before .before .before .before .before .before .is-product .ensures) ∙ not-false _ (c .before .before .before .before .before .before .before .before .before .if1 .left)) (c .before .before .before .before .before .before .before .before .next .result) (c .before .before .before .before .before .before .before .before .next .ensures) _ _ _ _ (done-reads _ _ _ _ _ _ _ _ _ (c .before .before .q .given .1) (c .before .before .before .before .before .before .power2 .ensures)))
-
--- src/expressions.rt:189:34
-product-add-plain : (t : ℕ) → product-lts.Need-add-plain (
-  power-below t,
-  power.Post,
-  is-product-reads.Asked,
-  is-product-reads.Learnt,
-  next-reads.Asked,
-  next-reads.Learnt,
-  plain-reads.Asked,
-  plain-reads.Learnt,
-  put-reads.Asked,
-  put-reads.Learnt,
-) (product-at t) product.Post product-Inv-loop product-μ-loop
-product-add-plain t c = omega (arith, sign-numbers (product-level (wordsIn (c .before .before .before .before .before .before .before .before .before .before .before .before .before .before .before .before .before .before .before .before .before .before .before .before .args .reserved .now) (c .before .before .before .before .before .before .before .before .before .before .before .before .before .before .before .before .before .before .before .before .before .before .before .before .args .currencies .now) (c .before .before .before .before .before .before .before .before .before .before .before .before .before .before .before .before .before .before .before .before .before .before .before .before .args .counters .now)) (c .before .before .before .before .before .before .before .before .before .before .before .before .before .before .before .before .before .before .before .before .before .before .before .before .args .depth)) (c .before .before .before .before .before .before .before .before .before .before .before .before .before .before .before .before .before .before .before .before .before .before .before .before .args .s .now) _ _ _ _ _ _ _ (product-chain t (c .before .before .before .before .before .before .before .before .before .before .before)) (sym (c .before .before .before .before .before .before .before .before .before .before .is-product .ensures) ∙ not-false _ (c .before .before .before .before .before .before .before .before .before .if1 .left)) (c .before .before .before .before .before .before .before .before .next .result) (c .before .before .before .before .before .before .before .before .next .ensures) _ _ _ _ (done-reads _ _ _ _ _ _ _ _ _ (c .before .before .q .given .1) (c .before .before .before .before .before .before .power2 .ensures)))
-
--- src/expressions.rt:189:22
-product-plain-requires : (t : ℕ) → product-lts.Need-plain-requires (
-  power-below t,
-  power.Post,
-  is-product-reads.Asked,
-  is-product-reads.Learnt,
-  next-reads.Asked,
-  next-reads.Learnt,
-  plain-reads.Asked,
-  plain-reads.Learnt,
-  put-reads.Asked,
-  put-reads.Learnt,
-) (product-at t) product.Post product-Inv-loop product-μ-loop
-product-plain-requires t c κs = search needs
-
--- src/expressions.rt:189:9
-product-put-requires : (t : ℕ) → product-lts.Need-put-requires (
-  power-below t,
-  power.Post,
-  is-product-reads.Asked,
-  is-product-reads.Learnt,
-  next-reads.Asked,
-  next-reads.Learnt,
-  plain-reads.Asked,
-  plain-reads.Learnt,
-  put-reads.Asked,
-  put-reads.Learnt,
-) (product-at t) product.Post product-Inv-loop product-μ-loop
-product-put-requires t c κs = search needs
-
--- src/expressions.rt:191:13
-product-add-m : (t : ℕ) → product-lts.Need-add-m (
-  power-below t,
-  power.Post,
-  is-product-reads.Asked,
-  is-product-reads.Learnt,
-  next-reads.Asked,
-  next-reads.Learnt,
-  plain-reads.Asked,
-  plain-reads.Learnt,
-  put-reads.Asked,
-  put-reads.Learnt,
-) (product-at t) product.Post product-Inv-loop product-μ-loop
-product-add-m t c = omega (arith, sign-numbers (product-level (wordsIn (c .before .before .before .before .before .before .before .before .before .before .before .before .before .before .before .before .before .before .before .before .before .before .before .before .before .before .before .before .args .reserved .now) (c .before .before .before .before .before .before .before .before .before .before .before .before .before .before .before .before .before .before .before .before .before .before .before .before .before .before .before .before .args .currencies .now) (c .before .before .before .before .before .before .before .before .before .before .before .before .before .before .before .before .before .before .before .before .before .before .before .before .before .before .before .before .args .counters .now)) (c .before .before .before .before .before .before .before .before .before .before .before .before .before .before .before .before .before .before .before .before .before .before .before .before .before .before .before .before .args .depth)) (c .before .before .before .before .before .before .before .before .before .before .before .before .before .before .before .before .before .before .before .before .before .before .before .before .before .before .before .before .args .s .now) _ _ _ _ _ _ _ (product-chain t (c .before .before .before .before .before .before .before .before .before .before .before .before .before .before .before)) (sym (c .before .before .before .before .before .before .before .before .before .before .before .before .before .before .is-product .ensures) ∙ not-false _ (c .before .before .before .before .before .before .before .before .before .before .before .before .before .if1 .left)) (c .before .before .before .before .before .before .before .before .before .before .before .before .next .result) (c .before .before .before .before .before .before .before .before .before .before .before .before .next .ensures) _ _ _ _ (done-reads _ _ _ _ _ _ _ _ _ (c .before .before .before .before .before .before .q .given .1) (c .before .before .before .before .before .before .before .before .before .before .power2 .ensures)))
-
--- src/expressions.rt:179:5
+-- src/expressions.rt:171:5
 product-loop-less : (t : ℕ) → product-lts.Need-loop-less (
   power-below t,
   power.Post,
+  join-reads.Asked,
+  join-reads.Learnt,
   is-product-reads.Asked,
   is-product-reads.Learnt,
   next-reads.Asked,
   next-reads.Learnt,
-  plain-reads.Asked,
-  plain-reads.Learnt,
-  put-reads.Asked,
-  put-reads.Learnt,
 ) (product-at t) product.Post product-Inv-loop product-μ-loop
-product-loop-less t c = sign-less (product-level (wordsIn (c .before .before .before .before .before .before .before .before .before .before .before .before .before .before .before .before .before .before .before .before .before .before .before .before .before .before .before .before .args .reserved .now) (c .before .before .before .before .before .before .before .before .before .before .before .before .before .before .before .before .before .before .before .before .before .before .before .before .before .before .before .before .args .currencies .now) (c .before .before .before .before .before .before .before .before .before .before .before .before .before .before .before .before .before .before .before .before .before .before .before .before .before .before .before .before .args .counters .now)) (c .before .before .before .before .before .before .before .before .before .before .before .before .before .before .before .before .before .before .before .before .before .before .before .before .before .before .before .before .args .depth)) (c .before .before .before .before .before .before .before .before .before .before .before .before .before .before .before .before .before .before .before .before .before .before .before .before .before .before .before .before .args .s .now) _ _ _ _ _ _ _ (product-chain t (c .before .before .before .before .before .before .before .before .before .before .before .before .before .before .before)) (sym (c .before .before .before .before .before .before .before .before .before .before .before .before .before .before .is-product .ensures) ∙ not-false _ (c .before .before .before .before .before .before .before .before .before .before .before .before .before .if1 .left)) (c .before .before .before .before .before .before .before .before .before .before .before .before .next .result) (c .before .before .before .before .before .before .before .before .before .before .before .before .next .ensures) _ _ _ _ (done-reads _ _ _ _ _ _ _ _ _ (c .before .before .before .before .before .before .q .given .1) (c .before .before .before .before .before .before .before .before .before .before .power2 .ensures))
+product-loop-less t c = pend-less (product-level (wordsIn (c .before .before .before .before .before .before .before .before .before .before .before .before .before .before .before .before .before .before .before .before .args .reserved .now) (c .before .before .before .before .before .before .before .before .before .before .before .before .before .before .before .before .before .before .before .before .args .currencies .now) (c .before .before .before .before .before .before .before .before .before .before .before .before .before .before .before .before .before .before .before .before .args .counters .now)) (c .before .before .before .before .before .before .before .before .before .before .before .before .before .before .before .before .before .before .before .before .args .depth)) (c .before .before .before .before .before .before .before .before .before .before .before .before .before .before .before .before .before .before .before .before .args .s .now) _ _ _ _ _ _ _ (c .before .before .before .before .before .before .before .before .before .before .before .before .before .before .loop .inv .1) _ _ _ _ (done-reads _ _ _ _ _ _ _ _ _ (c .before .before .before .before .before .before .before .before .r .given .1) (c .before .before .before .before .before .before .before .before .before .before .before .before .power .ensures)) (sym (c .before .before .is-product .ensures) ∙ not-false _ (c .before .if1 .left)) (c .next .result) (c .next .ensures)
 
--- src/expressions.rt:179:5
+-- src/expressions.rt:171:5
 product-loop-again : (t : ℕ) → product-lts.Need-loop-again (
   power-below t,
   power.Post,
+  join-reads.Asked,
+  join-reads.Learnt,
   is-product-reads.Asked,
   is-product-reads.Learnt,
   next-reads.Asked,
   next-reads.Learnt,
-  plain-reads.Asked,
-  plain-reads.Learnt,
-  put-reads.Asked,
-  put-reads.Learnt,
 ) (product-at t) product.Post product-Inv-loop product-μ-loop
-product-loop-again t c = (c .before .before .put .kept .0 ∙ (c .before .before .before .before .before .before .before .before .before .before .power2 .kept .1 .1 .1 .1 .1 .1 .0 ∙ c .before .before .before .before .before .before .before .before .before .before .before .before .before .before .before .loop .inv .0), λ R o h. sign-more (product-level (wordsIn (c .before .before .before .before .before .before .before .before .before .before .before .before .before .before .before .before .before .before .before .before .before .before .before .before .before .before .before .before .args .reserved .now) (c .before .before .before .before .before .before .before .before .before .before .before .before .before .before .before .before .before .before .before .before .before .before .before .before .before .before .before .before .args .currencies .now) (c .before .before .before .before .before .before .before .before .before .before .before .before .before .before .before .before .before .before .before .before .before .before .before .before .before .before .before .before .args .counters .now)) (c .before .before .before .before .before .before .before .before .before .before .before .before .before .before .before .before .before .before .before .before .before .before .before .before .before .before .before .before .args .depth)) (c .before .before .before .before .before .before .before .before .before .before .before .before .before .before .before .before .before .before .before .before .before .before .before .before .before .before .before .before .args .s .now) _ _ _ _ _ _ _ (c .before .before .before .before .before .before .before .before .before .before .before .before .before .before .before .loop .inv .1 R o h) (sym (c .before .before .before .before .before .before .before .before .before .before .before .before .before .before .is-product .ensures) ∙ not-false _ (c .before .before .before .before .before .before .before .before .before .before .before .before .before .if1 .left)) (c .before .before .before .before .before .before .before .before .before .before .before .before .next .result) (c .before .before .before .before .before .before .before .before .before .before .before .before .next .ensures) _ _ _ _ (done-reads _ _ _ _ _ _ _ _ _ (c .before .before .before .before .before .before .q .given .1) (c .before .before .before .before .before .before .before .before .before .before .power2 .ensures)) _ (put-plain _ _ _ _ _ _ _ (c .before .before .before .plain .ensures) (c .before .before .put .ensures)))
+product-loop-again t c = (c .before .before .before .before .before .join .kept .0 ∙ (c .before .before .before .before .before .before .before .before .before .before .before .before .power .kept .1 .1 .1 .1 .1 .1 .0 ∙ c .before .before .before .before .before .before .before .before .before .before .before .before .before .before .loop .inv .0), pend-next (product-level (wordsIn (c .before .before .before .before .before .before .before .before .before .before .before .before .before .before .before .before .before .before .before .before .args .reserved .now) (c .before .before .before .before .before .before .before .before .before .before .before .before .before .before .before .before .before .before .before .before .args .currencies .now) (c .before .before .before .before .before .before .before .before .before .before .before .before .before .before .before .before .before .before .before .before .args .counters .now)) (c .before .before .before .before .before .before .before .before .before .before .before .before .before .before .before .before .before .before .before .before .args .depth)) (c .before .before .before .before .before .before .before .before .before .before .before .before .before .before .before .before .before .before .before .before .args .s .now) _ _ _ _ _ _ _ (pend-chain (product-level (wordsIn (c .before .before .before .before .before .before .before .before .before .before .before .before .before .before .before .before .before .before .before .before .args .reserved .now) (c .before .before .before .before .before .before .before .before .before .before .before .before .before .before .before .before .before .before .before .before .args .currencies .now) (c .before .before .before .before .before .before .before .before .before .before .before .before .before .before .before .before .before .before .before .before .args .counters .now)) (c .before .before .before .before .before .before .before .before .before .before .before .before .before .before .before .before .before .before .before .before .args .depth)) (c .before .before .before .before .before .before .before .before .before .before .before .before .before .before .before .before .before .before .before .before .args .s .now) _ _ _ _ _ _ _ (c .before .before .before .before .before .before .before .before .before .before .before .before .before .before .loop .inv .1) _ _ _ _ (done-reads _ _ _ _ _ _ _ _ _ (c .before .before .before .before .before .before .before .before .r .given .1) (c .before .before .before .before .before .before .before .before .before .before .before .before .power .ensures)) (c .before .before .before .before .before .join .result) _ (c .before .before .before .before .before .join .ensures)) (sym (c .before .before .is-product .ensures) ∙ not-false _ (c .before .if1 .left)) (c .next .result) (c .next .ensures))
 
 abbrev sum-Inv-loop : sum-lts.InvT-loop
-sum-Inv-loop s reserved currencies counters depth out₀ n n1 p1 at₀ m₀ p₀ out at m p = (length out ≡ length out₀) × ((R : Out Tree) (o : List ℕ) → Chain (λ u. isSign "+" u || isSign "-" u) (G.product (G.primary (wordsIn reserved currencies counters) depth)) s R n o at₀ m₀ p₀ out₀ → Chain (λ u. isSign "+" u || isSign "-" u) (G.product (G.primary (wordsIn reserved currencies counters) depth)) s R n o at m p out)
+sum-Inv-loop s reserved currencies counters depth out₀ n at₀ m₀ sign₀ out at m sign = (length out ≡ length out₀) × Pending (λ u. isSign "+" u || isSign "-" u) sumSign (G.product (G.primary (wordsIn reserved currencies counters) depth)) s (G.sum (G.primary (wordsIn reserved currencies counters) depth) (toksAt s (at₀ .start))) n out₀ sign at m out
 
 abbrev sum-μ-loop : sum-lts.MeasureT-loop
-sum-μ-loop s reserved currencies counters depth out₀ n n1 p1 at₀ m₀ p₀ out at m p = length (toksAt s (at .start))
+sum-μ-loop s reserved currencies counters depth out₀ n at₀ m₀ sign₀ out at m sign = length (toksAt s (at .start))
 
--- src/expressions.rt:134:9
-sum-product-requires : (t : ℕ) → sum-lts.Need-product-requires (
-  product-below t,
-  product.Post,
-  is-sum-reads.Asked,
-  is-sum-reads.Learnt,
-  next-reads.Asked,
-  next-reads.Learnt,
-  plain-reads.Asked,
-  plain-reads.Learnt,
-  put-reads.Asked,
-  put-reads.Learnt,
-) (sum-at t) sum.Post sum-Inv-loop sum-μ-loop
-sum-product-requires t c κs = search needs
-
--- src/expressions.rt:135:20
-sum-enum-known-r : (t : ℕ) → sum-lts.Need-enum-known-r (
-  product-below t,
-  product.Post,
-  is-sum-reads.Asked,
-  is-sum-reads.Learnt,
-  next-reads.Asked,
-  next-reads.Learnt,
-  plain-reads.Asked,
-  plain-reads.Learnt,
-  put-reads.Asked,
-  put-reads.Learnt,
-) (sum-at t) sum.Post sum-Inv-loop sum-μ-loop
-sum-enum-known-r t c = search needs
-
--- src/expressions.rt:136:9
-sum-enum-told : (t : ℕ) → sum-lts.Need-enum-told (
-  product-below t,
-  product.Post,
-  is-sum-reads.Asked,
-  is-sum-reads.Learnt,
-  next-reads.Asked,
-  next-reads.Learnt,
-  plain-reads.Asked,
-  plain-reads.Learnt,
-  put-reads.Asked,
-  put-reads.Learnt,
-) (sum-at t) sum.Post sum-Inv-loop sum-μ-loop
-sum-enum-told t c = search needs
-
--- src/expressions.rt:136:9
-sum-same-length : (t : ℕ) → sum-lts.Need-same-length (
-  product-below t,
-  product.Post,
-  is-sum-reads.Asked,
-  is-sum-reads.Learnt,
-  next-reads.Asked,
-  next-reads.Learnt,
-  plain-reads.Asked,
-  plain-reads.Learnt,
-  put-reads.Asked,
-  put-reads.Learnt,
-) (sum-at t) sum.Post sum-Inv-loop sum-μ-loop
-sum-same-length t c = search needs
-
--- src/expressions.rt:136:9
-sum-returns : (t : ℕ) → sum-lts.Need-returns (
-  product-below t,
-  product.Post,
-  is-sum-reads.Asked,
-  is-sum-reads.Learnt,
-  next-reads.Asked,
-  next-reads.Learnt,
-  plain-reads.Asked,
-  plain-reads.Learnt,
-  put-reads.Asked,
-  put-reads.Learnt,
-) (sum-at t) sum.Post sum-Inv-loop sum-μ-loop
-unfolding G.sum
-sum-returns t c = refused-on _ _ _ _ _ _ _ _ _ _ _ _ (c .enum-told .given .1) (c .before .before .before .before .product .ensures) (chain-refused (sum-level (wordsIn (c .before .before .before .before .before .before .before .before .before .before .before .args .reserved .now) (c .before .before .before .before .before .before .before .before .before .before .before .args .currencies .now) (c .before .before .before .before .before .before .before .before .before .before .before .args .counters .now)) (c .before .before .before .before .before .before .before .before .before .before .before .args .depth)) (c .before .before .before .before .before .before .before .before .before .before .before .args .s .now) (c .before .before .before .before .before .before .before .before .before .before .before .args .c) _ _)
-
--- src/expressions.rt:141:5
+-- src/expressions.rt:138:5
 sum-loop-holds : (t : ℕ) → sum-lts.Need-loop-holds (
   product-below t,
   product.Post,
+  join-reads.Asked,
+  join-reads.Learnt,
   is-sum-reads.Asked,
   is-sum-reads.Learnt,
   next-reads.Asked,
   next-reads.Learnt,
-  plain-reads.Asked,
-  plain-reads.Learnt,
-  put-reads.Asked,
-  put-reads.Learnt,
 ) (sum-at t) sum.Post sum-Inv-loop sum-μ-loop
-sum-loop-holds t c = (refl, λ R o h. h)
+unfolding G.sum
+sum-loop-holds t c = (refl, pend-first (sum-level (wordsIn (c .before .before .before .before .before .args .reserved .now) (c .before .before .before .before .before .args .currencies .now) (c .before .before .before .before .before .args .counters .now)) (c .before .before .before .before .before .args .depth)) (c .before .before .before .before .before .args .s .now) (c .before .before .before .before .before .args .c) (c .before .before .before .before .before .args .n) (c .before .before .before .before .before .args .out .now) (c .before .before .before .before .before .pre .1 .0))
 
-sum-chain : (t : ℕ) (c : sum-lts.At-loop (
+-- src/expressions.rt:139:13
+sum-product-requires : (t : ℕ) → sum-lts.Need-product-requires (
   product-below t,
   product.Post,
+  join-reads.Asked,
+  join-reads.Learnt,
   is-sum-reads.Asked,
   is-sum-reads.Learnt,
   next-reads.Asked,
   next-reads.Learnt,
-  plain-reads.Asked,
-  plain-reads.Learnt,
-  put-reads.Asked,
-  put-reads.Learnt,
-) (sum-at t) sum.Post sum-Inv-loop sum-μ-loop) → Chain (λ u. isSign "+" u || isSign "-" u) (G.product (G.primary (wordsIn (c .before .before .before .before .before .before .before .before .before .before .before .before .before .args .reserved .now) (c .before .before .before .before .before .before .before .before .before .before .before .before .before .args .currencies .now) (c .before .before .before .before .before .before .before .before .before .before .before .before .before .args .counters .now)) (c .before .before .before .before .before .before .before .before .before .before .before .before .before .args .depth))) (c .before .before .before .before .before .before .before .before .before .before .before .before .before .args .s .now) (G.sum (G.primary (wordsIn (c .before .before .before .before .before .before .before .before .before .before .before .before .before .args .reserved .now) (c .before .before .before .before .before .before .before .before .before .before .before .before .before .args .currencies .now) (c .before .before .before .before .before .before .before .before .before .before .before .before .before .args .counters .now)) (c .before .before .before .before .before .before .before .before .before .before .before .before .before .args .depth)) (toksAt (c .before .before .before .before .before .before .before .before .before .before .before .before .before .args .s .now) (c .before .before .before .before .before .before .before .before .before .before .before .before .before .args .c .start))) (c .before .before .before .before .before .before .before .before .before .before .before .before .before .args .n) (c .before .before .before .before .before .before .before .before .before .before .before .before .before .args .out .now) (c .loop .at) (c .loop .m) (c .loop .p) (c .loop .out)
-unfolding G.sum
-sum-chain t c =
-    c .loop .inv .1 _ _ (chain-enter (sum-level (wordsIn (c .before .before .before .before .before .before .before .before .before .before .before .before .before .args .reserved .now) (c .before .before .before .before .before .before .before .before .before .before .before .before .before .args .currencies .now) (c .before .before .before .before .before .before .before .before .before .before .before .before .before .args .counters .now)) (c .before .before .before .before .before .before .before .before .before .before .before .before .before .args .depth)) (c .before .before .before .before .before .before .before .before .before .before .before .before .before .args .s .now) (c .before .before .before .before .before .before .before .before .before .before .before .before .before .args .c) _ _ _ _ _ _ (c .before .before .before .before .before .before .before .before .before .before .before .before .before .pre .1 .0 .1) (done-reads _ _ _ _ _ _ _ _ _ (c .before .before .r .given .1) (c .before .before .before .before .before .before .product .ensures)))
+) (sum-at t) sum.Post sum-Inv-loop sum-μ-loop
+sum-product-requires t c κs = (omega (arith, c .before .before .before .before .before .before .before .pre .0), (pend-ready (sum-level (wordsIn (c .before .before .before .before .before .before .before .args .reserved .now) (c .before .before .before .before .before .before .before .args .currencies .now) (c .before .before .before .before .before .before .before .args .counters .now)) (c .before .before .before .before .before .before .before .args .depth)) (c .before .before .before .before .before .before .before .args .s .now) _ _ _ _ _ _ _ (c .before .loop .inv .1), c .before .before .before .before .before .before .before .pre .1 .1))
+
+-- src/expressions.rt:140:24
+sum-enum-known-r : (t : ℕ) → sum-lts.Need-enum-known-r (
+  product-below t,
+  product.Post,
+  join-reads.Asked,
+  join-reads.Learnt,
+  is-sum-reads.Asked,
+  is-sum-reads.Learnt,
+  next-reads.Asked,
+  next-reads.Learnt,
+) (sum-at t) sum.Post sum-Inv-loop sum-μ-loop
+sum-enum-known-r t c = search needs
+
+-- src/expressions.rt:141:13
+sum-enum-told : (t : ℕ) → sum-lts.Need-enum-told (
+  product-below t,
+  product.Post,
+  join-reads.Asked,
+  join-reads.Learnt,
+  is-sum-reads.Asked,
+  is-sum-reads.Learnt,
+  next-reads.Asked,
+  next-reads.Learnt,
+) (sum-at t) sum.Post sum-Inv-loop sum-μ-loop
+sum-enum-told t c = search needs
+
+-- src/expressions.rt:141:13
+sum-same-length : (t : ℕ) → sum-lts.Need-same-length (
+  product-below t,
+  product.Post,
+  join-reads.Asked,
+  join-reads.Learnt,
+  is-sum-reads.Asked,
+  is-sum-reads.Learnt,
+  next-reads.Asked,
+  next-reads.Learnt,
+) (sum-at t) sum.Post sum-Inv-loop sum-μ-loop
+sum-same-length t c = c .before .before .before .before .product .kept .1 .1 .1 .1 .1 .1 .0 ∙ c .before .before .before .before .before .before .loop .inv .0
+
+-- src/expressions.rt:141:13
+sum-returns : (t : ℕ) → sum-lts.Need-returns (
+  product-below t,
+  product.Post,
+  join-reads.Asked,
+  join-reads.Learnt,
+  is-sum-reads.Asked,
+  is-sum-reads.Learnt,
+  next-reads.Asked,
+  next-reads.Learnt,
+) (sum-at t) sum.Post sum-Inv-loop sum-μ-loop
+sum-returns t c = refused-on _ _ _ _ _ _ _ _ _ _ _ _ (c .enum-told .given .1) (c .before .before .before .before .product .ensures) (pend-refused (sum-level (wordsIn (c .before .before .before .before .before .before .before .before .before .before .before .before .args .reserved .now) (c .before .before .before .before .before .before .before .before .before .before .before .before .args .currencies .now) (c .before .before .before .before .before .before .before .before .before .before .before .before .args .counters .now)) (c .before .before .before .before .before .before .before .before .before .before .before .before .args .depth)) (c .before .before .before .before .before .before .before .before .before .before .before .before .args .s .now) _ _ _ _ _ _ _ (c .before .before .before .before .before .before .loop .inv .1) _ _)
 
 -- src/expressions.rt:143:13
+sum-join-requires : (t : ℕ) → sum-lts.Need-join-requires (
+  product-below t,
+  product.Post,
+  join-reads.Asked,
+  join-reads.Learnt,
+  is-sum-reads.Asked,
+  is-sum-reads.Learnt,
+  next-reads.Asked,
+  next-reads.Learnt,
+) (sum-at t) sum.Post sum-Inv-loop sum-μ-loop
+sum-join-requires t c κs = pend-numbers (sum-level (wordsIn (c .before .before .before .before .before .before .before .before .before .before .before .before .before .before .args .reserved .now) (c .before .before .before .before .before .before .before .before .before .before .before .before .before .before .args .currencies .now) (c .before .before .before .before .before .before .before .before .before .before .before .before .before .before .args .counters .now)) (c .before .before .before .before .before .before .before .before .before .before .before .before .before .before .args .depth)) (c .before .before .before .before .before .before .before .before .before .before .before .before .before .before .args .s .now) _ _ _ _ _ _ _ (c .before .before .before .before .before .before .before .before .loop .inv .1) _ _ _ _ (done-reads _ _ _ _ _ _ _ _ _ (c .before .before .r .given .1) (c .before .before .before .before .before .before .product .ensures))
+
+-- src/expressions.rt:145:13
 sum-is-sum-requires : (t : ℕ) → sum-lts.Need-is-sum-requires (
   product-below t,
   product.Post,
+  join-reads.Asked,
+  join-reads.Learnt,
   is-sum-reads.Asked,
   is-sum-reads.Learnt,
   next-reads.Asked,
   next-reads.Learnt,
-  plain-reads.Asked,
-  plain-reads.Learnt,
-  put-reads.Asked,
-  put-reads.Learnt,
 ) (sum-at t) sum.Post sum-Inv-loop sum-μ-loop
 sum-is-sum-requires t c κs = search needs
 
--- src/expressions.rt:144:13
+-- src/expressions.rt:146:13
 sum-same-length-2 : (t : ℕ) → sum-lts.Need-same-length-2 (
   product-below t,
   product.Post,
+  join-reads.Asked,
+  join-reads.Learnt,
   is-sum-reads.Asked,
   is-sum-reads.Learnt,
   next-reads.Asked,
   next-reads.Learnt,
-  plain-reads.Asked,
-  plain-reads.Learnt,
-  put-reads.Asked,
-  put-reads.Learnt,
 ) (sum-at t) sum.Post sum-Inv-loop sum-μ-loop
-sum-same-length-2 t c = c .before .before .loop .inv .0 ∙ c .before .before .before .before .before .before .before .before .product .kept .1 .1 .1 .1 .1 .1 .0
+sum-same-length-2 t c = c .before .before .before .before .join .kept .0 ∙ (c .before .before .before .before .before .before .before .before .before .before .before .product .kept .1 .1 .1 .1 .1 .1 .0 ∙ c .before .before .before .before .before .before .before .before .before .before .before .before .before .loop .inv .0)
 
--- src/expressions.rt:144:13
+-- src/expressions.rt:146:13
 sum-returns-2 : (t : ℕ) → sum-lts.Need-returns-2 (
   product-below t,
   product.Post,
+  join-reads.Asked,
+  join-reads.Learnt,
   is-sum-reads.Asked,
   is-sum-reads.Learnt,
   next-reads.Asked,
   next-reads.Learnt,
-  plain-reads.Asked,
-  plain-reads.Learnt,
-  put-reads.Asked,
-  put-reads.Learnt,
 ) (sum-at t) sum.Post sum-Inv-loop sum-μ-loop
-sum-returns-2 t c = chain-exit (sum-level (wordsIn (c .before .before .before .before .before .before .before .before .before .before .before .before .before .before .before .args .reserved .now) (c .before .before .before .before .before .before .before .before .before .before .before .before .before .before .before .args .currencies .now) (c .before .before .before .before .before .before .before .before .before .before .before .before .before .before .before .args .counters .now)) (c .before .before .before .before .before .before .before .before .before .before .before .before .before .before .before .args .depth)) (c .before .before .before .before .before .before .before .before .before .before .before .before .before .before .before .args .s .now) _ _ _ _ _ _ _ (sum-chain t (c .before .before)) (sym (c .before .is-sum .ensures) ∙ not-true _ (c .if1 .taken))
+sum-returns-2 t c = chain-exit (sum-level (wordsIn (c .before .before .before .before .before .before .before .before .before .before .before .before .before .before .before .before .before .before .before .args .reserved .now) (c .before .before .before .before .before .before .before .before .before .before .before .before .before .before .before .before .before .before .before .args .currencies .now) (c .before .before .before .before .before .before .before .before .before .before .before .before .before .before .before .before .before .before .before .args .counters .now)) (c .before .before .before .before .before .before .before .before .before .before .before .before .before .before .before .before .before .before .before .args .depth)) (c .before .before .before .before .before .before .before .before .before .before .before .before .before .before .before .before .before .before .before .args .s .now) _ _ _ _ _ _ _ (pend-chain (sum-level (wordsIn (c .before .before .before .before .before .before .before .before .before .before .before .before .before .before .before .before .before .before .before .args .reserved .now) (c .before .before .before .before .before .before .before .before .before .before .before .before .before .before .before .before .before .before .before .args .currencies .now) (c .before .before .before .before .before .before .before .before .before .before .before .before .before .before .before .before .before .before .before .args .counters .now)) (c .before .before .before .before .before .before .before .before .before .before .before .before .before .before .before .before .before .before .before .args .depth)) (c .before .before .before .before .before .before .before .before .before .before .before .before .before .before .before .before .before .before .before .args .s .now) _ _ _ _ _ _ _ (c .before .before .before .before .before .before .before .before .before .before .before .before .before .loop .inv .1) _ _ _ _ (done-reads _ _ _ _ _ _ _ _ _ (c .before .before .before .before .before .before .before .r .given .1) (c .before .before .before .before .before .before .before .before .before .before .before .product .ensures)) (c .before .before .before .before .join .result) _ (c .before .before .before .before .join .ensures)) (sym (c .before .is-sum .ensures) ∙ not-true _ (c .if1 .taken))
 
--- src/expressions.rt:146:13
+-- src/expressions.rt:148:9
 sum-next-requires : (t : ℕ) → sum-lts.Need-next-requires (
   product-below t,
   product.Post,
+  join-reads.Asked,
+  join-reads.Learnt,
   is-sum-reads.Asked,
   is-sum-reads.Learnt,
   next-reads.Asked,
   next-reads.Learnt,
-  plain-reads.Asked,
-  plain-reads.Learnt,
-  put-reads.Asked,
-  put-reads.Learnt,
 ) (sum-at t) sum.Post sum-Inv-loop sum-μ-loop
-sum-next-requires t c κs = (sum-chain t (c .before .before)) .holds
+sum-next-requires t c κs = (pend-chain (sum-level (wordsIn (c .before .before .before .before .before .before .before .before .before .before .before .before .before .before .before .before .before .before .before .args .reserved .now) (c .before .before .before .before .before .before .before .before .before .before .before .before .before .before .before .before .before .before .before .args .currencies .now) (c .before .before .before .before .before .before .before .before .before .before .before .before .before .before .before .before .before .before .before .args .counters .now)) (c .before .before .before .before .before .before .before .before .before .before .before .before .before .before .before .before .before .before .before .args .depth)) (c .before .before .before .before .before .before .before .before .before .before .before .before .before .before .before .before .before .before .before .args .s .now) _ _ _ _ _ _ _ (c .before .before .before .before .before .before .before .before .before .before .before .before .before .loop .inv .1) _ _ _ _ (done-reads _ _ _ _ _ _ _ _ _ (c .before .before .before .before .before .before .before .r .given .1) (c .before .before .before .before .before .before .before .before .before .before .before .product .ensures)) (c .before .before .before .before .join .result) _ (c .before .before .before .before .join .ensures)) .holds
 
--- src/expressions.rt:147:13
-sum-product-requires-2 : (t : ℕ) → sum-lts.Need-product-requires-2 (
-  product-below t,
-  product.Post,
-  is-sum-reads.Asked,
-  is-sum-reads.Learnt,
-  next-reads.Asked,
-  next-reads.Learnt,
-  plain-reads.Asked,
-  plain-reads.Learnt,
-  put-reads.Asked,
-  put-reads.Learnt,
-) (sum-at t) sum.Post sum-Inv-loop sum-μ-loop
-sum-product-requires-2 t c κs = (omega (arith, c .before .before .before .before .before .before .before .before .before .before .before .before .before .before .before .before .before .pre .0), (sign-ready (sum-level (wordsIn (c .before .before .before .before .before .before .before .before .before .before .before .before .before .before .before .before .before .args .reserved .now) (c .before .before .before .before .before .before .before .before .before .before .before .before .before .before .before .before .before .args .currencies .now) (c .before .before .before .before .before .before .before .before .before .before .before .before .before .before .before .before .before .args .counters .now)) (c .before .before .before .before .before .before .before .before .before .before .before .before .before .before .before .before .before .args .depth)) (c .before .before .before .before .before .before .before .before .before .before .before .before .before .before .before .before .before .args .s .now) _ _ _ _ _ _ _ (sum-chain t (c .before .before .before .before)) (sym (c .before .before .before .is-sum .ensures) ∙ not-false _ (c .before .before .if1 .left)) (c .before .next .result) (c .before .next .ensures), c .before .before .before .before .before .before .before .before .before .before .before .before .before .before .before .before .before .pre .1 .1))
-
--- src/expressions.rt:148:24
-sum-enum-known-q : (t : ℕ) → sum-lts.Need-enum-known-q (
-  product-below t,
-  product.Post,
-  is-sum-reads.Asked,
-  is-sum-reads.Learnt,
-  next-reads.Asked,
-  next-reads.Learnt,
-  plain-reads.Asked,
-  plain-reads.Learnt,
-  put-reads.Asked,
-  put-reads.Learnt,
-) (sum-at t) sum.Post sum-Inv-loop sum-μ-loop
-sum-enum-known-q t c = search needs
-
--- src/expressions.rt:149:13
-sum-enum-told-2 : (t : ℕ) → sum-lts.Need-enum-told-2 (
-  product-below t,
-  product.Post,
-  is-sum-reads.Asked,
-  is-sum-reads.Learnt,
-  next-reads.Asked,
-  next-reads.Learnt,
-  plain-reads.Asked,
-  plain-reads.Learnt,
-  put-reads.Asked,
-  put-reads.Learnt,
-) (sum-at t) sum.Post sum-Inv-loop sum-μ-loop
-sum-enum-told-2 t c = search needs
-
--- src/expressions.rt:149:13
-sum-same-length-3 : (t : ℕ) → sum-lts.Need-same-length-3 (
-  product-below t,
-  product.Post,
-  is-sum-reads.Asked,
-  is-sum-reads.Learnt,
-  next-reads.Asked,
-  next-reads.Learnt,
-  plain-reads.Asked,
-  plain-reads.Learnt,
-  put-reads.Asked,
-  put-reads.Learnt,
-) (sum-at t) sum.Post sum-Inv-loop sum-μ-loop
-sum-same-length-3 t c = c .before .before .before .before .product2 .kept .1 .1 .1 .1 .1 .1 .0 ∙ (c .before .before .before .before .before .before .before .before .before .loop .inv .0 ∙ c .before .before .before .before .before .before .before .before .before .before .before .before .before .before .before .product .kept .1 .1 .1 .1 .1 .1 .0)
-
--- src/expressions.rt:149:13
-sum-returns-3 : (t : ℕ) → sum-lts.Need-returns-3 (
-  product-below t,
-  product.Post,
-  is-sum-reads.Asked,
-  is-sum-reads.Learnt,
-  next-reads.Asked,
-  next-reads.Learnt,
-  plain-reads.Asked,
-  plain-reads.Learnt,
-  put-reads.Asked,
-  put-reads.Learnt,
-) (sum-at t) sum.Post sum-Inv-loop sum-μ-loop
-sum-returns-3 t c = refused-on _ _ _ _ _ _ _ _ _ _ _ _ (c .enum-told2 .given .1) (c .before .before .before .before .product2 .ensures) (sign-refused (sum-level (wordsIn (c .before .before .before .before .before .before .before .before .before .before .before .before .before .before .before .before .before .before .before .before .before .before .args .reserved .now) (c .before .before .before .before .before .before .before .before .before .before .before .before .before .before .before .before .before .before .before .before .before .before .args .currencies .now) (c .before .before .before .before .before .before .before .before .before .before .before .before .before .before .before .before .before .before .before .before .before .before .args .counters .now)) (c .before .before .before .before .before .before .before .before .before .before .before .before .before .before .before .before .before .before .before .before .before .before .args .depth)) (c .before .before .before .before .before .before .before .before .before .before .before .before .before .before .before .before .before .before .before .before .before .before .args .s .now) _ _ _ _ _ _ _ (sum-chain t (c .before .before .before .before .before .before .before .before .before)) (sym (c .before .before .before .before .before .before .before .before .is-sum .ensures) ∙ not-false _ (c .before .before .before .before .before .before .before .if1 .left)) (c .before .before .before .before .before .before .next .result) (c .before .before .before .before .before .before .next .ensures) _ _)
-
--- src/expressions.rt:151:34
-sum-sub-plain : (t : ℕ) → sum-lts.Need-sub-plain (
-  product-below t,
-  product.Post,
-  is-sum-reads.Asked,
-  is-sum-reads.Learnt,
-  next-reads.Asked,
-  next-reads.Learnt,
-  plain-reads.Asked,
-  plain-reads.Learnt,
-  put-reads.Asked,
-  put-reads.Learnt,
-) (sum-at t) sum.Post sum-Inv-loop sum-μ-loop
-sum-sub-plain t c = omega (arith, sign-numbers (sum-level (wordsIn (c .before .before .before .before .before .before .before .before .before .before .before .before .before .before .before .before .before .before .before .before .before .before .before .before .args .reserved .now) (c .before .before .before .before .before .before .before .before .before .before .before .before .before .before .before .before .before .before .before .before .before .before .before .before .args .currencies .now) (c .before .before .before .before .before .before .before .before .before .before .before .before .before .before .before .before .before .before .before .before .before .before .before .before .args .counters .now)) (c .before .before .before .before .before .before .before .before .before .before .before .before .before .before .before .before .before .before .before .before .before .before .before .before .args .depth)) (c .before .before .before .before .before .before .before .before .before .before .before .before .before .before .before .before .before .before .before .before .before .before .before .before .args .s .now) _ _ _ _ _ _ _ (sum-chain t (c .before .before .before .before .before .before .before .before .before .before .before)) (sym (c .before .before .before .before .before .before .before .before .before .before .is-sum .ensures) ∙ not-false _ (c .before .before .before .before .before .before .before .before .before .if1 .left)) (c .before .before .before .before .before .before .before .before .next .result) (c .before .before .before .before .before .before .before .before .next .ensures) _ _ _ _ (done-reads _ _ _ _ _ _ _ _ _ (c .before .before .q .given .1) (c .before .before .before .before .before .before .product2 .ensures)))
-
--- src/expressions.rt:151:34
-sum-add-plain : (t : ℕ) → sum-lts.Need-add-plain (
-  product-below t,
-  product.Post,
-  is-sum-reads.Asked,
-  is-sum-reads.Learnt,
-  next-reads.Asked,
-  next-reads.Learnt,
-  plain-reads.Asked,
-  plain-reads.Learnt,
-  put-reads.Asked,
-  put-reads.Learnt,
-) (sum-at t) sum.Post sum-Inv-loop sum-μ-loop
-sum-add-plain t c = omega (arith, sign-numbers (sum-level (wordsIn (c .before .before .before .before .before .before .before .before .before .before .before .before .before .before .before .before .before .before .before .before .before .before .before .before .args .reserved .now) (c .before .before .before .before .before .before .before .before .before .before .before .before .before .before .before .before .before .before .before .before .before .before .before .before .args .currencies .now) (c .before .before .before .before .before .before .before .before .before .before .before .before .before .before .before .before .before .before .before .before .before .before .before .before .args .counters .now)) (c .before .before .before .before .before .before .before .before .before .before .before .before .before .before .before .before .before .before .before .before .before .before .before .before .args .depth)) (c .before .before .before .before .before .before .before .before .before .before .before .before .before .before .before .before .before .before .before .before .before .before .before .before .args .s .now) _ _ _ _ _ _ _ (sum-chain t (c .before .before .before .before .before .before .before .before .before .before .before)) (sym (c .before .before .before .before .before .before .before .before .before .before .is-sum .ensures) ∙ not-false _ (c .before .before .before .before .before .before .before .before .before .if1 .left)) (c .before .before .before .before .before .before .before .before .next .result) (c .before .before .before .before .before .before .before .before .next .ensures) _ _ _ _ (done-reads _ _ _ _ _ _ _ _ _ (c .before .before .q .given .1) (c .before .before .before .before .before .before .product2 .ensures)))
-
--- src/expressions.rt:151:22
-sum-plain-requires : (t : ℕ) → sum-lts.Need-plain-requires (
-  product-below t,
-  product.Post,
-  is-sum-reads.Asked,
-  is-sum-reads.Learnt,
-  next-reads.Asked,
-  next-reads.Learnt,
-  plain-reads.Asked,
-  plain-reads.Learnt,
-  put-reads.Asked,
-  put-reads.Learnt,
-) (sum-at t) sum.Post sum-Inv-loop sum-μ-loop
-sum-plain-requires t c κs = search needs
-
--- src/expressions.rt:151:9
-sum-put-requires : (t : ℕ) → sum-lts.Need-put-requires (
-  product-below t,
-  product.Post,
-  is-sum-reads.Asked,
-  is-sum-reads.Learnt,
-  next-reads.Asked,
-  next-reads.Learnt,
-  plain-reads.Asked,
-  plain-reads.Learnt,
-  put-reads.Asked,
-  put-reads.Learnt,
-) (sum-at t) sum.Post sum-Inv-loop sum-μ-loop
-sum-put-requires t c κs = search needs
-
--- src/expressions.rt:153:13
-sum-add-m : (t : ℕ) → sum-lts.Need-add-m (
-  product-below t,
-  product.Post,
-  is-sum-reads.Asked,
-  is-sum-reads.Learnt,
-  next-reads.Asked,
-  next-reads.Learnt,
-  plain-reads.Asked,
-  plain-reads.Learnt,
-  put-reads.Asked,
-  put-reads.Learnt,
-) (sum-at t) sum.Post sum-Inv-loop sum-μ-loop
-sum-add-m t c = omega (arith, sign-numbers (sum-level (wordsIn (c .before .before .before .before .before .before .before .before .before .before .before .before .before .before .before .before .before .before .before .before .before .before .before .before .before .before .before .before .args .reserved .now) (c .before .before .before .before .before .before .before .before .before .before .before .before .before .before .before .before .before .before .before .before .before .before .before .before .before .before .before .before .args .currencies .now) (c .before .before .before .before .before .before .before .before .before .before .before .before .before .before .before .before .before .before .before .before .before .before .before .before .before .before .before .before .args .counters .now)) (c .before .before .before .before .before .before .before .before .before .before .before .before .before .before .before .before .before .before .before .before .before .before .before .before .before .before .before .before .args .depth)) (c .before .before .before .before .before .before .before .before .before .before .before .before .before .before .before .before .before .before .before .before .before .before .before .before .before .before .before .before .args .s .now) _ _ _ _ _ _ _ (sum-chain t (c .before .before .before .before .before .before .before .before .before .before .before .before .before .before .before)) (sym (c .before .before .before .before .before .before .before .before .before .before .before .before .before .before .is-sum .ensures) ∙ not-false _ (c .before .before .before .before .before .before .before .before .before .before .before .before .before .if1 .left)) (c .before .before .before .before .before .before .before .before .before .before .before .before .next .result) (c .before .before .before .before .before .before .before .before .before .before .before .before .next .ensures) _ _ _ _ (done-reads _ _ _ _ _ _ _ _ _ (c .before .before .before .before .before .before .q .given .1) (c .before .before .before .before .before .before .before .before .before .before .product2 .ensures)))
-
--- src/expressions.rt:141:5
+-- src/expressions.rt:138:5
 sum-loop-less : (t : ℕ) → sum-lts.Need-loop-less (
   product-below t,
   product.Post,
+  join-reads.Asked,
+  join-reads.Learnt,
   is-sum-reads.Asked,
   is-sum-reads.Learnt,
   next-reads.Asked,
   next-reads.Learnt,
-  plain-reads.Asked,
-  plain-reads.Learnt,
-  put-reads.Asked,
-  put-reads.Learnt,
 ) (sum-at t) sum.Post sum-Inv-loop sum-μ-loop
-sum-loop-less t c = sign-less (sum-level (wordsIn (c .before .before .before .before .before .before .before .before .before .before .before .before .before .before .before .before .before .before .before .before .before .before .before .before .before .before .before .before .args .reserved .now) (c .before .before .before .before .before .before .before .before .before .before .before .before .before .before .before .before .before .before .before .before .before .before .before .before .before .before .before .before .args .currencies .now) (c .before .before .before .before .before .before .before .before .before .before .before .before .before .before .before .before .before .before .before .before .before .before .before .before .before .before .before .before .args .counters .now)) (c .before .before .before .before .before .before .before .before .before .before .before .before .before .before .before .before .before .before .before .before .before .before .before .before .before .before .before .before .args .depth)) (c .before .before .before .before .before .before .before .before .before .before .before .before .before .before .before .before .before .before .before .before .before .before .before .before .before .before .before .before .args .s .now) _ _ _ _ _ _ _ (sum-chain t (c .before .before .before .before .before .before .before .before .before .before .before .before .before .before .before)) (sym (c .before .before .before .before .before .before .before .before .before .before .before .before .before .before .is-sum .ensures) ∙ not-false _ (c .before .before .before .before .before .before .before .before .before .before .before .before .before .if1 .left)) (c .before .before .before .before .before .before .before .before .before .before .before .before .next .result) (c .before .before .before .before .before .before .before .before .before .before .before .before .next .ensures) _ _ _ _ (done-reads _ _ _ _ _ _ _ _ _ (c .before .before .before .before .before .before .q .given .1) (c .before .before .before .before .before .before .before .before .before .before .product2 .ensures))
+sum-loop-less t c = pend-less (sum-level (wordsIn (c .before .before .before .before .before .before .before .before .before .before .before .before .before .before .before .before .before .before .before .before .args .reserved .now) (c .before .before .before .before .before .before .before .before .before .before .before .before .before .before .before .before .before .before .before .before .args .currencies .now) (c .before .before .before .before .before .before .before .before .before .before .before .before .before .before .before .before .before .before .before .before .args .counters .now)) (c .before .before .before .before .before .before .before .before .before .before .before .before .before .before .before .before .before .before .before .before .args .depth)) (c .before .before .before .before .before .before .before .before .before .before .before .before .before .before .before .before .before .before .before .before .args .s .now) _ _ _ _ _ _ _ (c .before .before .before .before .before .before .before .before .before .before .before .before .before .before .loop .inv .1) _ _ _ _ (done-reads _ _ _ _ _ _ _ _ _ (c .before .before .before .before .before .before .before .before .r .given .1) (c .before .before .before .before .before .before .before .before .before .before .before .before .product .ensures)) (sym (c .before .before .is-sum .ensures) ∙ not-false _ (c .before .if1 .left)) (c .next .result) (c .next .ensures)
 
--- src/expressions.rt:141:5
+-- src/expressions.rt:138:5
 sum-loop-again : (t : ℕ) → sum-lts.Need-loop-again (
   product-below t,
   product.Post,
+  join-reads.Asked,
+  join-reads.Learnt,
   is-sum-reads.Asked,
   is-sum-reads.Learnt,
   next-reads.Asked,
   next-reads.Learnt,
-  plain-reads.Asked,
-  plain-reads.Learnt,
-  put-reads.Asked,
-  put-reads.Learnt,
 ) (sum-at t) sum.Post sum-Inv-loop sum-μ-loop
-sum-loop-again t c = (c .before .before .put .kept .0 ∙ (c .before .before .before .before .before .before .before .before .before .before .product2 .kept .1 .1 .1 .1 .1 .1 .0 ∙ c .before .before .before .before .before .before .before .before .before .before .before .before .before .before .before .loop .inv .0), λ R o h. sign-more (sum-level (wordsIn (c .before .before .before .before .before .before .before .before .before .before .before .before .before .before .before .before .before .before .before .before .before .before .before .before .before .before .before .before .args .reserved .now) (c .before .before .before .before .before .before .before .before .before .before .before .before .before .before .before .before .before .before .before .before .before .before .before .before .before .before .before .before .args .currencies .now) (c .before .before .before .before .before .before .before .before .before .before .before .before .before .before .before .before .before .before .before .before .before .before .before .before .before .before .before .before .args .counters .now)) (c .before .before .before .before .before .before .before .before .before .before .before .before .before .before .before .before .before .before .before .before .before .before .before .before .before .before .before .before .args .depth)) (c .before .before .before .before .before .before .before .before .before .before .before .before .before .before .before .before .before .before .before .before .before .before .before .before .before .before .before .before .args .s .now) _ _ _ _ _ _ _ (c .before .before .before .before .before .before .before .before .before .before .before .before .before .before .before .loop .inv .1 R o h) (sym (c .before .before .before .before .before .before .before .before .before .before .before .before .before .before .is-sum .ensures) ∙ not-false _ (c .before .before .before .before .before .before .before .before .before .before .before .before .before .if1 .left)) (c .before .before .before .before .before .before .before .before .before .before .before .before .next .result) (c .before .before .before .before .before .before .before .before .before .before .before .before .next .ensures) _ _ _ _ (done-reads _ _ _ _ _ _ _ _ _ (c .before .before .before .before .before .before .q .given .1) (c .before .before .before .before .before .before .before .before .before .before .product2 .ensures)) _ (put-plain _ _ _ _ _ _ _ (c .before .before .before .plain .ensures) (c .before .before .put .ensures)))
+sum-loop-again t c = (c .before .before .before .before .before .join .kept .0 ∙ (c .before .before .before .before .before .before .before .before .before .before .before .before .product .kept .1 .1 .1 .1 .1 .1 .0 ∙ c .before .before .before .before .before .before .before .before .before .before .before .before .before .before .loop .inv .0), pend-next (sum-level (wordsIn (c .before .before .before .before .before .before .before .before .before .before .before .before .before .before .before .before .before .before .before .before .args .reserved .now) (c .before .before .before .before .before .before .before .before .before .before .before .before .before .before .before .before .before .before .before .before .args .currencies .now) (c .before .before .before .before .before .before .before .before .before .before .before .before .before .before .before .before .before .before .before .before .args .counters .now)) (c .before .before .before .before .before .before .before .before .before .before .before .before .before .before .before .before .before .before .before .before .args .depth)) (c .before .before .before .before .before .before .before .before .before .before .before .before .before .before .before .before .before .before .before .before .args .s .now) _ _ _ _ _ _ _ (pend-chain (sum-level (wordsIn (c .before .before .before .before .before .before .before .before .before .before .before .before .before .before .before .before .before .before .before .before .args .reserved .now) (c .before .before .before .before .before .before .before .before .before .before .before .before .before .before .before .before .before .before .before .before .args .currencies .now) (c .before .before .before .before .before .before .before .before .before .before .before .before .before .before .before .before .before .before .before .before .args .counters .now)) (c .before .before .before .before .before .before .before .before .before .before .before .before .before .before .before .before .before .before .before .before .args .depth)) (c .before .before .before .before .before .before .before .before .before .before .before .before .before .before .before .before .before .before .before .before .args .s .now) _ _ _ _ _ _ _ (c .before .before .before .before .before .before .before .before .before .before .before .before .before .before .loop .inv .1) _ _ _ _ (done-reads _ _ _ _ _ _ _ _ _ (c .before .before .before .before .before .before .before .before .r .given .1) (c .before .before .before .before .before .before .before .before .before .before .before .before .product .ensures)) (c .before .before .before .before .before .join .result) _ (c .before .before .before .before .before .join .ensures)) (sym (c .before .before .is-sum .ensures) ∙ not-false _ (c .before .if1 .left)) (c .next .result) (c .next .ensures))
 
 pub +arguments+call+comparison+expression+index+items+list+method+name+parenthesis+pays+postfix+postfixes+power+primary+product+sum-spec :
     {M : Type 1} → statement M
@@ -5355,74 +4533,57 @@ pub +arguments+call+comparison+expression+index+items+list+method+name+parenthes
     (λ t. comparison-lts.spec (
       sum-below t,
       sum.Post,
+      join-reads.Asked,
+      join-reads.Learnt,
       is-comparator-reads.Asked,
       is-comparator-reads.Learnt,
       next-reads.Asked,
       next-reads.Learnt,
-      plain-reads.Asked,
-      plain-reads.Learnt,
-      put-reads.Asked,
-      put-reads.Learnt,
     )
     (comparison-at t)
     comparison.Post
+    comparison-Inv-loop
+    comparison-μ-loop
+    (comparison-loop-holds t)
     (comparison-sum-requires t)
     (comparison-enum-known-r t)
     (comparison-enum-told t)
     (comparison-same-length t)
     (comparison-returns t)
-    (comparison-is-comparator-requires t)
+    (comparison-join-requires t)
     (comparison-same-length-2 t)
     (comparison-returns-2 t)
-    (comparison-next-requires t)
-    (comparison-sum-requires-2 t)
-    (comparison-enum-known-q t)
-    (comparison-enum-told-2 t)
+    (comparison-is-comparator-requires t)
     (comparison-same-length-3 t)
     (comparison-returns-3 t)
-    (comparison-sub-plain t)
-    (comparison-add-plain t)
-    (comparison-plain-requires t)
-    (comparison-put-requires t)
-    (comparison-add-t28 t)
-    (comparison-same-length-4 t)
-    (comparison-returns-4 t))
+    (comparison-next-requires t)
+    (comparison-loop-less t)
+    (comparison-loop-again t))
     (λ t. expression-lts.spec (
       comparison-below t,
       comparison.Post,
+      join-reads.Asked,
+      join-reads.Learnt,
       is-joint-reads.Asked,
       is-joint-reads.Learnt,
       next-reads.Asked,
       next-reads.Learnt,
-      plain-reads.Asked,
-      plain-reads.Learnt,
-      put-reads.Asked,
-      put-reads.Learnt,
     )
     (expression-at t)
     expression.Post
     expression-Inv-loop
     expression-μ-loop
+    (expression-loop-holds t)
     (expression-comparison-requires t)
     (expression-enum-known-r t)
     (expression-enum-told t)
     (expression-same-length t)
     (expression-returns t)
-    (expression-loop-holds t)
+    (expression-join-requires t)
     (expression-is-joint-requires t)
     (expression-same-length-2 t)
     (expression-returns-2 t)
     (expression-next-requires t)
-    (expression-comparison-requires-2 t)
-    (expression-enum-known-q t)
-    (expression-enum-told-2 t)
-    (expression-same-length-3 t)
-    (expression-returns-3 t)
-    (expression-sub-plain t)
-    (expression-add-plain t)
-    (expression-plain-requires t)
-    (expression-put-requires t)
-    (expression-add-m t)
     (expression-loop-less t)
     (expression-loop-again t))
     (λ t. index-lts.spec (
@@ -5687,39 +4848,28 @@ pub +arguments+call+comparison+expression+index+items+list+method+name+parenthes
     (λ t. power-lts.spec (
       primary-below t,
       primary.Post,
+      join-reads.Asked,
+      join-reads.Learnt,
       is-power-reads.Asked,
       is-power-reads.Learnt,
       next-reads.Asked,
       next-reads.Learnt,
-      plain-reads.Asked,
-      plain-reads.Learnt,
-      put-reads.Asked,
-      put-reads.Learnt,
     )
     (power-at t)
     power.Post
     power-Inv-loop
     power-μ-loop
+    (power-loop-holds t)
     (power-primary-requires t)
     (power-enum-known-r t)
     (power-enum-told t)
     (power-same-length t)
     (power-returns t)
-    (power-loop-holds t)
+    (power-join-requires t)
     (power-is-power-requires t)
     (power-same-length-2 t)
     (power-returns-2 t)
     (power-next-requires t)
-    (power-primary-requires-2 t)
-    (power-enum-known-q t)
-    (power-enum-told-2 t)
-    (power-same-length-3 t)
-    (power-returns-3 t)
-    (power-sub-plain t)
-    (power-add-plain t)
-    (power-plain-requires t)
-    (power-put-requires t)
-    (power-add-m t)
     (power-loop-less t)
     (power-loop-again t))
     (λ t. primary-lts.spec (
@@ -5787,76 +4937,54 @@ pub +arguments+call+comparison+expression+index+items+list+method+name+parenthes
     (λ t. product-lts.spec (
       power-below t,
       power.Post,
+      join-reads.Asked,
+      join-reads.Learnt,
       is-product-reads.Asked,
       is-product-reads.Learnt,
       next-reads.Asked,
       next-reads.Learnt,
-      plain-reads.Asked,
-      plain-reads.Learnt,
-      put-reads.Asked,
-      put-reads.Learnt,
     )
     (product-at t)
     product.Post
     product-Inv-loop
     product-μ-loop
+    (product-loop-holds t)
     (product-power-requires t)
     (product-enum-known-r t)
     (product-enum-told t)
     (product-same-length t)
     (product-returns t)
-    (product-loop-holds t)
+    (product-join-requires t)
     (product-is-product-requires t)
     (product-same-length-2 t)
     (product-returns-2 t)
     (product-next-requires t)
-    (product-power-requires-2 t)
-    (product-enum-known-q t)
-    (product-enum-told-2 t)
-    (product-same-length-3 t)
-    (product-returns-3 t)
-    (product-sub-plain t)
-    (product-add-plain t)
-    (product-plain-requires t)
-    (product-put-requires t)
-    (product-add-m t)
     (product-loop-less t)
     (product-loop-again t))
     λ t. sum-lts.spec (
       product-below t,
       product.Post,
+      join-reads.Asked,
+      join-reads.Learnt,
       is-sum-reads.Asked,
       is-sum-reads.Learnt,
       next-reads.Asked,
       next-reads.Learnt,
-      plain-reads.Asked,
-      plain-reads.Learnt,
-      put-reads.Asked,
-      put-reads.Learnt,
     )
     (sum-at t)
     sum.Post
     sum-Inv-loop
     sum-μ-loop
+    (sum-loop-holds t)
     (sum-product-requires t)
     (sum-enum-known-r t)
     (sum-enum-told t)
     (sum-same-length t)
     (sum-returns t)
-    (sum-loop-holds t)
+    (sum-join-requires t)
     (sum-is-sum-requires t)
     (sum-same-length-2 t)
     (sum-returns-2 t)
     (sum-next-requires t)
-    (sum-product-requires-2 t)
-    (sum-enum-known-q t)
-    (sum-enum-told-2 t)
-    (sum-same-length-3 t)
-    (sum-returns-3 t)
-    (sum-sub-plain t)
-    (sum-add-plain t)
-    (sum-plain-requires t)
-    (sum-put-requires t)
-    (sum-add-m t)
     (sum-loop-less t)
     (sum-loop-again t)
