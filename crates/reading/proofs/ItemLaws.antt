@@ -19,8 +19,7 @@ use Rattle.reading.specs.Readers.{Out, ok, refused, Reader, bind, _>>=_,
 use Rattle.reading.specs.Grammar as G
 use Rattle.reading.specs.Grammar.{Words, expression, items, closed, arguments, deeper, primary, calls, callOf, cvg, call, payday, payments, payment, pays, listed, postfixes, currencyOf, aCurrency}
 use Rattle.reading.specs.Calls.{callKind, rightCount}
-use Rattle.reading.specs.Rows.{nodeRow, putRow}
-use Rattle.reading.specs.declared.records.Node.{Node}
+use Rattle.reading.specs.Rows.{putRow}
 use Rattle.reading.specs.Meets.{wordsIn, toksAt, tokenAt, Holds, Room, Ready, Follows, stringAt, Quoted, Reads, Meets, Before}
 use Rattle.reading.specs.Turns.{inner, listPostfixed, paysStop, Closing, itemEnd, itemTurnBy, itemsBy, FollowsItem, stringOf, AllQuoted, Shown, shownBy, ReadsItems, MeetsItems, Closed, refusalOf, itemsRefusal, callFault, Tops}
 use Rattle.reading.specs.declared.answers.Read.{Read}
@@ -162,11 +161,6 @@ closed-code k r c m j x e h = rw e at h
 pub parts-refusal : (t : List ℕ) (R : Out Tree) (n : ℕ) (o : List ℕ) (r : Read) (o′ : List ℕ) (x : Items) (R′ : Out Trees) (n′ : ℕ) (o₁ o₂ : List ℕ) (close k b : ℕ)
     → r ≡ answer.Refused k b → Meets t R n o r o′ → x ≡ itemsRefusal r → (R ≡ refused k b → R′ ≡ refused k b) → MeetsItems t R′ n′ o₁ x o₂ × Closed close x
 parts-refusal t R n o r o′ x R′ n′ o₁ o₂ close k b e h q f = let z : x ≡ part.Refused k b = q ∙ ap itemsRefusal e in rw z (f (rw e at h), tt)
-
--- the row of a node without fields, as the code puts it
-pub item-put : (o₂ o : List ℕ) (n : ℕ) (x : Node) (k a b : ℕ) → o₂ ≡ putRow o n (nodeRow x) → x ≡ record { kind = k; nodes = a; parts = b; f1 = 0; f2 = 0; f3 = 0; f4 = 0 }
-    → o₂ ≡ putRow o n (row k a b unused)
-item-put o₂ o n x k a b e q = e ∙ ap (λ (y : Node). putRow o n (nodeRow y)) q
 
 -- what follows an item
 pub follows-as : (t : List ℕ) (k : ℕ) (c : Cursor) (r r′ : Took) → r ≡ r′ → FollowsItem t k c r → FollowsItem t k c r′

@@ -16,11 +16,10 @@ use Rattle.tokens.specs.declared.cursor.Cursor.{Cursor}
 use Rattle.reading.specs.Trees.{Tree, Trees, node, nil, _▹_, fields, none as unused, parts, row}
 use Rattle.reading.specs.Readers.{Out, ok, refused, Reader, bind, _>>=_, _>>_, Turn, again, done, follow, loop, is, give, fail, failAt, read, the}
 use Rattle.reading.specs.Grammar.{Words, binary, deeper, expression, arguments, method, methodOf, indexOf, postfixTurn, postfixes, calls, callOf, call, named, variable, name, spot, df, rateIndex, currencyOf, aCurrency, equity, pair, primary}
-use Rattle.reading.specs.Rows.{putRow, nodeRow}
+use Rattle.reading.specs.Rows.{putRow}
 use Rattle.reading.specs.Calls.{callKind, methodKind}
 use Rattle.reading.specs.Meets.{wordsIn, toksAt, tokenAt, Holds, Room, Ready, Follows, theBy, Takes, stringAt, Quoted, Reads, Meets, Before}
 use Rattle.reading.specs.Turns.{inner, postfixSign, ReadsItems, MeetsItems, refusalOf, specialOf, Unquoted, Tops, ReadsTurn, MeetsTurn, Onward, MeetsTurns}
-use Rattle.reading.specs.declared.records.Node.{Node}
 use Rattle.reading.specs.declared.answers.Read.{Read}
 use Rattle.reading.specs.declared.answers.Read.the-variants.{Done, Refused}
 use Rattle.reading.specs.declared.answers.Took.{Took}
@@ -75,11 +74,6 @@ took-not t c h k a b e w q =
     let f : theBy k (toksAt t (c .start)) ≡ read (toksAt t (c .start))
     = peek-is h (λ u. if eqb k (u .kind) then read else fail 8) ∙ ap (λ (x : Bool). (if x then read else fail 8) (toksAt t (c .start))) (eq-eqb k (c .code) (sym q)) in
     read-some (h .left) (final (length t)) b (ap read (sym (toks-are h)) ∙ (sym f ∙ g))
-
--- a plain record is put
-pub post-put : (o o′ : List ℕ) (m : ℕ) (x : Node) (k w v : ℕ) → x ≡ record { kind = k; nodes = w; parts = v; f1 = 0; f2 = 0; f3 = 0; f4 = 0 }
-    → o′ ≡ putRow o m (nodeRow x) → o′ ≡ putRow o m (row k w v unused)
-post-put o o′ m x k w v e h = h ∙ ap (λ (y : Node). putRow o m (nodeRow y)) e
 
 -- behind a token there is room for what there was room for
 pub ready-behind : (t : List ℕ) (c d : Cursor) (n k : ℕ) → Room t c n → Follows t c d → c .code ≡ suc k → Ready t d n

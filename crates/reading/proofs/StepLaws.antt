@@ -1,35 +1,33 @@
 -- What each step of the expression readers' code comes to in the definition. Each law is over plain values, and an answer of a
 -- proof cites one.
 use mathlib.Core.Path.{_≡_, refl, sym, ap, _∙_}
-use mathlib.Core.Bool.{Bool, true, false, _||_, true≢false}
-use mathlib.Core.List.{List, [], _∷_}
-use mathlib.Core.Option.{Option, none, some}
+use mathlib.Core.Bool.{true, false, true≢false}
+use mathlib.Core.List.{List, []}
+use mathlib.Core.Option.{none, some}
 use Prim.Native.Nat.{ℕ, zero, suc, _+_, _-_, _*_, _≤_, _<_}
 use native.Mathlib.Omega.{arith}
-use lib.Dec.{eqb, leb}
-use lib.Ieee.{neg}
-use borrow.Author.Tests.{eq-eqb, ne-eqb}
+use lib.Dec.{eqb}
+use borrow.Author.Tests.{ne-eqb}
 use lib.ListN.{length}
-use Rattle.tokens.specs.Text.{if_then_else_, within}
+use Rattle.tokens.specs.Text.{within}
 use Rattle.tokens.specs.Tokens.{Token, code}
 use Rattle.tokens.specs.declared.cursor.Cursor.{Cursor}
-use Rattle.reading.specs.Trees.{Tree, Trees, node, nil, _▹_, fields, none as unused, size, row}
-use Rattle.reading.specs.Readers.{Out, ok, refused, Reader, bind, _>>=_, _>>_, Turn, again, done, is, give, fail, failAt, ask, peek, read, the}
-use Rattle.reading.specs.Grammar.{Words, binary, deeper, sum, comparison, expression, postfixes, minus, negative, parenthesis, listed, pays, payment, name, primaryOver, primary}
-use Rattle.reading.specs.Rows.{rows, putRow, putRows, nodeRow}
+use Rattle.reading.specs.Trees.{Tree, node, nil, _▹_, none as unused, row}
+use Rattle.reading.specs.Readers.{Out, refused, Reader, _>>=_, _>>_, is, give, failAt, ask, read, the}
+use Rattle.reading.specs.Grammar.{Words, binary, deeper, sum, comparison, expression, minus, negative, parenthesis, pays, name, primaryOver, primary}
+use Rattle.reading.specs.Rows.{putRow, nodeRow}
 use Rattle.reading.specs.Joins.{Joins}
 use Rattle.reading.specs.declared.records.Node.{Node}
 use Rattle.reading.specs.declared.records.Joined.{Joined}
 use Rattle.reading.specs.Atoms.{literal, atom}
-use Rattle.reading.specs.Meets.{toksAt, tokenAt, Holds, Room, Ready, Follows, Takes, stringAt, Quoted, Reads, Meets}
+use Rattle.reading.specs.Meets.{toksAt, tokenAt, Holds, Room, Ready, Follows, Takes, Reads, Meets}
 use Rattle.reading.specs.Turns.{inner, parenthesised, listPostfixed, comparator}
 use Rattle.reading.specs.declared.answers.Read.{Read}
 use Rattle.reading.specs.declared.answers.Read.the-variants.{Done, Refused}
 use Rattle.reading.specs.declared.answers.Took.{Took}
 use Rattle.reading.specs.declared.answers.Took.the-variants as took
-use Rattle.reading.proofs.GrammarLaws.{Moves}
-use Rattle.reading.proofs.SizeLaws.{Sized, primary-size}
-use Rattle.reading.proofs.HoldLaws.{ask-yes, ask-no, peek-is, fail-is, read-then, read-next, the-next}
+use Rattle.reading.proofs.SizeLaws.{Sized}
+use Rattle.reading.proofs.HoldLaws.{ask-yes, ask-no, peek-is, read-then, read-next, the-next}
 use Rattle.reading.proofs.RowLaws.{size-some, size-one, size-two, after-one, after-two}
 use Rattle.reading.proofs.ChainLaws.{reads-within, binary-plain, by-sign}
 
