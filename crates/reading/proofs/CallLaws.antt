@@ -1,25 +1,20 @@
 -- Calls at a cursor: their names, the strings that they take, dates and currencies in these, and what is read behind a name.
 use mathlib.Core.Path.{_≡_, refl, sym, ap, _∙_, subst}
-use mathlib.Core.Bool.{Bool, true, false, _&&_, _||_, not, true≢false}
+use mathlib.Core.Bool.{Bool, true, false, _&&_}
 use mathlib.Core.List.{List, [], _∷_}
 use Prim.Native.Nat.{ℕ, suc, _+_, _-_, _≤_, _<_}
 use Prim.Native.String.{String}
 use native.Mathlib.Omega.{arith}
-use lib.Dec.{T, eqb, leb, ltb}
+use lib.Dec.{T, eqb, leb}
 use borrow.Author.Tests.{eq-eqb, ne-eqb, leb-false}
-use lib.ListN.{length, take, drop, getD, length-take, length-drop}
-use lib.Seq.{take-nil, take-take, drop-drop}
-use Rattle.tokens.specs.Text.{if_then_else_, bytes, same, begins, every, leading, letter, digit, nameByte, numberByte, blank, other}
-use Rattle.tokens.specs.Numbers.{numberFault}
+use lib.ListN.{length, take, drop}
+use Rattle.tokens.specs.Text.{if_then_else_, bytes, same, every}
 use Rattle.tokens.specs.Names.{names, place}
 use Rattle.tokens.specs.Dates.{date}
-use Rattle.tokens.specs.Tokens.{Token, Lexeme, gap, piece, fault, word, numeral, quoted, sign, signs, keywords, entry, code, lexeme}
+use Rattle.tokens.specs.Tokens.{Token, code}
 use Rattle.tokens.specs.Keys.{pack, lookup, keyed, keyOf}
-use Rattle.tokens.specs.declared.lexing.Mark.{Mark}
 use Rattle.tokens.specs.declared.cursor.Cursor.{Cursor}
-use Rattle.tokens.proofs.Joins.{body}
-use Rattle.tokens.proofs.Shapes.{entry-every, same-eq}
-use Rattle.tokens.proofs.ScanLaws.{Stands, over, token, faulty, stands}
+use Rattle.tokens.proofs.Shapes.{same-eq}
 use Rattle.tokens.proofs.KeyLaws.{Bytes, small, smalls, same-pack}
 use Rattle.tokens.proofs.NameLaws.{place-le}
 use Rattle.reading.specs.Trees.{Tree, node, nil, fields}
@@ -34,107 +29,8 @@ use Rattle.reading.specs.declared.answers.Leaf.{Leaf}
 use Rattle.reading.specs.declared.answers.Leaf.the-variants as leaf
 use Rattle.reading.specs.declared.answers.Number.{Number}
 use Rattle.reading.specs.declared.answers.Number.the-variants as number
-use Rattle.reading.proofs.HoldLaws.{mark-is, markIn, end-in, ask-yes, ask-no, by-yes, by-no}
-
--- ---- a string token has two quotes
-
-abbrev Broad : Lexeme → Type 0
-Broad (gap n) = Unit {0}
-Broad (piece κ n) = κ ≡ 5 → 2 ≤ n
-Broad (fault f) = Unit {0}
-
-abbrev noString : String × ℕ → Bool
-noString e = not (eqb (e .1) 5)
-
-no-string : (k : ℕ) → not (eqb k 5) ≡ true → k ≡ 5 → ⊥
-no-string k e z = true≢false (sym e ∙ ap not (eq-eqb k 5 z))
-
-word-broad : (w : List ℕ) (n : ℕ) → Broad (word w n)
-unfolding word every
-word-broad w n = go (eqb (E .1) 99) refl
-  where
-    E : String × ℕ
-    E = entry (λ s. same (bytes s) w) keywords
-
-    go : (t : Bool) → eqb (E .1) 99 ≡ t → Broad (piece (if t then 1 else E .1) n)
-    go true e z = omega arith
-    go false e z = absurd (no-string (E .1) (entry-every noString (λ s. same (bytes s) w) keywords tt e) z)
-
-numeral-broad : (w : List ℕ) (n : ℕ) → Broad (numeral w n)
-unfolding numeral
-numeral-broad w n = go (eqb (numberFault w) 0)
-  where
-    go : (t : Bool) → Broad (if t then piece 2 n else fault (numberFault w))
-    go true = λ z. omega arith
-    go false = tt
-
-quoted-broad : (bs : List ℕ) (n : ℕ) → Broad (quoted bs n)
-unfolding quoted
-quoted-broad bs n = go (ltb n (length bs))
-  where
-    go : (t : Bool) → Broad (if t then piece 5 (suc (suc n)) else fault 4)
-    go true = λ z. omega arith
-    go false = tt
-
-sign-broad : (bs : List ℕ) → Broad (sign bs)
-unfolding sign every
-sign-broad bs = go (eqb (E .1) 99) refl
-  where
-    E : String × ℕ
-    E = entry (λ s. begins (bytes s) bs) signs
-
-    go : (t : Bool) → eqb (E .1) 99 ≡ t → Broad (if t then fault 3 else piece (E .1) (length (bytes (E .0))))
-    go true e = tt
-    go false e = λ z. absurd (no-string (E .1) (entry-every noString (λ s. begins (bytes s) bs) signs tt e) z)
-
-broad : (b : ℕ) (bs : List ℕ) → Broad (lexeme b bs)
-unfolding lexeme body code entry
-broad b bs = go (blank b) (eqb b 10) (eqb b 35 || begins (bytes "//") (b ∷ bs)) (letter b) (digit b) (eqb b 34)
-  where
-    go : (t₁ t₂ t₃ t₄ t₅ t₆ : Bool) → Broad (body t₁ t₂ t₃ t₄ t₅ t₆ b bs)
-    go true t₂ t₃ t₄ t₅ t₆ = tt
-    go false true t₃ t₄ t₅ t₆ = λ z. omega arith
-    go false false true t₄ t₅ t₆ = tt
-    go false false false true t₅ t₆ = word-broad (take (suc (leading nameByte bs)) (b ∷ bs)) (suc (leading nameByte bs))
-    go false false false false true t₆ = numeral-broad (take (suc (leading numberByte bs)) (b ∷ bs)) (suc (leading numberByte bs))
-    go false false false false false true = quoted-broad bs (leading (other 34) bs)
-    go false false false false false false = sign-broad (b ∷ bs)
-
-drop-one : {A : Type 0} (n : ℕ) (l : List A) → drop 1 (take (suc n) l) ≡ take n (drop 1 l)
-drop-one n [] = sym (take-nil n)
-drop-one n (a ∷ l) = refl
-
-module _ {t : List ℕ} {c : Cursor} (h : Holds t c) (s : c .code ≡ 5) where
-  pub string-wide : c .start + 2 ≤ c .end
-  string-wide = go (rw (mark-is h) at (stands t (c .start)))
-    where
-      go : Stands t (markIn c) → c .start + 2 ≤ c .end
-      go (over l q) = absurd (omega (arith, ap (λ (m : Mark). m .code) q))
-      go (token κ n l p q) =
-          let w : κ ≡ 5 → 2 ≤ n = subst Broad p (broad (getD t (c .start) 0) (drop (c .start + 1) t)) in
-          let k : κ ≡ 5 = omega (arith, ap (λ (m : Mark). m .code) q) in
-          omega (arith, w k, ap (λ (m : Mark). m .end) q)
-      go (faulty f l p q) = absurd (omega (arith, ap (λ (m : Mark). m .code) q))
-
-  text-length : length (take (c .end - c .start) (drop (c .start) t)) ≡ c .end - c .start
-  text-length = omega (arith, length-take (c .end - c .start) (drop (c .start) t), length-drop (c .start) t, end-in h, string-wide)
-
-  -- what stands between the quotes
-  pub content-is : content (tokenAt t c) ≡ take (c .end - 1 - (c .start + 1)) (drop (c .start + 1) t)
-  content-is =
-      let n : c .end - c .start ≡ suc (c .end - c .start - 1) = omega (arith, string-wide) in
-      let w : c .end - 1 - (c .start + 1) ≤ c .end - c .start - 1 = omega arith in
-      let m : length (take (c .end - c .start) (drop (c .start) t)) - 2 ≡ c .end - 1 - (c .start + 1) = omega (arith, text-length, string-wide) in
-      ap (λ (x : ℕ). take x (drop 1 (take (c .end - c .start) (drop (c .start) t)))) m
-      ∙ (ap (λ (x : ℕ). take (c .end - 1 - (c .start + 1)) (drop 1 (take x (drop (c .start) t)))) n
-      ∙ (ap (take (c .end - 1 - (c .start + 1))) (drop-one (c .end - c .start - 1) (drop (c .start) t))
-      ∙ (take-take (c .end - 1 - (c .start + 1)) (c .end - c .start - 1) (drop 1 (drop (c .start) t)) w
-      ∙ ap (take (c .end - 1 - (c .start + 1))) (drop-drop 1 (c .start) t))))
-
-  pub content-length : length (content (tokenAt t c)) ≡ c .end - c .start - 2
-  content-length =
-      ap length content-is
-      ∙ omega (arith, length-take (c .end - 1 - (c .start + 1)) (drop (c .start + 1) t), length-drop (c .start + 1) t, end-in h, string-wide)
+use Rattle.reading.proofs.HoldLaws.{end-in, ask-yes, ask-no, by-yes, by-no}
+use Rattle.reading.proofs.AtomLaws.{string-wide, content-is, content-length}
 
 -- ---- one reader, then another
 
