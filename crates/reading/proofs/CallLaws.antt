@@ -29,7 +29,7 @@ use Rattle.reading.specs.declared.answers.Leaf.{Leaf}
 use Rattle.reading.specs.declared.answers.Leaf.the-variants as leaf
 use Rattle.reading.specs.declared.answers.Number.{Number}
 use Rattle.reading.specs.declared.answers.Number.the-variants as number
-use Rattle.reading.proofs.HoldLaws.{end-in, ask-yes, ask-no, by-yes, by-no}
+use Rattle.reading.proofs.HoldLaws.{end-in, ask-yes, ask-no, by-yes, by-no, takes-as}
 use Rattle.reading.proofs.AtomLaws.{string-wide, content-is, content-length}
 
 -- ---- one reader, then another
@@ -52,9 +52,6 @@ module _ {A B : Type 0} (m : Reader A) (ts : List Token) where
   next-no n e = ap (bind (λ a. n)) e
 
 -- ---- answers
-
-pub takes-as : (t : List ℕ) (k : ℕ) (c : Cursor) {r r′ : Took} → r ≡ r′ → Takes t k c r → Takes t k c r′
-takes-as t k c e h = subst (Takes t k c) e h
 
 pub number-as : (t : List ℕ) {R S : Out ℕ} (r : Number) → R ≡ S → MeetsNumber t S r → MeetsNumber t R r
 number-as t r e h = subst (λ (X : Out ℕ). MeetsNumber t X r) (sym e) h

@@ -25,6 +25,7 @@ use Rattle.reading.specs.Readers.{Out, ok, refused, Reader, bind, _>>=_,
 use Rattle.reading.specs.Grammar.{nextKind}
 use Rattle.reading.specs.Script.{back}
 use Rattle.reading.specs.Meets.{listed, toksAt, tokenAt, Holds, Follows, theBy, Takes}
+use Rattle.reading.specs.declared.answers.Took.{Took}
 use Rattle.reading.specs.declared.answers.Took.the-variants as took
 use Rattle.reading.specs.Scripts.{rebase}
 use Rattle.reading.proofs.Laws.{Quiet, skip-clear}
@@ -481,6 +482,9 @@ takes-next h w k z e = (w, e, by-yes h w (λ p. z (sym e ∙ p)) k e)
 
 pub takes-not : {t : List ℕ} {c : Cursor} → Holds t c → (k : ℕ) → (c .code ≡ k → ⊥) → Takes t k c (took.Not (c .start))
 takes-not h k z = by-no h k z
+
+pub takes-as : (t : List ℕ) (k : ℕ) (c : Cursor) {r r′ : Took} → r ≡ r′ → Takes t k c r → Takes t k c r′
+takes-as t k c e h = subst (Takes t k c) e h
 
 -- ---- the text from a cursor on, as a text of its own
 

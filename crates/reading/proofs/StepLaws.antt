@@ -24,7 +24,6 @@ use Rattle.reading.specs.Meets.{toksAt, tokenAt, Holds, Room, Ready, Fol
 use Rattle.reading.specs.Turns.{inner, parenthesised, listPostfixed, comparator}
 use Rattle.reading.specs.declared.answers.Read.{Read}
 use Rattle.reading.specs.declared.answers.Read.the-variants.{Done, Refused}
-use Rattle.reading.specs.declared.answers.Took.{Took}
 use Rattle.reading.specs.declared.answers.Took.the-variants as took
 use Rattle.reading.proofs.SizeLaws.{Sized}
 use Rattle.reading.proofs.HoldLaws.{ask-yes, ask-no, peek-is, read-then, read-next, the-next}
@@ -255,9 +254,6 @@ module _ (W : Words) (t : List ℕ) (c d : Cursor) (n : ℕ) (o : List ℕ) (dep
 
 pub follow-ready : (t : List ℕ) (c d : Cursor) (n : ℕ) → (c .code ≡ 0 → ⊥) → Follows t c d → Ready t c n → Ready t d n × Room t d (n + 3)
 follow-ready t c d n some-token w r = ((w .holds, omega (arith, r .1, w .fewer some-token)), omega (arith, r .1, w .fewer some-token))
-
-pub takes-as : (t : List ℕ) (k : ℕ) (c : Cursor) (r r′ : Took) → r ≡ r′ → Takes t k c r → Takes t k c r′
-takes-as t k c r r′ e h = rw e at h
 
 -- the record of a node without fields
 pub put-plain : (o o₃ : List ℕ) (m k w v : ℕ) (x : Node) → x ≡ record { kind = k; nodes = w; parts = v; f1 = 0; f2 = 0; f3 = 0; f4 = 0 } → o₃ ≡ putRow o m (nodeRow x)

@@ -89,7 +89,7 @@ use mathlib.Core.Path.{_≡_, refl, sym, ap, _∙_}
 use Rattle.reading.specs.Trees.{Tree}
 use Rattle.reading.specs.Readers.{Out, is as isSign}
 use Rattle.reading.specs.Grammar as G
-use Rattle.reading.proofs.StepLaws.{done-reads, refused-on, meets-as, follow-ready, takes-as, put-plain, bind-refused, reads-as, read-numbers, Compares, compare-less, compare-first, compare-ready, compare-refused, compare-numbers, compare-last, compare-alone, compare-none, compare-next, parenthesis-deep, parenthesis-refused, parenthesis-open, parenthesis-closed, prim-paren, prim-plus-0, prim-plus, prim-list, prim-pays, prim-atom, prim-name, prim-minus-number, prim-minus-0, prim-minus, negate-reads}
+use Rattle.reading.proofs.StepLaws.{done-reads, refused-on, meets-as, follow-ready, put-plain, bind-refused, reads-as, read-numbers, Compares, compare-less, compare-first, compare-ready, compare-refused, compare-numbers, compare-last, compare-alone, compare-none, compare-next, parenthesis-deep, parenthesis-refused, parenthesis-open, parenthesis-closed, prim-paren, prim-plus-0, prim-plus, prim-list, prim-pays, prim-atom, prim-name, prim-minus-number, prim-minus-0, prim-minus, negate-reads}
 use Rattle.reading.proofs.ChainLaws.{power-level, product-level, sum-level, joint-level, chain-exit, Pending, pend-first, pend-next, pend-ready, pend-refused, pend-numbers, pend-chain, pend-less}
 use Rattle.reading.proofs.SizeLaws.{primary-size, sum-size, expression-size}
 use mathlib.Core.Logic.{inl, inr}
@@ -97,7 +97,7 @@ use Rattle.reading.specs.Turns.{itemsBy, jointSign, sumSign, productSign
 use Rattle.reading.proofs.GrammarLaws.{primary-law}
 use Rattle.reading.proofs.ItemLaws.{ItemChain, items-start, items-exit, items-ready, items-refused, items-numbers, items-wrong, items-less, items-next, done-items, items-refused-on, refusal-on, closed-code, parts-refusal, follows-as, shown-inside, arguments-no, arguments-0, arguments-ready, arguments-refused, arguments-done, arguments-within, call-refused, call-faulty, call-done, list-0, list-ready, list-refused, list-numbers, list-after, list-done, list-tops, PayChain, pay-start, pay-ready, pay-refused, pay-numbers, pay-less, pay-next, pays-0, pays-ready, pays-refused, pays-done}
 use Rattle.reading.specs.Grammar.{primary as primaryG, methodOf, indexOf, postfixTurn}
-use Rattle.reading.proofs.HoldLaws.{start-in, end-in}
+use Rattle.reading.proofs.HoldLaws.{start-in, end-in, takes-as}
 use Rattle.reading.proofs.PostfixLaws.{turns-as, onward-done, items-done, ready-behind, each-inner, inner-sized, index-refuses, index-open, index-numbers, index-reads, method-unnamed, method-ready, method-refuses, method-none, method-numbers, method-reads, postfix-dot, postfix-low, postfix-index, postfix-fewer, postfix-ready, PostChain, post-enter, post-exit, post-refused, post-more, above, name-refuses, name-numbers, name-reads, name-special, name-call, sign-no, sign-yes}
 
 abbrev μ-arguments : Measures 5 arguments-kinds.ps ℕ
@@ -2586,7 +2586,7 @@ parenthesis-returns-3 : (t : ℕ) → parenthesis-lts.Need-returns-3 (
   take-reads.Asked,
   take-reads.Learnt,
 ) (parenthesis-at t) parenthesis.Post
-parenthesis-returns-3 t c = parenthesis-open (wordsIn (c .before .before .before .before .before .before .before .before .before .before .before .before .before .before .before .before .before .args .reserved .now) (c .before .before .before .before .before .before .before .before .before .before .before .before .before .before .before .before .before .args .currencies .now) (c .before .before .before .before .before .before .before .before .before .before .before .before .before .before .before .before .before .args .counters .now)) (c .before .before .before .before .before .before .before .before .before .before .before .before .before .before .before .before .before .args .s .now) (c .before .before .before .before .before .before .before .before .before .before .before .before .before .before .before .before .before .args .c) (c .before .before .before .before .before .before .before .before .before .before .before .before .before .before .before .before .before .args .d) (c .before .before .before .before .before .before .before .before .before .before .before .before .before .before .before .before .before .args .n) (c .before .before .before .before .before .before .before .before .before .before .before .before .before .before .before .before .before .args .out .now) (c .before .before .before .before .before .before .before .before .before .before .before .before .before .before .before .before .before .args .depth) (c .before .before .before .before .before .before .before .before .before .before .before .before .before .before .before .before .before .pre .1 .1) (λ z. omega (arith, z, c .before .before .before .before .before .before .before .before .before .before .before .before .before .before .before .before .before .pre .1 .2)) (c .before .before .before .before .before .before .before .before .before .before .before .if1 .left) _ _ _ _ (done-reads _ _ _ _ _ _ _ _ _ (c .before .before .before .before .before .r .given .1) (c .before .before .before .before .before .before .before .before .before .expression .ensures)) _ (takes-as _ _ _ _ _ (c .before .b .given .1) (c .before .before .before .take .ensures))
+parenthesis-returns-3 t c = parenthesis-open (wordsIn (c .before .before .before .before .before .before .before .before .before .before .before .before .before .before .before .before .before .args .reserved .now) (c .before .before .before .before .before .before .before .before .before .before .before .before .before .before .before .before .before .args .currencies .now) (c .before .before .before .before .before .before .before .before .before .before .before .before .before .before .before .before .before .args .counters .now)) (c .before .before .before .before .before .before .before .before .before .before .before .before .before .before .before .before .before .args .s .now) (c .before .before .before .before .before .before .before .before .before .before .before .before .before .before .before .before .before .args .c) (c .before .before .before .before .before .before .before .before .before .before .before .before .before .before .before .before .before .args .d) (c .before .before .before .before .before .before .before .before .before .before .before .before .before .before .before .before .before .args .n) (c .before .before .before .before .before .before .before .before .before .before .before .before .before .before .before .before .before .args .out .now) (c .before .before .before .before .before .before .before .before .before .before .before .before .before .before .before .before .before .args .depth) (c .before .before .before .before .before .before .before .before .before .before .before .before .before .before .before .before .before .pre .1 .1) (λ z. omega (arith, z, c .before .before .before .before .before .before .before .before .before .before .before .before .before .before .before .before .before .pre .1 .2)) (c .before .before .before .before .before .before .before .before .before .before .before .if1 .left) _ _ _ _ (done-reads _ _ _ _ _ _ _ _ _ (c .before .before .before .before .before .r .given .1) (c .before .before .before .before .before .before .before .before .before .expression .ensures)) _ (takes-as _ _ _ (c .before .b .given .1) (c .before .before .before .take .ensures))
 
 -- src/expressions.rt:266:1
 parenthesis-same-length-3 : (t : ℕ) → parenthesis-lts.Need-same-length-3 (
@@ -2604,7 +2604,7 @@ parenthesis-returns-4 : (t : ℕ) → parenthesis-lts.Need-returns-4 (
   take-reads.Asked,
   take-reads.Learnt,
 ) (parenthesis-at t) parenthesis.Post
-parenthesis-returns-4 t c = parenthesis-closed (wordsIn (c .before .before .before .before .before .before .before .before .before .before .before .before .before .before .before .before .before .args .reserved .now) (c .before .before .before .before .before .before .before .before .before .before .before .before .before .before .before .before .before .args .currencies .now) (c .before .before .before .before .before .before .before .before .before .before .before .before .before .before .before .before .before .args .counters .now)) (c .before .before .before .before .before .before .before .before .before .before .before .before .before .before .before .before .before .args .s .now) (c .before .before .before .before .before .before .before .before .before .before .before .before .before .before .before .before .before .args .c) (c .before .before .before .before .before .before .before .before .before .before .before .before .before .before .before .before .before .args .d) (c .before .before .before .before .before .before .before .before .before .before .before .before .before .before .before .before .before .args .n) (c .before .before .before .before .before .before .before .before .before .before .before .before .before .before .before .before .before .args .out .now) (c .before .before .before .before .before .before .before .before .before .before .before .before .before .before .before .before .before .args .depth) (c .before .before .before .before .before .before .before .before .before .before .before .before .before .before .before .before .before .pre .1 .1) (λ z. omega (arith, z, c .before .before .before .before .before .before .before .before .before .before .before .before .before .before .before .before .before .pre .1 .2)) (c .before .before .before .before .before .before .before .before .before .before .before .if1 .left) _ _ _ _ (done-reads _ _ _ _ _ _ _ _ _ (c .before .before .before .before .before .r .given .1) (c .before .before .before .before .before .before .before .before .before .expression .ensures)) _ (takes-as _ _ _ _ _ (c .before .f .given .1) (c .before .before .before .take .ensures))
+parenthesis-returns-4 t c = parenthesis-closed (wordsIn (c .before .before .before .before .before .before .before .before .before .before .before .before .before .before .before .before .before .args .reserved .now) (c .before .before .before .before .before .before .before .before .before .before .before .before .before .before .before .before .before .args .currencies .now) (c .before .before .before .before .before .before .before .before .before .before .before .before .before .before .before .before .before .args .counters .now)) (c .before .before .before .before .before .before .before .before .before .before .before .before .before .before .before .before .before .args .s .now) (c .before .before .before .before .before .before .before .before .before .before .before .before .before .before .before .before .before .args .c) (c .before .before .before .before .before .before .before .before .before .before .before .before .before .before .before .before .before .args .d) (c .before .before .before .before .before .before .before .before .before .before .before .before .before .before .before .before .before .args .n) (c .before .before .before .before .before .before .before .before .before .before .before .before .before .before .before .before .before .args .out .now) (c .before .before .before .before .before .before .before .before .before .before .before .before .before .before .before .before .before .args .depth) (c .before .before .before .before .before .before .before .before .before .before .before .before .before .before .before .before .before .pre .1 .1) (λ z. omega (arith, z, c .before .before .before .before .before .before .before .before .before .before .before .before .before .before .before .before .before .pre .1 .2)) (c .before .before .before .before .before .before .before .before .before .before .before .if1 .left) _ _ _ _ (done-reads _ _ _ _ _ _ _ _ _ (c .before .before .before .before .before .r .given .1) (c .before .before .before .before .before .before .before .before .before .expression .ensures)) _ (takes-as _ _ _ (c .before .f .given .1) (c .before .before .before .take .ensures))
 
 abbrev pays-Inv-loop : pays-lts.InvT-loop
 pays-Inv-loop s reserved currencies counters depth out₀ n at₀ m₀ count₀ out at m count = (length out ≡ length out₀) × PayChain (wordsIn reserved currencies counters) (G.primary (wordsIn reserved currencies counters) (depth - 1)) s (G.payments (wordsIn reserved currencies counters) (G.primary (wordsIn reserved currencies counters) (depth - 1)) (toksAt s (at₀ .start))) n out₀ at m count out
