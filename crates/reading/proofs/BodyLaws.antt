@@ -32,7 +32,8 @@ use Rattle.reading.proofs.GrammarLaws.{Moves, move-then, stay-next, the
 use Rattle.reading.proofs.StatementLaws.{near-tail, statement-tail}
 use Rattle.reading.proofs.SizeLaws.{Sized, expression-size, primary-size, block-size, statement-size, moves-less}
 use Rattle.reading.proofs.HoldLaws.{first-kind, start-in, end-in, ask-yes, ask-no, peek-is, read-next, the-next, the-next-not}
-use Rattle.reading.proofs.RowLaws.{size-node, size-some, sizes-front, sizes-join, parts-snoc, parts-join, parts-few, put-rows-same, put-front, put-join, before-none, before-more, before-node}
+use Rattle.reading.proofs.TreeLaws.{sizes-join, parts-snoc, parts-join}
+use Rattle.reading.proofs.RowLaws.{size-node, size-some, sizes-front, parts-few, put-rows-same, put-front, put-join, before-none, before-more, before-node}
 use Rattle.reading.proofs.ChainLaws.{reads-within}
 use Rattle.reading.proofs.StepLaws.{bind-refused}
 use Rattle.reading.proofs.PostfixLaws.{took-not, took-next}

@@ -33,7 +33,8 @@ use Rattle.reading.proofs.Laws.{loop-eq, left-shorter}
 use Rattle.reading.proofs.GrammarLaws.{Moves, Stays, Steps, laws, expression-law, payTurn-law, primary-law}
 use Rattle.reading.proofs.SizeLaws.{Sized, SizedAll, EachSized, nothing, just, expression-size, items-size, arguments-size, moves-less, primary-size}
 use Rattle.reading.proofs.HoldLaws.{toks-are, ask-yes, ask-no, peek-is, fail-is, read-next, the-next}
-use Rattle.reading.proofs.RowLaws.{size-node, size-some, parts-snoc, parts-few, before-none, before-more, before-node}
+use Rattle.reading.proofs.TreeLaws.{parts-snoc}
+use Rattle.reading.proofs.RowLaws.{size-node, size-some, parts-few, before-none, before-more, before-node}
 use Rattle.reading.proofs.ChainLaws.{reads-within}
 use Rattle.reading.proofs.StepLaws.{meets-as, deeper-none, deeper-some}
 

@@ -15,6 +15,7 @@ use Rattle.reading.specs.Sizes.{recordWidth}
 use Rattle.reading.specs.Trees.{Tree, Trees, node, nil, _▹_, Fields, fields, snoc, join, parts, size, sizes, row, records, recordsOf}
 use Rattle.reading.specs.Rows.{rows, rowsOf, putWords, putAt, putAll, putRow, putRows}
 use Rattle.reading.specs.Meets.{Before}
+use Rattle.reading.proofs.TreeLaws.{size-snoc}
 
 -- ---- how many
 
@@ -44,22 +45,6 @@ size-two k x f a b = ap (λ n. suc (size a + n)) (add-zero (size b))
 
 pub size-some : (t : Tree) → 1 ≤ size t
 size-some (node k x f ts) = omega (arith, size-node k x f ts)
-
-pub size-snoc : (ts : Trees) (t : Tree) → sizes (snoc ts t) ≡ sizes ts + size t
-size-snoc nil t = omega (arith, sizes-nil, sizes-front t nil)
-size-snoc (u ▹ us) t = omega (arith, sizes-front u us, sizes-front u (snoc us t), size-snoc us t)
-
-pub sizes-join : (ts us : Trees) → sizes (join ts us) ≡ sizes ts + sizes us
-sizes-join nil us = omega (arith, sizes-nil)
-sizes-join (t ▹ ts) us = omega (arith, sizes-front t ts, sizes-front t (join ts us), sizes-join ts us)
-
-pub parts-snoc : (ts : Trees) (t : Tree) → parts (snoc ts t) ≡ suc (parts ts)
-parts-snoc nil t = refl
-parts-snoc (u ▹ us) t = ap suc (parts-snoc us t)
-
-pub parts-join : (ts us : Trees) → parts (join ts us) ≡ parts ts + parts us
-parts-join nil us = omega arith
-parts-join (t ▹ ts) us = omega (arith, parts-join ts us)
 
 pub parts-few : (ts : Trees) → parts ts ≤ sizes ts
 parts-few nil = omega arith

@@ -33,6 +33,10 @@ abbrev pub prepend : List Entry → Outcome → Outcome
 prepend [] o = o
 prepend (e ∷ es) o = front e (prepend es o)
 
+pub prepend-accepted : (es fs : List Entry) → prepend es (accepted fs) ≡ accepted (es ++ fs)
+prepend-accepted [] fs = refl
+prepend-accepted (e ∷ es) fs = ap (front e) (prepend-accepted es fs)
+
 pub skip-forth : (d : ℕ) (ts : List Token) → skip (map (forth d) ts) ≡ map (forth d) (skip ts)
 unfolding skip
 skip-forth d [] = refl
