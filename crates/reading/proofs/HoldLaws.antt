@@ -1,7 +1,7 @@
 -- Cursors that hold a token of a text: what stands there, where the next one stands, and what the readers do there.
 use mathlib.Core.Path.{_≡_, refl, sym, ap, _∙_, subst}
 use mathlib.Core.Bool.{Bool, true, false, not}
-use mathlib.Core.List.{List, [], _∷_, _++_, append-assoc, map}
+use mathlib.Core.List.{List, [], _∷_, _++_, append-assoc, map, map-append}
 use Prim.Native.Nat.{ℕ, zero, suc, _+_, _-_, _≤_, _<_}
 use Prim.Native.String.{String}
 use native.Mathlib.Omega.{arith}
@@ -29,7 +29,7 @@ use Rattle.reading.specs.declared.answers.Took.{Took}
 use Rattle.reading.specs.declared.answers.Took.the-variants as took
 use Rattle.reading.specs.Scripts.{rebase}
 use Rattle.reading.proofs.Laws.{Quiet, skip-clear}
-use Rattle.reading.proofs.ScriptLaws.{quiet-nil, quiet-end, end-append, count-append, map-append}
+use Rattle.reading.proofs.ScriptLaws.{quiet-nil, quiet-end, end-append, count-append, forth-back}
 
 -- ---- counts
 
@@ -502,10 +502,6 @@ mark-further d zero i (b ∷ bs) = go (λ n. ap (λ (x : ℕ). markFrom (n - 1) 
     go ih (gap n) = ih n
     go ih (piece κ n) = let p : i + d + n ≡ i + n + d = omega arith in λ j. record { start = i + d; end = p j; code = κ }
     go ih (fault f) = refl
-
-forth-back : (d : ℕ) (ts : List Token) → map (back d) (map (forth d) ts) ≡ ts
-forth-back d [] = refl
-forth-back d (t ∷ ts) = let p : t .from + d - d ≡ t .from = omega arith in λ i. record { kind = t .kind; from = p i; text = t .text } ∷ forth-back d ts i
 
 module _ {t : List ℕ} {c : Cursor} (h : Holds t c) where
   abbrev D : ℕ

@@ -13,11 +13,11 @@ use Rattle.reading.specs.Trees.{Tree}
 use Rattle.reading.specs.Readers.{Out, ok, refused, Reader, bind, _>>=_, _>>_, first, is, give, failAt, peek, the, lastOf, closes}
 use Rattle.reading.specs.Grammar as G
 use Rattle.reading.specs.Grammar.{deeper, optional, dateOf, aDate, Words, Inner, deep, nextKind}
-use Rattle.reading.proofs.Laws.{Near, Reads, Law, loop-law}
+use Rattle.reading.proofs.Laws.{loop-law}
 use Rattle.reading.proofs.GrammarLaws.{Moves, InnerLaw, expression-law, blockTurn-law, named-law, payments-law, primary-law, target-law}
 use Rattle.reading.proofs.StatementLaws.{stops, payments-stop, near-tail, statement-tail}
 use Rattle.reading.proofs.EndingLaws.{Ends, Some, last-append, EachFirm, shallow, inside, primary-firm, bind-ends, if-ends, ask-ends, failAt-ends, the-some, the-last, kind-of, read-some}
-use Rattle.reading.proofs.ClosingLaws.{EachInnerFirm, flat, under}
+use Rattle.reading.proofs.ClosingLaws.{EachInnerFirm, flat, under, firm-deep, law-some}
 
 -- not `;`, `}` or a string
 abbrev pub unsealed : Token → Bool
@@ -36,7 +36,7 @@ pub data Still (x : List Token) : Type 0 where
   idle : x ≡ [] → Still x
   ended : Sealed x → Still x
 
-sealed-after : (x y : List Token) → Sealed y → Sealed (x ++ y)
+pub sealed-after : (x y : List Token) → Sealed y → Sealed (x ++ y)
 sealed-after x y q d = ap unsealed (last-append d x y) ∙ q (lastOf d x)
 
 still-still : (x y : List Token) → Still x → Still y → Still (x ++ y)
@@ -55,9 +55,6 @@ module _ {A B : Type 0} {m : Reader A} {f : A → Reader B} where
   still-then = bind-ends Still Still Still still-still
 
 module _ {A : Type 0} {m : Reader A} where
-  law-some : (c : A → ℕ) → Law Near c m → Ends Some m
-  law-some c h ts a r e = let M : Reads Near (c a) m ts a r = h ts a r e in (M .used, M .split, tt)
-
   sealed-is-keeps : Ends Sealed m → Ends Keeps m
   sealed-is-keeps h ts a r e = let M : (used : List Token) × (ts ≡ used ++ r) × Sealed used = h ts a r e in (M .0, M .1, λ d n. M .2 d)
 
@@ -241,13 +238,9 @@ module _ (W : Words) where
   plain-seals p (some i) h (under g f) = peek-seals λ t.
       search (if-seals, seals (ifOver-sealed i g), seals (forOver-sealed i g), paid-seals (some (i .primary)) (inside (g .primary) f), seals (ended-sealed p h))
 
-  each-deep : (o : Option Inner) → EachInnerFirm o → EachFirm (deep o)
-  each-deep none flat = shallow
-  each-deep (some i) (under h f) = inside (h .primary) f
-
   statementOver-seals : (p : Reader Tree) (o : Option Inner) → Moves p → EachInnerFirm o → Seals (G.statementOver W p o)
   unfolding G.statementOver
-  statementOver-seals p o h g ts a r e = if-seals (is "name" (first ts)) (nameFirst-seals p (deep o) h (each-deep o g) (nextKind ts)) (plain-seals p o h g) ts a r e
+  statementOver-seals p o h g ts a r e = if-seals (is "name" (first ts)) (nameFirst-seals p (deep o) h (firm-deep o g) (nextKind ts)) (plain-seals p o h g) ts a r e
 
   -- a statement ends in `;`, `}` or a string, unless pays stops at what stands behind it
   pub statement-seals : (d : ℕ) → Seals (G.statement W d)
