@@ -31,6 +31,7 @@ use Rattle.reading.specs.declared.answers.Number.{Number}
 use Rattle.reading.specs.declared.answers.Number.the-variants as number
 use Rattle.reading.proofs.HoldLaws.{end-in, ask-yes, ask-no, by-yes, by-no, takes-as}
 use Rattle.reading.proofs.AtomLaws.{string-wide, content-is, content-length}
+use Rattle.reading.proofs.StepLaws.{bind-refused}
 
 -- ---- one reader, then another
 
@@ -38,10 +39,6 @@ module _ {A B : Type 0} (m : Reader A) (ts : List Token) where
   pub then-ok : {a : A} {us : List Token} (f : A → Reader B) → m ts ≡ ok a us → (m >>= f) ts ≡ f a us
   unfolding _>>=_
   then-ok f e = ap (bind f) e
-
-  pub then-no : {k b : ℕ} (f : A → Reader B) → m ts ≡ refused k b → (m >>= f) ts ≡ refused k b
-  unfolding _>>=_
-  then-no f e = ap (bind f) e
 
   pub next-ok : {a : A} {us : List Token} (n : Reader B) → m ts ≡ ok a us → (m >> n) ts ≡ n us
   unfolding _>>_ _>>=_
@@ -90,11 +87,11 @@ module _ {t : List ℕ} {c : Cursor} (h : Holds t c) {A : Type 0} (k : ℕ) (a :
 
 pub date-not : (t : List ℕ) (c : Cursor) {b : ℕ} → theBy 5 (toksAt t (c .start)) ≡ refused 8 b → aDate (toksAt t (c .start)) ≡ refused 8 b
 unfolding aDate the code
-date-not t c e = then-no (theBy 5) (toksAt t (c .start)) dateOf e
+date-not t c e = bind-refused (theBy 5) dateOf (toksAt t (c .start)) _ _ e
 
 pub currency-not : (t : List ℕ) (c : Cursor) {b : ℕ} (W : Words) → theBy 5 (toksAt t (c .start)) ≡ refused 8 b → aCurrency W (toksAt t (c .start)) ≡ refused 8 b
 unfolding aCurrency the code
-currency-not t c W e = then-no (theBy 5) (toksAt t (c .start)) (currencyOf W) e
+currency-not t c W e = bind-refused (theBy 5) (currencyOf W) (toksAt t (c .start)) _ _ e
 
 -- the date in a token
 module _ (u : Token) (x : ℕ) (e : x ≡ date (content u)) (ts : List Token) where
@@ -174,7 +171,7 @@ pairBehind W a = aCurrency W >>= λ x. lateDate >>= λ y. give (node 32 [] (fiel
 pub equity-no : (t : List ℕ) (W : Words) (u : Token) (ts : List Token) {r : Number} {k b : ℕ} → r ≡ number.Refused k b → MeetsNumber t (optionalBy 46 0 aDate ts) r → equity W u ts ≡ refused k b
 unfolding equity optional the code
 equity-no t W u ts q y =
-    then-no lateDate ts (λ d. give (node 33 [] (fields (suc (u .from)) (length (content u)) d 0) nil)) (numbers-as t (lateDate ts) q y)
+    bind-refused lateDate (λ d. give (node 33 [] (fields (suc (u .from)) (length (content u)) d 0) nil)) ts _ _ (numbers-as t (lateDate ts) q y)
 
 pub equity-is : {t : List ℕ} {c : Cursor} (h : Holds t c) (s : c .code ≡ 5) (W : Words) (ts : List Token) {r : Number} {e : Cursor} {x : ℕ} → r ≡ number.Is e x → MeetsNumber t (optionalBy 46 0 aDate ts) r
     → MeetsLeaf t (equity W (tokenAt t c) ts) (leaf.Is e (record { kind = 33; nodes = 1; parts = 0; f1 = c .start + 1; f2 = c .end - c .start - 2; f3 = x; f4 = 0 }))
@@ -203,7 +200,7 @@ module _ {t : List ℕ} {c : Cursor} (h : Holds t c) (W : Words) (a : ℕ) where
     pub pair-no : {r : Number} {k b : ℕ} → r ≡ number.Refused k b → MeetsNumber t (aCurrency W (toksAt t (n .start))) r → pair W a (toksAt t (c .start)) ≡ refused k b
     pair-no q y =
         pair-on
-        ∙ then-no (aCurrency W) (toksAt t (n .start)) (λ x. lateDate >>= λ y. give (node 32 [] (fields a x y 0) nil)) (numbers-as t (aCurrency W (toksAt t (n .start))) q y)
+        ∙ bind-refused (aCurrency W) (λ x. lateDate >>= λ y. give (node 32 [] (fields a x y 0) nil)) (toksAt t (n .start)) _ _ (numbers-as t (aCurrency W (toksAt t (n .start))) q y)
 
     module _ {r : Number} {d : Cursor} {x : ℕ} (q : r ≡ number.Is d x) (y : MeetsNumber t (aCurrency W (toksAt t (n .start))) r) where
       pub pair-holds : Holds t d
@@ -216,7 +213,7 @@ module _ {t : List ℕ} {c : Cursor} (h : Holds t c) (W : Words) (a : ℕ) where
 
       pub pair-late : {r′ : Number} {k b : ℕ} → r′ ≡ number.Refused k b → MeetsNumber t (optionalBy 46 0 aDate (toksAt t (d .start))) r′ → pair W a (toksAt t (c .start)) ≡ refused k b
       pair-late q′ y′ =
-          pair-first ∙ then-no lateDate (toksAt t (d .start)) (λ y. give (node 32 [] (fields a x y 0) nil)) (numbers-as t (lateDate (toksAt t (d .start))) q′ y′)
+          pair-first ∙ bind-refused lateDate (λ y. give (node 32 [] (fields a x y 0) nil)) (toksAt t (d .start)) _ _ (numbers-as t (lateDate (toksAt t (d .start))) q′ y′)
 
       pub pair-is : {r′ : Number} {e : Cursor} {z : ℕ} → r′ ≡ number.Is e z → MeetsNumber t (optionalBy 46 0 aDate (toksAt t (d .start))) r′
           → (v : Node) → v ≡ record { kind = 32; nodes = 1; parts = 0; f1 = a; f2 = x; f3 = z; f4 = 0 } → MeetsLeaf t (pair W a (toksAt t (c .start))) (leaf.Is e v)
@@ -288,7 +285,7 @@ module _ (t : List ℕ) (W : Words) (c : Cursor) where
     unfolding spot the code
     spot-not q′ y′ =
         next-ok (theBy 40) (toksAt t (c .start)) spotBehind (takes-as t 40 c q y .2)
-        ∙ then-no (theBy 5) (toksAt t (n .start)) (λ u. spotOf W u >>= ending) (takes-as t 5 n q′ y′)
+        ∙ bind-refused (theBy 5) (λ u. spotOf W u >>= ending) (toksAt t (n .start)) _ _ (takes-as t 5 n q′ y′)
 
     pub spot-is : {r′ : Took} {d : Cursor} → r′ ≡ took.Next d → Takes t 5 n r′ → spot W (toksAt t (c .start)) ≡ bind ending (spotOf W (tokenAt t n) (toksAt t (d .start)))
     unfolding spot the code _>>=_
@@ -314,7 +311,7 @@ module _ {t : List ℕ} {c : Cursor} (h : Holds t c) (a : ℕ) where
     pub curve-no : {r : Took} {b : ℕ} → r ≡ took.Not b → Takes t 5 n r → curve a (toksAt t (c .start)) ≡ refused 8 b
     curve-no q y =
         curve-on
-        ∙ then-no (theBy 5) (toksAt t (n .start)) (λ u. give (node 34 [] (fields a (suc (u .from)) (length (content u)) 0) nil)) (takes-as t 5 n q y)
+        ∙ bind-refused (theBy 5) (λ u. give (node 34 [] (fields a (suc (u .from)) (length (content u)) 0) nil)) (toksAt t (n .start)) _ _ (takes-as t 5 n q y)
 
     pub curve-is : {r : Took} {d : Cursor} → r ≡ took.Next d → Takes t 5 n r
         → (x : Node) → x ≡ record { kind = 34; nodes = 1; parts = 0; f1 = a; f2 = n .start + 1; f3 = n .end - n .start - 2; f4 = 0 }
@@ -344,7 +341,7 @@ module _ (t : List ℕ) (c : Cursor) where
     unfolding df the code
     df-date q′ y′ =
         next-ok (theBy 40) (toksAt t (c .start)) dfBehind (takes-as t 40 c q y .2)
-        ∙ then-no aDate (toksAt t (d .start)) (λ x. curve x >>= ending) (numbers-as t (aDate (toksAt t (d .start))) q′ y′)
+        ∙ bind-refused aDate (λ x. curve x >>= ending) (toksAt t (d .start)) _ _ (numbers-as t (aDate (toksAt t (d .start))) q′ y′)
 
     pub df-is : {r′ : Number} {e : Cursor} {x : ℕ} → r′ ≡ number.Is e x → MeetsNumber t (aDate (toksAt t (d .start))) r′ → df (toksAt t (c .start)) ≡ bind ending (curve x (toksAt t (e .start)))
     unfolding df the code _>>=_
@@ -365,7 +362,7 @@ module _ (t : List ℕ) (k : ℕ) (c : Cursor) where
     pub lead-other : (d .code ≡ 5 → ⊥) → Leads t k c (took.Not (d .start))
     lead-other z f =
         next-ok (theBy k) (toksAt t (c .start)) (theBy 5 >>= f) (takes-as t k c q y .2)
-        ∙ then-no (theBy 5) (toksAt t (d .start)) f (by-no (takes-as t k c q y .0 .holds) 5 z)
+        ∙ bind-refused (theBy 5) f (toksAt t (d .start)) _ _ (by-no (takes-as t k c q y .0 .holds) 5 z)
 
     pub lead-is : d .code ≡ 5 → Leads t k c (took.Next d)
     lead-is s = (takes-as t k c q y .0 .holds, s, λ f. next-ok (theBy k) (toksAt t (c .start)) (theBy 5 >>= f) (takes-as t k c q y .2))
@@ -381,13 +378,13 @@ module _ (u v w : Token) (x : ℕ) (e : x ≡ date (content v)) (ts : List Token
   rateBehind a = dateOf w >>= λ b. give (node 35 [] (fields (suc (u .from)) (length (content u)) a b) nil)
 
   pub rate-first : x ≡ 0 → rateOf u v w ts ≡ refused 11 (v .from)
-  rate-first z = then-no (dateOf v) ts rateBehind (day-bad v x e ts z)
+  rate-first z = bind-refused (dateOf v) rateBehind ts _ _ (day-bad v x e ts z)
 
   module _ (o : x ≡ 0 → ⊥) (y : ℕ) (g : y ≡ date (content w)) where
     pub rate-second : y ≡ 0 → rateOf u v w ts ≡ refused 11 (w .from)
     rate-second z =
         then-ok (dateOf v) ts rateBehind (day-is v x e ts o)
-        ∙ then-no (dateOf w) ts (λ b. give (node 35 [] (fields (suc (u .from)) (length (content u)) x b) nil)) (day-bad w y g ts z)
+        ∙ bind-refused (dateOf w) (λ b. give (node 35 [] (fields (suc (u .from)) (length (content u)) x b) nil)) ts _ _ (day-bad w y g ts z)
 
     pub rate-both : (y ≡ 0 → ⊥) → rateOf u v w ts ≡ ok (node 35 [] (fields (suc (u .from)) (length (content u)) x y) nil) ts
     unfolding give

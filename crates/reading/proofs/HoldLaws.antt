@@ -475,6 +475,12 @@ module _ {t : List ℕ} {c d : Cursor} (w : Follows t c d) (some : c .code ≡ 0
   unfolding _>>_ _>>=_
   read-next m = ap (bind (λ a. m)) (w .reads some)
 
+-- there is a token to read
+pub reads-some : (ts : List Token) (u : Token) (b : ℕ) → read (ts ++ (u ∷ [])) ≡ refused 8 b → ⊥
+unfolding read
+reads-some [] u b e = let z : _≡_ {A = ℕ} 0 1 = cc in omega arith
+reads-some (t ∷ ts) u b e = let z : _≡_ {A = ℕ} 0 1 = cc in omega arith
+
 -- ---- the token of a code, taken or not
 
 pub takes-next : {t : List ℕ} {c d : Cursor} → Holds t c → Follows t c d → (k : ℕ) → (k ≡ 0 → ⊥) → c .code ≡ k → Takes t k c (took.Next d)

@@ -1,7 +1,7 @@
 -- Parts of a list, of a call and of a pays: what each step of the code comes to in the definition. Each law is over plain values.
 use mathlib.Core.Path.{_≡_, refl, sym, ap, _∙_}
 use mathlib.Core.Bool.{Bool, true, false, _||_, not}
-use mathlib.Core.List.{List, [], _∷_, _++_}
+use mathlib.Core.List.{List, [], _∷_}
 use mathlib.Core.Logic.{inl, inr}
 use Prim.Native.Nat.{ℕ, zero, suc, _+_, _-_, _*_, _≤_, _<_}
 use Prim.Native.String.{String}
@@ -31,12 +31,12 @@ use Rattle.reading.specs.declared.answers.Items.{Items}
 use Rattle.reading.specs.declared.answers.Items.the-variants as part
 use Rattle.reading.proofs.Laws.{loop-eq, left-shorter}
 use Rattle.reading.proofs.GrammarLaws.{Moves, Stays, Steps, laws, expression-law, payTurn-law, primary-law}
-use Rattle.reading.proofs.SizeLaws.{Sized, SizedAll, EachSized, nothing, just, expression-size, items-size, arguments-size, moves-less, primary-size}
-use Rattle.reading.proofs.HoldLaws.{toks-are, ask-yes, ask-no, peek-is, fail-is, read-next, the-next}
+use Rattle.reading.proofs.SizeLaws.{Sized, SizedAll, expression-size, items-size, arguments-size, moves-less, primary-size}
+use Rattle.reading.proofs.HoldLaws.{toks-are, ask-yes, ask-no, peek-is, fail-is, read-next, the-next, reads-some}
 use Rattle.reading.proofs.TreeLaws.{parts-snoc}
 use Rattle.reading.proofs.RowLaws.{size-node, size-some, parts-few, before-none, before-more, before-node}
 use Rattle.reading.proofs.ChainLaws.{reads-within}
-use Rattle.reading.proofs.StepLaws.{meets-as, deeper-none, deeper-some}
+use Rattle.reading.proofs.StepLaws.{meets-as, deeper-none, deeper-some, inner-sized}
 
 -- ---- signs
 
@@ -76,12 +76,6 @@ itemTurnBy-law k p h es = search (laws, expression-law, itemEnd-stays) depth 9
 pub itemsBy-size : (k : ℕ) → Closing k → (p : Reader Tree) → Sized p → SizedAll (itemsBy k p)
 itemsBy-size k (inl e) p h = rw (e, items-by-paren p) (items-size ")" p h)
 itemsBy-size k (inr e) p h = rw (e, items-by-bracket p) (items-size "]" p h)
-
--- there is a token to read
-reads-some : (ts : List Token) (u : Token) (b : ℕ) → read (ts ++ (u ∷ [])) ≡ refused 8 b → ⊥
-unfolding read
-reads-some [] u b e = let z : _≡_ {A = ℕ} 0 1 = cc in omega arith
-reads-some (t ∷ ts) u b e = let z : _≡_ {A = ℕ} 0 1 = cc in omega arith
 
 -- ---- strings of parts
 
@@ -450,11 +444,6 @@ kind-low w k e l u = go (leb 1 (callOf w calls .0)) e
         → k ≡ callOf w calls .0
     go true q = q
     go false q = absurd (other (same (bytes "Spot") w) (same (bytes "Df") w) (same (bytes "RateIndex") w) q)
-
-inner-sized : (W : Words) (d : ℕ) → EachSized (inner W d)
-unfolding inner
-inner-sized W zero = nothing
-inner-sized W (suc d) = just (primary-size W d)
 
 -- what was read behind a name, with what is left, is no more than there was
 pub arguments-within : (W : Words) (depth : ℕ) (t : List ℕ) (c : Cursor) (n : ℕ) (o : List ℕ) (d : Cursor) (m k : ℕ) (x : Texts) (o′ : List ℕ)

@@ -1,7 +1,7 @@
 -- Postfixes and names: what each step of the code comes to in the definition, over plain values.
 use mathlib.Core.Path.{_≡_, refl, sym, ap, _∙_, subst}
 use mathlib.Core.Bool.{Bool, true, false, _&&_, _||_, not, true≢false}
-use mathlib.Core.List.{List, [], _∷_, _++_}
+use mathlib.Core.List.{List, [], _∷_}
 use mathlib.Core.Option.{Option}
 use Prim.Native.Nat.{ℕ, zero, suc, _+_, _-_, _*_, _≤_, _<_}
 use Prim.Native.String.{String}
@@ -29,8 +29,8 @@ use Rattle.reading.specs.declared.answers.Items.{Items}
 use Rattle.reading.specs.declared.answers.Items.the-variants as part
 use Rattle.reading.proofs.Laws.{loop-eq}
 use Rattle.reading.proofs.GrammarLaws.{Each, nothing, just, Moves, expression-law, postfixTurn-law, primary-law}
-use Rattle.reading.proofs.SizeLaws.{Sized, EachSized, nothing as no-size, just as sized, moves-less, expression-size, arguments-spare, named-size, primary-size}
-use Rattle.reading.proofs.HoldLaws.{toks-are, peek-is, read-next, the-then, the-next, the-then-not, the-next-not}
+use Rattle.reading.proofs.SizeLaws.{Sized, EachSized, moves-less, expression-size, arguments-spare, named-size}
+use Rattle.reading.proofs.HoldLaws.{toks-are, peek-is, read-next, the-then, the-next, the-then-not, the-next-not, reads-some}
 use Rattle.reading.proofs.RowLaws.{size-some, size-node, size-two, sizes-front, parts-few, put-front, put-rows-same, after-two, before-node}
 use Rattle.reading.proofs.ChainLaws.{reads-within}
 use Rattle.reading.proofs.StepLaws.{meets-as, bind-refused, deeper-none, deeper-some}
@@ -55,17 +55,8 @@ pub onward-done : (t : List ℕ) (c : Cursor) (n : ℕ) (r : Read) (d : Cursor) 
     → Ready t d m × (n < m) × (length (toksAt t (d .start)) < length (toksAt t (c .start)))
 onward-done t c n r d m q e h = rw e at h
 
-pub items-done : (t : List ℕ) (R : Out Trees) (n : ℕ) (o : List ℕ) (i : Items) (o′ : List ℕ) (c : Cursor) (m k : ℕ) (x : Texts) → i ≡ part.Done c m k x
-    → MeetsItems t R n o i o′ → ReadsItems t R n o c m k x o′
-items-done t R n o i o′ c m k x e h = rw e at h
-
 pub took-next : (t : List ℕ) (k : ℕ) (c : Cursor) (a : Took) (d : Cursor) → a ≡ took.Next d → Takes t k c a → Follows t c d × (c .code ≡ k)
 took-next t k c a d e h = let g : Takes t k c (took.Next d) = (rw e at h) in (g .0, g .1)
-
-read-some : (l : List Token) (u : Token) (b : ℕ) → read (l ++ (u ∷ [])) ≡ refused 8 b → ⊥
-unfolding read
-read-some [] u b e = let z : _≡_ {A = ℕ} 0 1 = cc in omega arith
-read-some (x ∷ l) u b e = let z : _≡_ {A = ℕ} 0 1 = cc in omega arith
 
 -- a token that was not taken is of another kind
 pub took-not : (t : List ℕ) (c : Cursor) → Holds t c → (k : ℕ) (a : Took) (b : ℕ) → a ≡ took.Not b → Takes t k c a → c .code ≡ k → ⊥
@@ -73,7 +64,7 @@ took-not t c h k a b e w q =
     let g : theBy k (toksAt t (c .start)) ≡ refused 8 b = (rw e at w) in
     let f : theBy k (toksAt t (c .start)) ≡ read (toksAt t (c .start))
     = peek-is h (λ u. if eqb k (u .kind) then read else fail 8) ∙ ap (λ (x : Bool). (if x then read else fail 8) (toksAt t (c .start))) (eq-eqb k (c .code) (sym q)) in
-    read-some (h .left) (final (length t)) b (ap read (sym (toks-are h)) ∙ (sym f ∙ g))
+    reads-some (h .left) (final (length t)) b (ap read (sym (toks-are h)) ∙ (sym f ∙ g))
 
 -- behind a token there is room for what there was room for
 pub ready-behind : (t : List ℕ) (c d : Cursor) (n k : ℕ) → Room t c n → Follows t c d → c .code ≡ suc k → Ready t d n
@@ -85,11 +76,6 @@ pub each-inner : (W : Words) (d : ℕ) → Each (inner W d)
 unfolding inner
 each-inner W zero = nothing
 each-inner W (suc d) = just (primary-law W d)
-
-pub inner-sized : (W : Words) (d : ℕ) → EachSized (inner W d)
-unfolding inner
-inner-sized W zero = no-size
-inner-sized W (suc d) = sized (primary-size W d)
 
 -- ---- an index, behind its `[`
 

@@ -2,7 +2,7 @@
 use mathlib.Core.Path.{_≡_, refl, sym, ap, _∙_, subst}
 use mathlib.Core.Bool.{Bool, true, false, not, true≢false}
 use mathlib.Core.List.{List, [], _∷_, _++_, append-assoc, append-nil, map, map-append}
-use Prim.Native.Nat.{ℕ, zero, suc, _+_, _-_, _≤_}
+use Prim.Native.Nat.{ℕ, suc, _+_, _-_, _≤_}
 use native.Mathlib.Omega.{arith}
 use lib.Seq.{drop-append-seam}
 use lib.ListN.{length, take, drop, length-append, length-map}
@@ -467,9 +467,5 @@ module _ (W : Words) where
   tokens-exact l f es n fe a h =
       let L : Left W 0 (l ++ (f ∷ [])) es [] = from-run W es [] 0 (l ++ (f ∷ [])) (h ∙ ap accepted (sym (append-nil es))) in
       let R : Reach (l ++ (f ∷ [])) es (L .0) (L .1) = reach W (L .2) a in
-      let some : 1 ≤ count counts (map (forth (L .0)) (L .1)) = positive (count counts (map (forth (L .0)) (L .1))) (left-some (L .2) l f fe refl (R .head) (R .split)) in
+      let some : 1 ≤ count counts (map (forth (L .0)) (L .1)) = omega (arith, (left-some (L .2) l f fe refl (R .head) (R .split))) in
       omega (arith, tokens-all l f es n fe a h, end-counts l f fe, ap (count counts) (R .split), count-append (R .head) (map (forth (L .0)) (L .1)), R .tokens)
-    where
-      positive : (k : ℕ) → (k ≡ 0 → ⊥) → 1 ≤ k
-      positive zero g = absurd (g refl)
-      positive (suc k) g = omega arith

@@ -12,7 +12,7 @@ use lib.ListN.{length}
 use Rattle.tokens.specs.Text.{within}
 use Rattle.tokens.specs.Tokens.{Token, code}
 use Rattle.tokens.specs.declared.cursor.Cursor.{Cursor}
-use Rattle.reading.specs.Trees.{Tree, node, nil, _▹_, none as unused, row}
+use Rattle.reading.specs.Trees.{Tree, node, nil, _▹_, fields, none as unused, row}
 use Rattle.reading.specs.Readers.{Out, refused, Reader, _>>=_, _>>_, is, give, failAt, ask, read, the}
 use Rattle.reading.specs.Grammar.{Words, binary, deeper, sum, comparison, expression, minus, negative, parenthesis, pays, name, primaryOver, primary}
 use Rattle.reading.specs.Rows.{putRow, nodeRow}
@@ -25,7 +25,7 @@ use Rattle.reading.specs.Turns.{inner, parenthesised, listPostfixed, com
 use Rattle.reading.specs.declared.answers.Read.{Read}
 use Rattle.reading.specs.declared.answers.Read.the-variants.{Done, Refused}
 use Rattle.reading.specs.declared.answers.Took.the-variants as took
-use Rattle.reading.proofs.SizeLaws.{Sized}
+use Rattle.reading.proofs.SizeLaws.{Sized, EachSized, nothing, just, primary-size}
 use Rattle.reading.proofs.HoldLaws.{ask-yes, ask-no, peek-is, read-then, read-next, the-next}
 use Rattle.reading.proofs.RowLaws.{size-some, size-one, size-two, after-one, after-two}
 use Rattle.reading.proofs.ChainLaws.{reads-within, binary-plain, by-sign}
@@ -70,6 +70,11 @@ pub inner-some : (W : Words) (d : ℕ) → (d ≡ 0 → ⊥) → inner W d ≡ s
 unfolding inner
 inner-some W zero h = absurd (h refl)
 inner-some W (suc d) h = let q : suc d - 1 ≡ d = omega arith in rw q
+
+pub inner-sized : (W : Words) (d : ℕ) → EachSized (inner W d)
+unfolding inner
+inner-sized W zero = nothing
+inner-sized W (suc d) = just (primary-size W d)
 
 module _ {A : Type 0} where
   pub deeper-none : (u : Token) (W : Words) (d : ℕ) (k : Reader Tree → Reader A) (ts : List Token) → d ≡ 0 → deeper u (inner W d) k ts ≡ refused 15 (u .from)
@@ -255,10 +260,10 @@ module _ (W : Words) (t : List ℕ) (c d : Cursor) (n : ℕ) (o : List ℕ) (dep
 pub follow-ready : (t : List ℕ) (c d : Cursor) (n : ℕ) → (c .code ≡ 0 → ⊥) → Follows t c d → Ready t c n → Ready t d n × Room t d (n + 3)
 follow-ready t c d n some-token w r = ((w .holds, omega (arith, r .1, w .fewer some-token)), omega (arith, r .1, w .fewer some-token))
 
--- the record of a node without fields
-pub put-plain : (o o₃ : List ℕ) (m k w v : ℕ) (x : Node) → x ≡ record { kind = k; nodes = w; parts = v; f1 = 0; f2 = 0; f3 = 0; f4 = 0 } → o₃ ≡ putRow o m (nodeRow x)
-    → o₃ ≡ putRow o m (row k w v unused)
-put-plain o o₃ m k w v x e h = h ∙ ap (λ (y : Node). putRow o m (nodeRow y)) e
+-- the record of a node with no more than two fields
+pub put-fields : (o o₃ : List ℕ) (m k w v a b : ℕ) (x : Node) → x ≡ record { kind = k; nodes = w; parts = v; f1 = a; f2 = b; f3 = 0; f4 = 0 } → o₃ ≡ putRow o m (nodeRow x)
+    → o₃ ≡ putRow o m (row k w v (fields a b 0 0))
+put-fields o o₃ m k w v a b x e h = h ∙ ap (λ (y : Node). putRow o m (nodeRow y)) e
 
 -- ---- a primary, by the code of its first token
 
