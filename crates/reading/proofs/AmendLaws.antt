@@ -15,12 +15,12 @@ use Rattle.tokens.specs.Tokens.{Token, code, counts}
 use Rattle.reading.specs.Trees.{Tree}
 use Rattle.reading.specs.Readers.{Reader, Out, ok, refused as wrong, first, is, skip, lastOf, closes}
 use Rattle.reading.specs.Grammar.{Words, statement}
-use Rattle.reading.specs.Script.{Entry, Outcome, accepted, refused, back, from, turn, onward, front, entryOf, movedEntry}
+use Rattle.reading.specs.Script.{Entry, Outcome, accepted, refused, back, from, turn, onward, front, entryOf}
 use Rattle.reading.specs.Computing.{computing}
 use Rattle.reading.proofs.Laws.{Near, Follows, Quiet, Reads, nil-not, lead, lead-skip, skip-lead, skip-first, skip-clear}
 use Rattle.reading.proofs.StatementLaws.{Tail, stops, near-tail, statement-tail}
 use Rattle.reading.proofs.EndingLaws.{last-append}
-use Rattle.reading.proofs.ScriptLaws.{forth, moved, skip-forth, from-forth, from-moved, prepend, Left, Run, none, more, run-from, from-run, Replaced, run-tail, from-eq, Step, step-of, step-by, last-one, in-front, Parts, map-parts, quiet-nil, quiet-last, back-back, last-map, forth-back}
+use Rattle.reading.proofs.ScriptLaws.{forth, prepend, Left, Run, none, more, run-from, from-run, Replaced, run-tail, from-eq, Step, step-of, step-by, last-one, in-front, Parts, map-parts, quiet-nil, quiet-last, back-back, last-map, forth-back}
 use Rattle.reading.proofs.ClosingLaws.{statement-closed, statement-noEnd, NoEnd}
 
 -- a token that no statement goes on with, and that no statement's pays stops at
@@ -366,29 +366,3 @@ module _ (W : Words) where
 
       RC : Replaced W Loose b (tn ++ (f ∷ [])) (n ∷ ns) δ r
       RC = run-closed (L .2) (λ x y w m d. ap (λ l. closes (lastOf d l)) (headIs x y w m) ∙ cl d)
-
-  -- ---- the theorem on tokens
-
-  abbrev pub shifted : ℕ → List Token → List Token
-  shifted d ts = map (forth d) ts
-
-  -- A script with the tokens ts, whose places are from the byte b, has the statements es and behind them others. Its tokens up to those others are K .head.
-  -- Behind them, at a distance p, are put the tokens tn of a text with the statements ns, and behind these, at the distance M .δ from the text's start, the tokens y.
-  -- The statements are then es, ns, and those of y
-  pub amended : (b : ℕ) (ts : List Token) (es es′ : List Entry) (K : Kept b ts es es′) (p : ℕ) (tn : List Token) (f : Token) (ns : List Entry) (M : Mid (b + K .δ + p) tn f ns) (y : List Token)
-      → Apart (first (skip (tn ++ shifted (M .δ) y))) → Apart (first (skip y))
-      → from W b (K .head ++ shifted (K .δ) (shifted p (tn ++ shifted (M .δ) y))) ≡ prepend es (prepend ns (from W (b + K .δ + p + M .δ) y))
-  amended b ts es es′ K p tn f ns M y a c =
-      K .goes (shifted p (tn ++ shifted (M .δ) y)) (apart-forth p (tn ++ shifted (M .δ) y) a)
-      ∙ ap (prepend es) (from-forth W (b + K .δ) p (tn ++ shifted (M .δ) y) ∙ M .goes y c)
-    where
-      apart-forth : (d : ℕ) (x : List Token) → Apart (first (skip x)) → Apart (first (skip (shifted d x)))
-      apart-forth d x q = subst (λ (l : List Token). Apart (first l)) (sym (skip-forth d x)) (go (skip x) q)
-        where
-          go : (l : List Token) → Apart (first l) → Apart (first (shifted d l))
-          go [] k = k
-          go (t ∷ l) k = record { noElse = k .noElse; noOn = k .noOn; noIn = k .noIn; noSemicolon = k .noSemicolon; noLine = k .noLine }
-
-  -- the statements of a text that stands n bytes further on than it did: what `amended` leaves of the others behind
-  pub others-moved : (b n : ℕ) (y : List Token) (es : List Entry) → from W b y ≡ accepted es → from W (b + n) y ≡ accepted (map (movedEntry n) es)
-  others-moved b n y es h = from-moved W b n y ∙ ap (moved n) h

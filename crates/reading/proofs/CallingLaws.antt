@@ -15,11 +15,11 @@ use Rattle.tokens.specs.declared.cursor.Cursor.{Cursor}
 use Rattle.tokens.proofs.Shapes.{leading-le}
 use Rattle.reading.specs.Trees.{Tree, Trees, node, nil, _▹_, fields, parts, row}
 use Rattle.reading.specs.Readers.{Out, ok, refused, Reader, bind, _>>=_, _>>_, Turn, again, is, give, fail, the}
-use Rattle.reading.specs.Grammar.{Words, isString, textOf, optional, aDate, aCurrency, currencyOf, equity, pair, spot, named, payday}
+use Rattle.reading.specs.Grammar.{Words, isString, textOf, optional, aDate, aCurrency, named, payday}
 use Rattle.reading.specs.Rows.{nodeRow, putRow}
 use Rattle.reading.specs.Calls.{rightCount, optionalBy}
 use Rattle.reading.specs.Meets.{wordsIn, toksAt, tokenAt, Holds, Follows, stringAt, Quoted, Reads, MeetsLeaf, Before}
-use Rattle.reading.specs.Turns.{itemEnd, Shown, contentAt, cvgFault, callFault, specialOf}
+use Rattle.reading.specs.Turns.{itemEnd, Shown, contentAt, cvgFault, callFault}
 use Rattle.reading.specs.declared.answers.Texts.{Texts}
 use Rattle.reading.specs.declared.records.Node.{Node}
 use Rattle.reading.specs.declared.answers.Leaf.the-variants as leaf
@@ -212,11 +212,3 @@ module _ (r c d : List ℕ) where
   pub named-words : (t : Token) → named (wordsIn r [] []) t ≡ named (wordsIn r c d) t
   unfolding named
   named-words t = refl
-
-  pub special-words : (k : ℕ) → specialOf (wordsIn [] c []) k ≡ specialOf (wordsIn r c d) k
-  unfolding spot equity pair aCurrency currencyOf
-  special-words k = refl
-
-  pub payday-words : (es : Trees) → payday (wordsIn [] c []) es ≡ payday (wordsIn r c d) es
-  unfolding aCurrency currencyOf
-  payday-words es = refl

@@ -263,9 +263,6 @@ module _ {t : List ℕ} {c : Cursor} (h : Holds t c) where
   pub first-from : first (toksAt t (c .start)) .from ≡ c .start
   first-from = ap (λ (u : Token). u .from) first-is
 
-  pub code-low : c .code < 100
-  code-low = rw (h .code-is) at (whole t (c .start) (h .left) (h .here))
-
   pub start-in : c .start ≤ c .end
   start-in = go held
     where

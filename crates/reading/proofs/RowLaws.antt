@@ -66,10 +66,6 @@ pub rows-node : (k : ℕ) (x : List ℕ) (f : Fields) (ts : Trees) → rows (nod
 unfolding rows
 rows-node k x f ts = refl
 
-pub rowsOf-nil : rowsOf nil ≡ []
-unfolding rows
-rowsOf-nil = refl
-
 pub rowsOf-front : (t : Tree) (ts : Trees) → rowsOf (t ▹ ts) ≡ rows t ++ rowsOf ts
 unfolding rows
 rowsOf-front t ts = refl
@@ -100,16 +96,7 @@ module _ (w : ℕ) where
   unfolding putAt
   putAt-length o n r = either-length (ltb n (length o / w)) o (putWords o (w * n) r) (putWords-length o (w * n) r)
 
-  pub putAll-length : (o : List ℕ) (n : ℕ) (rs : List (List ℕ)) → length (putAll w o n rs) ≡ length o
-  unfolding putAll
-  putAll-length o n [] = refl
-  putAll-length o n (r ∷ rs) = putAll-length (putAt w o n r) (n + 1) rs ∙ putAt-length o n r
-
   -- ---- the memory, by the rows
-
-  pub putAll-nil : (o : List ℕ) (n : ℕ) → putAll w o n [] ≡ o
-  unfolding putAll
-  putAll-nil o n = refl
 
   pub putAll-one : (o : List ℕ) (n : ℕ) (r : List ℕ) → putAll w o n (r ∷ []) ≡ putAt w o n r
   unfolding putAll
@@ -196,10 +183,6 @@ module _ (o : List ℕ) (n k : ℕ) (x : List ℕ) (f : Fields) {o₂ : List ℕ
 
 pub before-none : (n : ℕ) (o : List ℕ) → Before n o nil n o
 before-none n o = record { counts = omega (arith, sizes-nil); writes = sym (put-nil o n) }
-
-pub before-one : {n m : ℕ} {o o₁ : List ℕ} (t : Tree) → m ≡ n + size t → o₁ ≡ putRows o n (rows t) → Before n o (t ▹ nil) m o₁
-before-one {n} {o} t e w =
-    record { counts = omega (arith, sizes-front t nil, sizes-nil); writes = w ∙ sym (put-single o n t) }
 
 pub before-more : {n m m′ : ℕ} {o o₁ o₂ : List ℕ} {ts : Trees} (t : Tree) → Before n o ts m o₁ → m′ ≡ m + size t → o₂ ≡ putRows o₁ m (rows t)
     → Before n o (snoc ts t) m′ o₂
