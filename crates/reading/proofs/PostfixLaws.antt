@@ -329,21 +329,18 @@ module _ (I : Option (Reader Tree)) (each : Each I) (t : List ℕ) where
         or-right false b e = e
 
     module _ (r : Read) (o₂ : List ℕ) (turn : MeetsTurns t (λ x. postfixTurn I x (toksAt t (c .start))) n m o′ c r o₂) where
+      g : MeetsTurn t (postfixTurn I (ch .tree) (toksAt t (c .start))) n o r o₂
+      g = turn .0 (ch .tree) o (ch .tops)
+
       pub post-refused : (k b : ℕ) → r ≡ Refused k b → Meets t R n o r o₂
       post-refused k b e = rw e (turn-of ∙ ap (follow (loop (postfixTurn I))) f)
         where
-          g : MeetsTurn t (postfixTurn I (ch .tree) (toksAt t (c .start))) n o r o₂
-          g = turn .0 (ch .tree) o (ch .tops)
-
           f : postfixTurn I (ch .tree) (toksAt t (c .start)) ≡ refused k b
           f = rw e at g
 
       pub post-more : (d : Cursor) (j q : ℕ) → r ≡ Done d j q → PostChain I t R n o d j o₂
       post-more d j q e = record { tree = f .tree; is = turn-of ∙ (rw (f .is)); tops = f .tops }
         where
-          g : MeetsTurn t (postfixTurn I (ch .tree) (toksAt t (c .start))) n o r o₂
-          g = turn .0 (ch .tree) o (ch .tops)
-
           f : ReadsTurn t (postfixTurn I (ch .tree) (toksAt t (c .start))) n o d j o₂
           f = rw e at g
 
