@@ -1,10 +1,9 @@
 -- Parts of a list, of a call and of a pays: what each step of the code comes to in the definition. Each law is over plain values.
 use mathlib.Core.Path.{_≡_, refl, sym, ap, _∙_}
 use mathlib.Core.Bool.{Bool, true, false, _||_, not}
-use mathlib.Core.List.{List, [], _∷_}
+use mathlib.Core.List.{List, []}
 use mathlib.Core.Logic.{inl, inr}
 use Prim.Native.Nat.{ℕ, zero, suc, _+_, _-_, _*_, _≤_, _<_}
-use Prim.Native.String.{String}
 use native.Mathlib.Omega.{arith}
 use lib.Dec.{eqb, leb}
 use borrow.Author.Tests.{eq-eqb, ne-eqb, eqb-true, eqb-false, le-leb, leb-true}
@@ -36,7 +35,7 @@ use Rattle.reading.proofs.HoldLaws.{toks-are, ask-yes, ask-no, peek-is,
 use Rattle.reading.proofs.TreeLaws.{parts-snoc}
 use Rattle.reading.proofs.RowLaws.{size-node, size-some, parts-few, before-none, before-more, before-node}
 use Rattle.reading.proofs.ChainLaws.{reads-within}
-use Rattle.reading.proofs.StepLaws.{meets-as, deeper-none, deeper-some, inner-sized}
+use Rattle.reading.proofs.StepLaws.{meets-as, deeper-none, deeper-some, inner-sized, AllRows, row-says}
 
 -- ---- signs
 
@@ -393,11 +392,7 @@ within-one k n = go (eqb n k) (leb k n) (leb n k) refl refl refl
 abbrev Right : (ℕ × ℕ × ℕ) → Type 0
 Right c = 1 ≤ c .0 → (c .0 ≡ 5 → ⊥) × ((n : ℕ) → within (c .1) (c .2) n ≡ rightCount (c .0) n)
 
-abbrev AllRight : List (String × (ℕ × ℕ × ℕ)) → Type 0
-AllRight [] = Unit {0}
-AllRight (c ∷ cs) = Right (c .1) × AllRight cs
-
-calls-right : AllRight calls
+calls-right : AllRows Right calls
 unfolding rightCount
 calls-right = (
   λ h. (λ e. omega arith, within-one 1),
@@ -418,15 +413,6 @@ calls-right = (
     ),
   ),
 )
-
-callOf-right : (w : List ℕ) (cs : List (String × (ℕ × ℕ × ℕ))) → AllRight cs → Right (callOf w cs)
-unfolding callOf
-callOf-right w [] a = λ h. absurd (omega (arith, h))
-callOf-right w (c ∷ cs) a = go (same (bytes (c .0)) w) (callOf-right w cs (a .1))
-  where
-    go : (b : Bool) → Right (callOf w cs) → Right (elim b as (λ _. ℕ × ℕ × ℕ) [ true ↦ c .1 | false ↦ callOf w cs ])
-    go true ih = a .0
-    go false ih = ih
 
 -- a kind that is an ordinary call's
 kind-low : (w : List ℕ) (k : ℕ) → k ≡ callKind w → 1 ≤ k → k < 32 → k ≡ callOf w calls .0
@@ -460,7 +446,7 @@ module _ (W : Words) (depth : ℕ) (tok : Token) (k : ℕ) (e : k ≡ callKind (
   row-kind = sym (kind-low (tok .text) k e l u)
 
   row-right : (Row .0 ≡ 5 → ⊥) × ((n : ℕ) → within (Row .1) (Row .2) n ≡ rightCount (Row .0) n)
-  row-right = callOf-right (tok .text) calls calls-right (omega (arith, row-kind, l))
+  row-right = row-says Right (tok .text) calls (λ h. absurd (omega (arith, h))) calls-right (omega (arith, row-kind, l))
 
   pub call-plain : k ≡ 5 → ⊥
   call-plain q = row-right .0 (row-kind ∙ q)

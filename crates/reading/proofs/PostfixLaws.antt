@@ -1,10 +1,9 @@
 -- Postfixes and names: what each step of the code comes to in the definition, over plain values.
 use mathlib.Core.Path.{_≡_, refl, sym, ap, _∙_, subst}
 use mathlib.Core.Bool.{Bool, true, false, _&&_, _||_, not, true≢false}
-use mathlib.Core.List.{List, [], _∷_}
+use mathlib.Core.List.{List, []}
 use mathlib.Core.Option.{Option}
 use Prim.Native.Nat.{ℕ, zero, suc, _+_, _-_, _*_, _≤_, _<_}
-use Prim.Native.String.{String}
 use native.Mathlib.Omega.{arith}
 use lib.Dec.{eqb, leb}
 use borrow.Author.Tests.{eq-eqb, ne-eqb, eqb-true, leb-true}
@@ -33,7 +32,7 @@ use Rattle.reading.proofs.SizeLaws.{Sized, EachSized, moves-less, expre
 use Rattle.reading.proofs.HoldLaws.{toks-are, peek-is, read-next, the-then, the-next, the-then-not, the-next-not, reads-some}
 use Rattle.reading.proofs.RowLaws.{size-some, size-node, size-two, sizes-front, parts-few, put-front, put-rows-same, after-two, before-node}
 use Rattle.reading.proofs.ChainLaws.{reads-within}
-use Rattle.reading.proofs.StepLaws.{meets-as, bind-refused, deeper-none, deeper-some}
+use Rattle.reading.proofs.StepLaws.{meets-as, bind-refused, deeper-none, deeper-some, row-says}
 
 -- ---- answers of calls, as the code takes them apart
 
@@ -350,21 +349,8 @@ pub above : (k : ℕ) → (k ≡ 0 → ⊥) → 1 ≤ k
 above zero z = absurd (z refl)
 above (suc k) z = omega arith
 
-abbrev Lows : List (String × (ℕ × ℕ × ℕ)) → Type 0
-Lows [] = Unit {0}
-Lows (c ∷ cs) = (c .1 .0 < 32) × Lows cs
-
-either-low : (b : Bool) (x y : ℕ × ℕ × ℕ) → x .0 < 32 → y .0 < 32 → (let v : ℕ × ℕ × ℕ = elim b [ true ↦ x | false ↦ y ] in v .0) < 32
-either-low true x y h g = h
-either-low false x y h g = g
-
-rows-low : (w : List ℕ) (cs : List (String × (ℕ × ℕ × ℕ))) → Lows cs → callOf w cs .0 < 32
-unfolding callOf
-rows-low w [] h = omega arith
-rows-low w (c ∷ cs) h = either-low (same (bytes (c .0)) w) (c .1) (callOf w cs) (h .0) (rows-low w cs (h .1))
-
 call-low : (w : List ℕ) → callOf w calls .0 < 32
-call-low w = rows-low w calls (omega arith, (omega arith, (omega arith, (omega arith, (omega arith, (omega arith, (omega arith, (omega arith, tt))))))))
+call-low w = row-says (λ c. c .0 < 32) w calls (omega arith) (omega arith, (omega arith, (omega arith, (omega arith, (omega arith, (omega arith, (omega arith, (omega arith, tt))))))))
 
 module _ (W : Words) (I : Option (Reader Tree)) (u : Token) (ts : List Token) where
   abbrev Named : ℕ → Reader Tree → Type 0

@@ -1,20 +1,21 @@
 -- What each step of the expression readers' code comes to in the definition. Each law is over plain values, and an answer of a
 -- proof cites one.
 use mathlib.Core.Path.{_≡_, refl, sym, ap, _∙_}
-use mathlib.Core.Bool.{true, false, true≢false}
-use mathlib.Core.List.{List, []}
+use mathlib.Core.Bool.{Bool, true, false, true≢false}
+use mathlib.Core.List.{List, [], _∷_}
 use mathlib.Core.Option.{none, some}
 use Prim.Native.Nat.{ℕ, zero, suc, _+_, _-_, _*_, _≤_, _<_}
+use Prim.Native.String.{String}
 use native.Mathlib.Omega.{arith}
 use lib.Dec.{eqb}
 use borrow.Author.Tests.{ne-eqb}
 use lib.ListN.{length}
-use Rattle.tokens.specs.Text.{within}
+use Rattle.tokens.specs.Text.{bytes, same, within}
 use Rattle.tokens.specs.Tokens.{Token, code}
 use Rattle.tokens.specs.declared.cursor.Cursor.{Cursor}
 use Rattle.reading.specs.Trees.{Tree, node, nil, _▹_, fields, none as unused, row}
 use Rattle.reading.specs.Readers.{Out, refused, Reader, _>>=_, _>>_, is, give, failAt, ask, read, the}
-use Rattle.reading.specs.Grammar.{Words, binary, deeper, sum, comparison, expression, minus, negative, parenthesis, pays, name, primaryOver, primary}
+use Rattle.reading.specs.Grammar.{callOf, Words, binary, deeper, sum, comparison, expression, minus, negative, parenthesis, pays, name, primaryOver, primary}
 use Rattle.reading.specs.Rows.{putRow, nodeRow}
 use Rattle.reading.specs.Joins.{Joins}
 use Rattle.reading.specs.declared.records.Node.{Node}
@@ -264,6 +265,22 @@ follow-ready t c d n some-token w r = ((w .holds, omega (arith, r .1, w .fewer s
 pub put-fields : (o o₃ : List ℕ) (m k w v a b : ℕ) (x : Node) → x ≡ record { kind = k; nodes = w; parts = v; f1 = a; f2 = b; f3 = 0; f4 = 0 } → o₃ ≡ putRow o m (nodeRow x)
     → o₃ ≡ putRow o m (row k w v (fields a b 0 0))
 put-fields o o₃ m k w v a b x e h = h ∙ ap (λ (y : Node). putRow o m (nodeRow y)) e
+
+-- ---- the table of calls
+
+abbrev pub AllRows : ((ℕ × ℕ × ℕ) → Type 0) → List (String × (ℕ × ℕ × ℕ)) → Type 0
+AllRows P [] = Unit {0}
+AllRows P (c ∷ cs) = P (c .1) × AllRows P cs
+
+-- what each row says, and no row at all, is so of a name's row
+pub row-says : (P : (ℕ × ℕ × ℕ) → Type 0) (w : List ℕ) (cs : List (String × (ℕ × ℕ × ℕ))) → P (0, 0, 0) → AllRows P cs → P (callOf w cs)
+unfolding callOf
+row-says P w [] z a = z
+row-says P w (c ∷ cs) z a = go (same (bytes (c .0)) w) (row-says P w cs z (a .1))
+  where
+    go : (b : Bool) → P (callOf w cs) → P (elim b as (λ _. ℕ × ℕ × ℕ) [ true ↦ c .1 | false ↦ callOf w cs ])
+    go true ih = a .0
+    go false ih = ih
 
 -- ---- a primary, by the code of its first token
 
