@@ -280,10 +280,7 @@ module _ (W : Words) where
       from-eq b _
       ∙ ap (turn W (from W) b) (ap skip s ∙ skip-quiet nl u us q n)
       ∙ turn-one (from W) b u us t r e h
-      ∙ ap (front (entryOf (b + u .from) (map (back (u .from)) (u ∷ us)) t r)) (run-from run ∙ ap (λ (x : ℕ). prepend es (from W x r′)) (assoc b (u .from) δ))
-    where
-      assoc : (x y z : ℕ) → x + y + z ≡ x + (y + z)
-      assoc x y z = omega arith
+      ∙ ap (front (entryOf (b + u .from) (map (back (u .from)) (u ∷ us)) t r)) (run-from run ∙ ap (λ (x : ℕ). prepend es (from W x r′)) (add-assoc b (u .from) δ))
 
   abbrev pub Left : ℕ → List Token → List Entry → List Entry → Type 0
   Left b ts es es′ = (δ : ℕ) × (r : List Token) × Run b ts es δ r × (from W (b + δ) r ≡ accepted es′)

@@ -85,13 +85,13 @@ use Rattle.reading.specs.Meets.{toksAt, wordsIn, tokenAt, Ready}
 use borrow.Author.Tests.{not-true, not-false}
 use mathlib.Core.Bool.{_||_}
 use mathlib.Core.List.{List}
-use mathlib.Core.Path.{_≡_, refl, sym, ap, _∙_}
+use mathlib.Core.Path.{_≡_, refl, sym, _∙_}
 use Rattle.reading.specs.Trees.{Tree}
 use Rattle.reading.specs.Readers.{Out, is as isSign}
 use Rattle.reading.specs.Grammar as G
 use Rattle.reading.proofs.StepLaws.{done-reads, refused-on, meets-as, follow-ready, put-fields, bind-refused, reads-as, read-numbers, Compares, compare-less, compare-first, compare-ready, compare-refused, compare-numbers, compare-last, compare-alone, compare-none, compare-next, parenthesis-deep, parenthesis-refused, parenthesis-open, parenthesis-closed, prim-paren, prim-plus-0, prim-plus, prim-list, prim-pays, prim-atom, prim-name, prim-minus-number, prim-minus-0, prim-minus, negate-reads, inner-sized}
 use Rattle.reading.proofs.ChainLaws.{power-level, product-level, sum-level, joint-level, chain-exit, Pending, pend-first, pend-next, pend-ready, pend-refused, pend-numbers, pend-chain, pend-less}
-use Rattle.reading.proofs.SizeLaws.{primary-size, sum-size, expression-size}
+use Rattle.reading.proofs.SizeLaws.{primary-size, sum-size}
 use mathlib.Core.Logic.{inl, inr}
 use Rattle.reading.specs.Turns.{itemsBy, jointSign, sumSign, productSign, powerSign, inner}
 use Rattle.reading.proofs.GrammarLaws.{primary-law}
