@@ -1,7 +1,7 @@
 -- The law of amending: a statement's text is replaced by another text, and the script reads as its statements before it, those of the new text, and those behind it.
 use mathlib.Core.Path.{_≡_, refl, sym, ap, _∙_, subst}
 use mathlib.Core.Bool.{Bool}
-use mathlib.Core.List.{List, [], _∷_, _++_, append-assoc, map}
+use mathlib.Core.List.{List, [], _∷_, _++_, append-assoc, map, map-append}
 use Prim.Native.Nat.{ℕ, _+_, _-_, _≤_, _<_}
 use native.Mathlib.Omega.{arith}
 use lib.Dec.{T}
@@ -24,10 +24,6 @@ module _ (W : Words) where
   unfolding endsWell
   fore-text {n} X h = fore-ended W X (subst (λ (o : Lexed). T (wellEnded n o)) (X .scanned) h)
 
-  map-append′ : (f : Entry → Entry) (x y : List Entry) → map f (x ++ y) ≡ map f x ++ map f y
-  map-append′ f [] y = refl
-  map-append′ f (t ∷ x) y = ap {B = List Entry} (λ l. f t ∷ l) (map-append′ f x y)
-
   between-moved : (a n b : ℕ) → a < b → (zs : List Entry) → map (movedEntry a) (map (movedEntry n) zs) ≡ map (between n (b - a)) (map (movedEntry b) zs)
   between-moved a n b h [] = refl
   between-moved a n b h (z ∷ zs) =
@@ -44,7 +40,7 @@ module _ (W : Words) where
       let l : length (take (e .start) s) ≡ e .start = length-take-le (e .start) s (omega (arith, C .order, C .inside)) in
       let w : es ++ map (movedEntry (length (take (e .start) s))) (ns ++ map (movedEntry (length n)) (C .others)) ≡ amendedList es e es′ (length n) ns
       = ap (λ (i : ℕ). es ++ map (movedEntry i) (ns ++ map (movedEntry (length n)) (C .others))) l
-      ∙ ap (λ (x : List Entry). es ++ x) (map-append′ (movedEntry (e .start)) ns (map (movedEntry (length n)) (C .others))
+      ∙ ap (λ (x : List Entry). es ++ x) (map-append (movedEntry (e .start)) ns (map (movedEntry (length n)) (C .others))
       ∙ ap (λ (x : List Entry). map (movedEntry (e .start)) ns ++ x) (between-moved (e .start) (length n) (e .end) (C .order) (C .others) ∙ ap (map (between (length n) (e .end - e .start))) (C .same))) in
       subst (λ (b : List ℕ). Text W b (amendedList es e es′ (length n) ns)) (sym (append-assoc (take (e .start) s) n (drop (e .end) s))) (subst (λ (x : List Entry). Text W (take (e .start) s ++ (n ++ drop (e .end) s)) x) w J)
 

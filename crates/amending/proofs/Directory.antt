@@ -11,7 +11,6 @@ use borrow.Author.Tests.{le-ltb}
 use Rattle.tokens.specs.Limits.{mostBytes, mostTokens}
 use Rattle.tokens.specs.Text.{if_then_else_, every, leading, script, other}
 use Rattle.tokens.specs.Names.{Lists}
-use Rattle.reading.specs.Trees.{Tree, node, size}
 use Rattle.reading.specs.Grammar.{Words}
 use Rattle.reading.specs.Script.{Entry, Outcome, accepted, refused, nodes, words, readScript, reading, fitting as fits, movedEntry, tokensOf, noZero}
 use Rattle.reading.proofs.AmendBytes.{Text, Cut, cut-at, Accepted, read-accepted, append-every, script-noZero, read-script}
@@ -56,11 +55,6 @@ text-order W s es X = order-by W (length es) s es (omega arith) X
 
 pub read-order : (l : Lists) (s : List ℕ) (es : List Entry) → T (noZero s) → readScript l s ≡ accepted es → InOrder 0 (length s) es
 read-order l s es z h = text-order (words l) s es (read-accepted l s es z h .text)
-
--- each has a record
-pub size-some : (t : Tree) → 1 ≤ size t
-unfolding size
-size-some (node k s f ts) = omega arith
 
 -- so after any number of amendments: `amends-good`, then this
 pub good-order : (l : Lists) (R : Rooms) (st : State) → Good l R st → InOrder 0 (length (st .script)) (st .entries)

@@ -1,6 +1,7 @@
 -- Tests that are made of tests, from the facts that they test.
 use mathlib.Core.Path.{_≡_, refl, sym}
-use mathlib.Core.Bool.{Bool, true, false, _&&_, false≢true}
+use mathlib.Core.Bool.{Bool, true, false, _&&_}
+use Rattle.tokens.proofs.NameLaws.{and-true-both}
 
 pub no : (b : Bool) → (b ≡ true → ⊥) → b ≡ false
 no true h = absurd (h refl)
@@ -10,12 +11,10 @@ pub yes : {a b : Bool} → a ≡ true → b ≡ true → (a && b) ≡ true
 yes p q = rw (p, q)
 
 pub left : (a b : Bool) → (a && b) ≡ true → a ≡ true
-left true b e = refl
-left false b e = e
+left a b e = and-true-both a b e .0
 
 pub right : (a b : Bool) → (a && b) ≡ true → b ≡ true
-right true b e = e
-right false b e = absurd (false≢true e)
+right a b e = and-true-both a b e .1
 
 pub cases : {G : Type 0} (b : Bool) → (b ≡ true → G) → (b ≡ false → G) → G
 cases true f g = f refl

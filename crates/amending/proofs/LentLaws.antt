@@ -20,8 +20,9 @@ use Rattle.reading.proofs.WordLaws.{words-length as all-words, words-before, re
 use Rattle.amending.specs.Amend.{endsWell, replaced, between, amendedList}
 use Rattle.amending.specs.Amending.{State, Rooms, Pick, onto, pick, over, fitting, Answer, done, refusal, put, amendAt, amend, Good, left, after}
 use Rattle.amending.specs.Lent.{Lent, sumRecords, sumTokens, overRows, ascending, inOrder, movedRow, betweenRow, swappedRows, swapped, handed, unchanged, fittingLent, putLent, lentAt, amendLent, leftLent, afterLent, lentOf, given}
+use Rattle.reading.proofs.RowLaws.{size-some}
 use Rattle.amending.proofs.AmendingLaws.{pick-split, words-amended, amends-good}
-use Rattle.amending.proofs.Directory.{InOrder, good-order, size-some}
+use Rattle.amending.proofs.Directory.{InOrder, good-order}
 
 -- ---- counts
 

@@ -3,7 +3,7 @@ use mathlib.Core.Path.{_≡_, refl, sym, ap, _∙_, subst}
 use mathlib.Core.Bool.{Bool, true, false, not}
 use mathlib.Core.List.{List, [], _∷_, map}
 use mathlib.Core.Option.{Option, none, some}
-use Prim.Native.Nat.{ℕ, _-_, _*_, _/_, _≤_}
+use Prim.Native.Nat.{ℕ, _*_, _/_, _≤_}
 use native.Mathlib.Omega.{arith}
 use lib.Dec.{ltb}
 use lib.ListN.{length, take, drop, length-append, length-drop, length-map}
@@ -23,7 +23,7 @@ use Rattle.amending.specs.Amending.{State, Rooms, Pick, pick, over as ov
 use Rattle.amending.specs.Lent.{Lent, handed, unchanged, sumRecords, amendLent, lentOf, given}
 use Rattle.amending.specs.Moves.{leave}
 use Rattle.amending.specs.Entries.{rowsFrom}
-use Rattle.amending.specs.Memory.{Memory, memory, roomsIn, usedIn, within, amendIn, heldBy, answered, leftIn, Amends}
+use Rattle.amending.specs.Memory.{Memory, memory, roomsIn, usedIn, amendIn, heldBy, answered, leftIn, Amends}
 use Rattle.amending.specs.States.{heldOf, Holds}
 use Rattle.amending.specs.declared.held.Held.{Held}
 use Rattle.amending.proofs.MoveLaws.{leave-length}

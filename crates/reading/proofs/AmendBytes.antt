@@ -1,7 +1,7 @@
 -- Texts: bytes and the statements that they have. One text behind another, a text cut at a statement, and what an accepted script is.
 use mathlib.Core.Path.{_≡_, refl, sym, ap, _∙_, subst}
 use mathlib.Core.Bool.{Bool, true, false, _&&_, _||_, not, true≢false}
-use mathlib.Core.List.{List, [], _∷_, _++_, append-assoc, map}
+use mathlib.Core.List.{List, [], _∷_, _++_, append-assoc, map, map-append}
 use Prim.Native.Nat.{ℕ, zero, suc, _+_, _-_, _≤_, _<_}
 use native.Mathlib.Omega.{arith}
 use lib.Dec.{T, ltb, eqb}
@@ -17,9 +17,9 @@ use Rattle.tokens.proofs.Cuts.{further, scan-further, Start, token-start}
 use Rattle.tokens.proofs.Shapes.{Sorted, scan-sorted, Behind, token-end}
 use Rattle.reading.specs.Readers.{first, is, lastOf, closes}
 use Rattle.reading.specs.Grammar.{Words}
-use Rattle.reading.specs.Script.{Entry, Outcome, accepted, refused, from, statements, words, ofTokens, readScript, movedEntry, tokensOf, noZero, front}
+use Rattle.reading.specs.Script.{Entry, Outcome, accepted, refused, from, statements, words, ofTokens, readScript, movedEntry, tokensOf, noZero}
 use Rattle.reading.proofs.Laws.{nil-not}
-use Rattle.reading.proofs.ScriptLaws.{forth, moved, from-forth, from-moved, prepend, map-append, count-append}
+use Rattle.reading.proofs.ScriptLaws.{forth, moved, from-forth, from-moved, prepend, prepend-accepted, count-append}
 use Rattle.reading.proofs.SealLaws.{unsealed}
 use Rattle.reading.proofs.Seams.{Calm, calm-joint, calm-line, calm-end, last-split, front-joint, none-last, last-any}
 use Rattle.reading.proofs.AmendLaws.{None}
@@ -63,10 +63,6 @@ module _ (W : Words) where
     pub joint : (q : List ℕ) → Joint q 0 p
 
   -- ---- one text behind another
-
-  prepend-accepted : (es fs : List Entry) → prepend es (accepted fs) ≡ accepted (es ++ fs)
-  prepend-accepted [] fs = refl
-  prepend-accepted (e ∷ es) fs = ap (front e) (prepend-accepted es fs)
 
   final-forth : (p q : List ℕ) → final (length (p ++ q)) ≡ forth (length p) (final (length q))
   final-forth p q = let e : length (p ++ q) ≡ length q + length p = omega (arith, length-append p q) in λ i. final (e i)

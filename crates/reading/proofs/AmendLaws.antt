@@ -2,7 +2,7 @@
 use mathlib.Core.Path.{_≡_, refl, sym, ap, _∙_, subst}
 use mathlib.Core.Bool.{Bool, true, false, _||_, not, true≢false}
 use mathlib.Core.List.{List, [], _∷_, _++_, append-assoc, append-nil, map}
-use Prim.Native.Nat.{ℕ, _+_, _-_}
+use Prim.Native.Nat.{ℕ, _+_}
 use Prim.Native.String.{String}
 use native.Mathlib.Omega.{arith}
 use lib.Dec.{eqb}
@@ -15,12 +15,12 @@ use Rattle.tokens.specs.Tokens.{Token, code, counts}
 use Rattle.reading.specs.Trees.{Tree}
 use Rattle.reading.specs.Readers.{Reader, Out, ok, refused as wrong, first, is, skip, lastOf, closes}
 use Rattle.reading.specs.Grammar.{Words, statement}
-use Rattle.reading.specs.Script.{Entry, Outcome, accepted, refused, back, from, turn, onward, front, entryOf, movedEntry}
+use Rattle.reading.specs.Script.{Entry, Outcome, accepted, refused, back, from, turn, onward, front, entryOf}
 use Rattle.reading.specs.Computing.{computing}
 use Rattle.reading.proofs.Laws.{Near, Follows, Quiet, Reads, nil-not, lead, lead-skip, skip-lead, skip-first, skip-clear}
 use Rattle.reading.proofs.StatementLaws.{Tail, stops, near-tail, statement-tail}
 use Rattle.reading.proofs.EndingLaws.{last-append}
-use Rattle.reading.proofs.ScriptLaws.{forth, moved, skip-forth, from-forth, from-moved, prepend, Left, Run, none, more, run-from, from-run, Replaced, run-tail, from-eq, Step, step-of, step-by, last-one, in-front, Parts, map-parts, quiet-nil, quiet-last, back-back}
+use Rattle.reading.proofs.ScriptLaws.{forth, prepend, Left, Run, none, more, run-from, from-run, Replaced, run-tail, from-eq, Step, step-of, step-by, last-one, in-front, Parts, map-parts, quiet-nil, quiet-last, back-back, last-map, forth-back}
 use Rattle.reading.proofs.ClosingLaws.{statement-closed, statement-noEnd, NoEnd}
 
 -- a token that no statement goes on with, and that no statement's pays stops at
@@ -96,24 +96,6 @@ pub split-same : (x y x′ y′ : List Token) → x ++ y ≡ x′ ++ y′ → le
 split-same x y x′ y′ e l =
     let n : length x ≡ length x′ = omega (arith, length-append x y, length-append x′ y′, ap length e) in
     sym (take-append-seam x y) ∙ ap (take (length x)) e ∙ ap (λ (k : ℕ). take k (x′ ++ y′)) n ∙ take-append-seam x′ y′
-
-last-map : (s : ℕ) (d d′ : Token) (x : List Token) → closes d ≡ closes d′ → closes (lastOf d (map (back s) x)) ≡ closes (lastOf d′ x)
-unfolding lastOf
-last-map s d d′ [] e = e
-last-map s d d′ (t ∷ x) e = last-map s (if counts t then back s t else d) (if counts t then t else d′) x (go (counts t))
-  where
-    go : (b : Bool) → closes (if b then back s t else d) ≡ closes (if b then t else d′)
-    go true = refl
-    go false = e
-
-end-map : (s : ℕ) (d d′ : Token) (x : List Token) → is "End" d ≡ is "End" d′ → is "End" (lastOf d (map (back s) x)) ≡ is "End" (lastOf d′ x)
-unfolding lastOf
-end-map s d d′ [] e = e
-end-map s d d′ (t ∷ x) e = end-map s (if counts t then back s t else d) (if counts t then t else d′) x (go (counts t))
-  where
-    go : (b : Bool) → is "End" (if b then back s t else d) ≡ is "End" (if b then t else d′)
-    go true = refl
-    go false = e
 
 -- ---- what begins a statement
 
@@ -203,10 +185,6 @@ module _ (W : Words) where
   from-skip : (b : ℕ) (y : List Token) → from W b (skip y) ≡ from W b y
   from-skip b y = from-eq W b (skip y) ∙ ap (turn W (from W) b) (skip-clear (skip y) (skip-first y)) ∙ sym (from-eq W b y)
 
-  pub forth-back : (d : ℕ) (ts : List Token) → map (back d) (map (forth d) ts) ≡ ts
-  forth-back d [] = refl
-  forth-back d (t ∷ ts) = let e : t .from + d - d ≡ t .from = omega arith in λ i. record { kind = t .kind; from = e i; text = t .text } ∷ forth-back d ts i
-
   pub kept : (b : ℕ) (ts : List Token) (e e′ : Entry) (es es′ : List Entry) → from W b ts ≡ accepted (e ∷ es ++ (e′ ∷ es′)) → Kept b ts (e ∷ es) (e′ ∷ es′)
   kept b ts e e′ es es′ h =
       let L : Left W b ts (e ∷ es) (e′ ∷ es′) = from-run W (e ∷ es) (e′ ∷ es′) b ts h in
@@ -247,7 +225,7 @@ module _ (W : Words) where
       ∙ sym (append-assoc nl (u ∷ S .tail) (X .one ++ X .two)) ∙ sym (append-assoc (nl ++ (u ∷ S .tail)) (X .one) (X .two)) in
       ap closes (ap (lastOf d) hd ∙ R .real d d₀ ∙ ap (lastOf d₀) (sym hd))
       ∙ ap (λ (k : List Token). closes (lastOf d₀ k)) (sym (X .left))
-      ∙ last-map (u .from) d₀ d₀ (X .one) refl
+      ∙ last-map (back (u .from)) (λ t. refl) closes (λ t. refl) d₀ d₀ (X .one) refl
       ∙ ap closes (sym (last-append d (nl ++ (u ∷ S .tail)) (X .one)))
       ∙ c (nl ++ (u ∷ S .tail) ++ X .one) (X .two) all (sym (back-back W (u .from) δ (X .two)) ∙ ap (map (back δ)) (X .right) ∙ m) d
 
@@ -258,7 +236,7 @@ module _ (W : Words) where
       let X : Parts (back (u .from)) (u ∷ us) x r = map-parts (back (u .from)) x (u ∷ us) r w in
       let o : u .from + 0 ≡ u .from = omega arith in
       ap (λ l. closes (lastOf d l)) (sym (X .left))
-      ∙ last-map (u .from) d d (X .one) refl
+      ∙ last-map (back (u .from)) (λ t. refl) closes (λ t. refl) d d (X .one) refl
       ∙ ap (λ (v : Token). closes (lastOf v (X .one))) (sym (quiet-last W d nl (quiet-nil nl q)))
       ∙ ap closes (sym (last-append d nl (X .one)))
       ∙ c (nl ++ X .one) (X .two) (s ∙ ap (λ l. nl ++ l) (X .whole) ∙ sym (append-assoc nl (X .one) (X .two))) (ap (λ (i : ℕ). map (back i) (X .two)) o ∙ X .right) d)))
@@ -275,7 +253,7 @@ module _ (W : Words) where
       let l : length y ≡ length (X .two) = omega (arith, length-map y (back (u .from + 0)), length-map (X .two) (back (u .from)), ap length m, ap length (X .right)) in
       let hd : x ≡ nl ++ X .one = split-same x y (nl ++ X .one) (X .two) (sym w ∙ s ∙ ap (λ k. nl ++ k) (X .whole) ∙ sym (append-assoc nl (X .one) (X .two))) l in
       ap (λ k. is "End" (lastOf d k)) hd ∙ ap (λ t. is "End" t) (last-append d nl (X .one))
-      ∙ sym (end-map (u .from) (lastOf d nl) (lastOf d nl) (X .one) refl) ∙ ap (λ k. is "End" (lastOf (lastOf d nl) k)) (X .left) ∙ E .2 (lastOf d nl)
+      ∙ sym (last-map (back (u .from)) (λ t. refl) (λ t. is "End" t) (λ t. refl) (lastOf d nl) (lastOf d nl) (X .one) refl) ∙ ap (λ k. is "End" (lastOf (lastOf d nl) k)) (X .left) ∙ E .2 (lastOf d nl)
   run-noEnd (more nl u us t r {δ = δ} s q n e h (more nl₂ u₂ us₂ t₂ r₂ s₂ q₂ n₂ e₂ h₂ run)) x y w m d =
       let S : Step W Near u us t r = step-of W near-tail u us t r h in
       let R : Replaced W Near _ r _ δ _ = run-tail W near-tail (more nl₂ u₂ us₂ t₂ r₂ s₂ q₂ n₂ e₂ h₂ run) in
@@ -288,7 +266,7 @@ module _ (W : Words) where
       (sym w ∙ s ∙ ap (λ (k : List Token). nl ++ (u ∷ k)) (S .whole ∙ ap (λ k. S .tail ++ k) (X .whole))
       ∙ sym (append-assoc nl (u ∷ S .tail) (X .one ++ X .two)) ∙ sym (append-assoc (nl ++ (u ∷ S .tail)) (X .one) (X .two))) l in
       ap (λ k. is "End" (lastOf d k)) hd ∙ ap (λ t. is "End" t) (last-append d (nl ++ (u ∷ S .tail)) (X .one))
-      ∙ sym (end-map (u .from) d₀ d₀ (X .one) refl) ∙ ap (λ k. is "End" (lastOf d₀ k)) (X .left)
+      ∙ sym (last-map (back (u .from)) (λ t. refl) (λ t. is "End" t) (λ t. refl) d₀ d₀ (X .one) refl) ∙ ap (λ k. is "End" (lastOf d₀ k)) (X .left)
       ∙ run-noEnd (more nl₂ u₂ us₂ t₂ r₂ s₂ q₂ n₂ e₂ h₂ run) (R .head) (R .behind) (R .split) (R .left) d₀
 
   -- where no statement is left, End comes first
@@ -351,7 +329,7 @@ module _ (W : Words) where
   end-counts : (f : Token) → is "End" f ≡ true → counts f ≡ true
   end-counts f e = ap not (end-apart f e .noLine)
 
-  last-end : (d f : Token) (tn : List Token) → is "End" f ≡ true → lastOf d (tn ++ (f ∷ [])) ≡ f
+  pub last-end : (d f : Token) (tn : List Token) → is "End" f ≡ true → lastOf d (tn ++ (f ∷ [])) ≡ f
   unfolding lastOf
   last-end d f tn e = last-append d tn (f ∷ []) ∙ ap (λ (c : Bool). if c then f else lastOf d tn) (end-counts f e)
 
@@ -388,29 +366,3 @@ module _ (W : Words) where
 
       RC : Replaced W Loose b (tn ++ (f ∷ [])) (n ∷ ns) δ r
       RC = run-closed (L .2) (λ x y w m d. ap (λ l. closes (lastOf d l)) (headIs x y w m) ∙ cl d)
-
-  -- ---- the theorem on tokens
-
-  abbrev pub shifted : ℕ → List Token → List Token
-  shifted d ts = map (forth d) ts
-
-  -- A script with the tokens ts, whose places are from the byte b, has the statements es and behind them others. Its tokens up to those others are K .head.
-  -- Behind them, at a distance p, are put the tokens tn of a text with the statements ns, and behind these, at the distance M .δ from the text's start, the tokens y.
-  -- The statements are then es, ns, and those of y
-  pub amended : (b : ℕ) (ts : List Token) (es es′ : List Entry) (K : Kept b ts es es′) (p : ℕ) (tn : List Token) (f : Token) (ns : List Entry) (M : Mid (b + K .δ + p) tn f ns) (y : List Token)
-      → Apart (first (skip (tn ++ shifted (M .δ) y))) → Apart (first (skip y))
-      → from W b (K .head ++ shifted (K .δ) (shifted p (tn ++ shifted (M .δ) y))) ≡ prepend es (prepend ns (from W (b + K .δ + p + M .δ) y))
-  amended b ts es es′ K p tn f ns M y a c =
-      K .goes (shifted p (tn ++ shifted (M .δ) y)) (apart-forth p (tn ++ shifted (M .δ) y) a)
-      ∙ ap (prepend es) (from-forth W (b + K .δ) p (tn ++ shifted (M .δ) y) ∙ M .goes y c)
-    where
-      apart-forth : (d : ℕ) (x : List Token) → Apart (first (skip x)) → Apart (first (skip (shifted d x)))
-      apart-forth d x q = subst (λ (l : List Token). Apart (first l)) (sym (skip-forth d x)) (go (skip x) q)
-        where
-          go : (l : List Token) → Apart (first l) → Apart (first (shifted d l))
-          go [] k = k
-          go (t ∷ l) k = record { noElse = k .noElse; noOn = k .noOn; noIn = k .noIn; noSemicolon = k .noSemicolon; noLine = k .noLine }
-
-  -- the statements of a text that stands n bytes further on than it did: what `amended` leaves of the others behind
-  pub others-moved : (b n : ℕ) (y : List Token) (es : List Entry) → from W b y ≡ accepted es → from W (b + n) y ≡ accepted (map (movedEntry n) es)
-  others-moved b n y es h = from-moved W b n y ∙ ap (moved n) h

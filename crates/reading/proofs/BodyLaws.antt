@@ -14,8 +14,7 @@ use Rattle.tokens.specs.declared.cursor.Cursor.{Cursor}
 use Rattle.reading.specs.Trees.{Tree, Trees, node, nil, _▹_, fields, none as unused, snoc, join, parts, size, sizes, row}
 use Rattle.reading.specs.Readers.{Out, ok, refused, Reader, bind, _>>=_, _>>_, again, follow, loop, is, give, failAt, ask, read, the}
 use Rattle.reading.specs.Grammar.{Words, Inner, deep, deeper, expression, primary, nextKind, named, nameFirst, plain, paid, ended, statementOver, statement, block, blockTurn, ifOver, forOver}
-use Rattle.reading.specs.Rows.{rows, rowsOf, putRow, putRows, nodeRow}
-use Rattle.reading.specs.declared.records.Node.{Node}
+use Rattle.reading.specs.Rows.{rows, rowsOf, putRow, putRows}
 use Rattle.reading.specs.Meets.{wordsIn, toksAt, tokenAt, Holds, Room, Ready, Follows, Takes, Reads, Meets, Before}
 use Rattle.reading.specs.Turns.{inner}
 use Rattle.reading.specs.Bodies.{bodies, conditionalIn, repetitionIn, loopHead, MeetsHead, numberRefusal, ReadsBlock, MeetsBlock, blockRefusal, blockRefused}
@@ -32,7 +31,8 @@ use Rattle.reading.proofs.GrammarLaws.{Moves, move-then, stay-next, the
 use Rattle.reading.proofs.StatementLaws.{near-tail, statement-tail}
 use Rattle.reading.proofs.SizeLaws.{Sized, expression-size, primary-size, block-size, statement-size, moves-less}
 use Rattle.reading.proofs.HoldLaws.{first-kind, start-in, end-in, ask-yes, ask-no, peek-is, read-next, the-next, the-next-not}
-use Rattle.reading.proofs.RowLaws.{size-node, size-some, sizes-front, sizes-join, parts-snoc, parts-join, parts-few, put-rows-same, put-front, put-join, before-none, before-more, before-node}
+use Rattle.reading.proofs.TreeLaws.{sizes-join, parts-snoc, parts-join}
+use Rattle.reading.proofs.RowLaws.{size-node, size-some, sizes-front, parts-few, put-rows-same, put-front, put-join, before-none, before-more, before-node}
 use Rattle.reading.proofs.ChainLaws.{reads-within}
 use Rattle.reading.proofs.StepLaws.{bind-refused}
 use Rattle.reading.proofs.PostfixLaws.{took-not, took-next}
@@ -60,11 +60,6 @@ module _ (t : List ℕ) (R : Out Token) (c : Cursor) (r : Number) where
   pub head-refusal-on : (x : Read) (R′ : Out Tree) (n′ : ℕ) (o₁ o₂ : List ℕ) (k b : ℕ) → r ≡ number.Refused k b → MeetsHead t R c r → x ≡ numberRefusal r
       → (R ≡ refused k b → R′ ≡ refused k b) → Meets t R′ n′ o₁ x o₂
   head-refusal-on x R′ n′ o₁ o₂ k b e h q f = let z : x ≡ answer.Refused k b = q ∙ ap numberRefusal e in rw z (f (rw e at h))
-
--- the record of an if, of a for, as the code puts it
-pub put-fields : (o o₃ : List ℕ) (m k w v a b : ℕ) (x : Node) → x ≡ record { kind = k; nodes = w; parts = v; f1 = a; f2 = b; f3 = 0; f4 = 0 } → o₃ ≡ putRow o m (nodeRow x)
-    → o₃ ≡ putRow o m (row k w v (fields a b 0 0))
-put-fields o o₃ m k w v a b x e h = h ∙ ap (λ (y : Node). putRow o m (nodeRow y)) e
 
 -- ---- depth
 

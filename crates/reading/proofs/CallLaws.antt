@@ -1,29 +1,24 @@
 -- Calls at a cursor: their names, the strings that they take, dates and currencies in these, and what is read behind a name.
 use mathlib.Core.Path.{_≡_, refl, sym, ap, _∙_, subst}
-use mathlib.Core.Bool.{Bool, true, false, _&&_, _||_, not, true≢false}
+use mathlib.Core.Bool.{Bool, true, false, _&&_}
 use mathlib.Core.List.{List, [], _∷_}
 use Prim.Native.Nat.{ℕ, suc, _+_, _-_, _≤_, _<_}
 use Prim.Native.String.{String}
 use native.Mathlib.Omega.{arith}
-use lib.Dec.{T, eqb, leb, ltb}
+use lib.Dec.{T, eqb, leb}
 use borrow.Author.Tests.{eq-eqb, ne-eqb, leb-false}
-use lib.ListN.{length, take, drop, getD, length-take, length-drop}
-use lib.Seq.{take-nil, take-take, drop-drop}
-use Rattle.tokens.specs.Text.{if_then_else_, bytes, same, begins, every, leading, letter, digit, nameByte, numberByte, blank, other}
-use Rattle.tokens.specs.Numbers.{numberFault}
+use lib.ListN.{length, take, drop}
+use Rattle.tokens.specs.Text.{if_then_else_, bytes, same, every}
 use Rattle.tokens.specs.Names.{names, place}
 use Rattle.tokens.specs.Dates.{date}
-use Rattle.tokens.specs.Tokens.{Token, Lexeme, gap, piece, fault, word, numeral, quoted, sign, signs, keywords, entry, code, lexeme}
+use Rattle.tokens.specs.Tokens.{Token, code}
 use Rattle.tokens.specs.Keys.{pack, lookup, keyed, keyOf}
-use Rattle.tokens.specs.declared.lexing.Mark.{Mark}
 use Rattle.tokens.specs.declared.cursor.Cursor.{Cursor}
-use Rattle.tokens.proofs.Joins.{body}
-use Rattle.tokens.proofs.Shapes.{entry-every, same-eq}
-use Rattle.tokens.proofs.ScanLaws.{Stands, over, token, faulty, stands}
+use Rattle.tokens.proofs.Shapes.{same-eq}
 use Rattle.tokens.proofs.KeyLaws.{Bytes, small, smalls, same-pack}
 use Rattle.tokens.proofs.NameLaws.{place-le}
 use Rattle.reading.specs.Trees.{Tree, node, nil, fields}
-use Rattle.reading.specs.Readers.{Out, ok, refused, Reader, bind, _>>=_, _>>_, is, give, failAt, read, the}
+use Rattle.reading.specs.Readers.{Out, ok, refused, Reader, bind, _>>=_, _>>_, give, failAt, the}
 use Rattle.reading.specs.Grammar.{Words, content, optional, dateOf, aDate, currencyOf, aCurrency, curve, df, rateOf, rateIndex, equity, pair, spotOf, spot, callOf}
 use Rattle.reading.specs.Calls.{callKind, callBy, methodKind, optionalBy, ending}
 use Rattle.reading.specs.Meets.{toksAt, tokenAt, Holds, Follows, theBy, Takes, MeetsNumber, MeetsLeaf, LeafHolds, Leads, Few}
@@ -34,107 +29,9 @@ use Rattle.reading.specs.declared.answers.Leaf.{Leaf}
 use Rattle.reading.specs.declared.answers.Leaf.the-variants as leaf
 use Rattle.reading.specs.declared.answers.Number.{Number}
 use Rattle.reading.specs.declared.answers.Number.the-variants as number
-use Rattle.reading.proofs.HoldLaws.{mark-is, markIn, end-in, ask-yes, ask-no, by-yes, by-no}
-
--- ---- a string token has two quotes
-
-abbrev Broad : Lexeme → Type 0
-Broad (gap n) = Unit {0}
-Broad (piece κ n) = κ ≡ 5 → 2 ≤ n
-Broad (fault f) = Unit {0}
-
-abbrev noString : String × ℕ → Bool
-noString e = not (eqb (e .1) 5)
-
-no-string : (k : ℕ) → not (eqb k 5) ≡ true → k ≡ 5 → ⊥
-no-string k e z = true≢false (sym e ∙ ap not (eq-eqb k 5 z))
-
-word-broad : (w : List ℕ) (n : ℕ) → Broad (word w n)
-unfolding word every
-word-broad w n = go (eqb (E .1) 99) refl
-  where
-    E : String × ℕ
-    E = entry (λ s. same (bytes s) w) keywords
-
-    go : (t : Bool) → eqb (E .1) 99 ≡ t → Broad (piece (if t then 1 else E .1) n)
-    go true e z = omega arith
-    go false e z = absurd (no-string (E .1) (entry-every noString (λ s. same (bytes s) w) keywords tt e) z)
-
-numeral-broad : (w : List ℕ) (n : ℕ) → Broad (numeral w n)
-unfolding numeral
-numeral-broad w n = go (eqb (numberFault w) 0)
-  where
-    go : (t : Bool) → Broad (if t then piece 2 n else fault (numberFault w))
-    go true = λ z. omega arith
-    go false = tt
-
-quoted-broad : (bs : List ℕ) (n : ℕ) → Broad (quoted bs n)
-unfolding quoted
-quoted-broad bs n = go (ltb n (length bs))
-  where
-    go : (t : Bool) → Broad (if t then piece 5 (suc (suc n)) else fault 4)
-    go true = λ z. omega arith
-    go false = tt
-
-sign-broad : (bs : List ℕ) → Broad (sign bs)
-unfolding sign every
-sign-broad bs = go (eqb (E .1) 99) refl
-  where
-    E : String × ℕ
-    E = entry (λ s. begins (bytes s) bs) signs
-
-    go : (t : Bool) → eqb (E .1) 99 ≡ t → Broad (if t then fault 3 else piece (E .1) (length (bytes (E .0))))
-    go true e = tt
-    go false e = λ z. absurd (no-string (E .1) (entry-every noString (λ s. begins (bytes s) bs) signs tt e) z)
-
-broad : (b : ℕ) (bs : List ℕ) → Broad (lexeme b bs)
-unfolding lexeme body code entry
-broad b bs = go (blank b) (eqb b 10) (eqb b 35 || begins (bytes "//") (b ∷ bs)) (letter b) (digit b) (eqb b 34)
-  where
-    go : (t₁ t₂ t₃ t₄ t₅ t₆ : Bool) → Broad (body t₁ t₂ t₃ t₄ t₅ t₆ b bs)
-    go true t₂ t₃ t₄ t₅ t₆ = tt
-    go false true t₃ t₄ t₅ t₆ = λ z. omega arith
-    go false false true t₄ t₅ t₆ = tt
-    go false false false true t₅ t₆ = word-broad (take (suc (leading nameByte bs)) (b ∷ bs)) (suc (leading nameByte bs))
-    go false false false false true t₆ = numeral-broad (take (suc (leading numberByte bs)) (b ∷ bs)) (suc (leading numberByte bs))
-    go false false false false false true = quoted-broad bs (leading (other 34) bs)
-    go false false false false false false = sign-broad (b ∷ bs)
-
-drop-one : {A : Type 0} (n : ℕ) (l : List A) → drop 1 (take (suc n) l) ≡ take n (drop 1 l)
-drop-one n [] = sym (take-nil n)
-drop-one n (a ∷ l) = refl
-
-module _ {t : List ℕ} {c : Cursor} (h : Holds t c) (s : c .code ≡ 5) where
-  pub string-wide : c .start + 2 ≤ c .end
-  string-wide = go (rw (mark-is h) at (stands t (c .start)))
-    where
-      go : Stands t (markIn c) → c .start + 2 ≤ c .end
-      go (over l q) = absurd (omega (arith, ap (λ (m : Mark). m .code) q))
-      go (token κ n l p q) =
-          let w : κ ≡ 5 → 2 ≤ n = subst Broad p (broad (getD t (c .start) 0) (drop (c .start + 1) t)) in
-          let k : κ ≡ 5 = omega (arith, ap (λ (m : Mark). m .code) q) in
-          omega (arith, w k, ap (λ (m : Mark). m .end) q)
-      go (faulty f l p q) = absurd (omega (arith, ap (λ (m : Mark). m .code) q))
-
-  text-length : length (take (c .end - c .start) (drop (c .start) t)) ≡ c .end - c .start
-  text-length = omega (arith, length-take (c .end - c .start) (drop (c .start) t), length-drop (c .start) t, end-in h, string-wide)
-
-  -- what stands between the quotes
-  pub content-is : content (tokenAt t c) ≡ take (c .end - 1 - (c .start + 1)) (drop (c .start + 1) t)
-  content-is =
-      let n : c .end - c .start ≡ suc (c .end - c .start - 1) = omega (arith, string-wide) in
-      let w : c .end - 1 - (c .start + 1) ≤ c .end - c .start - 1 = omega arith in
-      let m : length (take (c .end - c .start) (drop (c .start) t)) - 2 ≡ c .end - 1 - (c .start + 1) = omega (arith, text-length, string-wide) in
-      ap (λ (x : ℕ). take x (drop 1 (take (c .end - c .start) (drop (c .start) t)))) m
-      ∙ (ap (λ (x : ℕ). take (c .end - 1 - (c .start + 1)) (drop 1 (take x (drop (c .start) t)))) n
-      ∙ (ap (take (c .end - 1 - (c .start + 1))) (drop-one (c .end - c .start - 1) (drop (c .start) t))
-      ∙ (take-take (c .end - 1 - (c .start + 1)) (c .end - c .start - 1) (drop 1 (drop (c .start) t)) w
-      ∙ ap (take (c .end - 1 - (c .start + 1))) (drop-drop 1 (c .start) t))))
-
-  pub content-length : length (content (tokenAt t c)) ≡ c .end - c .start - 2
-  content-length =
-      ap length content-is
-      ∙ omega (arith, length-take (c .end - 1 - (c .start + 1)) (drop (c .start + 1) t), length-drop (c .start + 1) t, end-in h, string-wide)
+use Rattle.reading.proofs.HoldLaws.{end-in, ask-yes, ask-no, by-yes, by-no, takes-as}
+use Rattle.reading.proofs.AtomLaws.{string-wide, content-is, content-length}
+use Rattle.reading.proofs.StepLaws.{bind-refused}
 
 -- ---- one reader, then another
 
@@ -142,10 +39,6 @@ module _ {A B : Type 0} (m : Reader A) (ts : List Token) where
   pub then-ok : {a : A} {us : List Token} (f : A → Reader B) → m ts ≡ ok a us → (m >>= f) ts ≡ f a us
   unfolding _>>=_
   then-ok f e = ap (bind f) e
-
-  pub then-no : {k b : ℕ} (f : A → Reader B) → m ts ≡ refused k b → (m >>= f) ts ≡ refused k b
-  unfolding _>>=_
-  then-no f e = ap (bind f) e
 
   pub next-ok : {a : A} {us : List Token} (n : Reader B) → m ts ≡ ok a us → (m >> n) ts ≡ n us
   unfolding _>>_ _>>=_
@@ -156,9 +49,6 @@ module _ {A B : Type 0} (m : Reader A) (ts : List Token) where
   next-no n e = ap (bind (λ a. n)) e
 
 -- ---- answers
-
-pub takes-as : (t : List ℕ) (k : ℕ) (c : Cursor) {r r′ : Took} → r ≡ r′ → Takes t k c r → Takes t k c r′
-takes-as t k c e h = subst (Takes t k c) e h
 
 pub number-as : (t : List ℕ) {R S : Out ℕ} (r : Number) → R ≡ S → MeetsNumber t S r → MeetsNumber t R r
 number-as t r e h = subst (λ (X : Out ℕ). MeetsNumber t X r) (sym e) h
@@ -197,11 +87,11 @@ module _ {t : List ℕ} {c : Cursor} (h : Holds t c) {A : Type 0} (k : ℕ) (a :
 
 pub date-not : (t : List ℕ) (c : Cursor) {b : ℕ} → theBy 5 (toksAt t (c .start)) ≡ refused 8 b → aDate (toksAt t (c .start)) ≡ refused 8 b
 unfolding aDate the code
-date-not t c e = then-no (theBy 5) (toksAt t (c .start)) dateOf e
+date-not t c e = bind-refused (theBy 5) dateOf (toksAt t (c .start)) _ _ e
 
 pub currency-not : (t : List ℕ) (c : Cursor) {b : ℕ} (W : Words) → theBy 5 (toksAt t (c .start)) ≡ refused 8 b → aCurrency W (toksAt t (c .start)) ≡ refused 8 b
 unfolding aCurrency the code
-currency-not t c W e = then-no (theBy 5) (toksAt t (c .start)) (currencyOf W) e
+currency-not t c W e = bind-refused (theBy 5) (currencyOf W) (toksAt t (c .start)) _ _ e
 
 -- the date in a token
 module _ (u : Token) (x : ℕ) (e : x ≡ date (content u)) (ts : List Token) where
@@ -281,7 +171,7 @@ pairBehind W a = aCurrency W >>= λ x. lateDate >>= λ y. give (node 32 [] (fiel
 pub equity-no : (t : List ℕ) (W : Words) (u : Token) (ts : List Token) {r : Number} {k b : ℕ} → r ≡ number.Refused k b → MeetsNumber t (optionalBy 46 0 aDate ts) r → equity W u ts ≡ refused k b
 unfolding equity optional the code
 equity-no t W u ts q y =
-    then-no lateDate ts (λ d. give (node 33 [] (fields (suc (u .from)) (length (content u)) d 0) nil)) (numbers-as t (lateDate ts) q y)
+    bind-refused lateDate (λ d. give (node 33 [] (fields (suc (u .from)) (length (content u)) d 0) nil)) ts _ _ (numbers-as t (lateDate ts) q y)
 
 pub equity-is : {t : List ℕ} {c : Cursor} (h : Holds t c) (s : c .code ≡ 5) (W : Words) (ts : List Token) {r : Number} {e : Cursor} {x : ℕ} → r ≡ number.Is e x → MeetsNumber t (optionalBy 46 0 aDate ts) r
     → MeetsLeaf t (equity W (tokenAt t c) ts) (leaf.Is e (record { kind = 33; nodes = 1; parts = 0; f1 = c .start + 1; f2 = c .end - c .start - 2; f3 = x; f4 = 0 }))
@@ -310,7 +200,7 @@ module _ {t : List ℕ} {c : Cursor} (h : Holds t c) (W : Words) (a : ℕ) where
     pub pair-no : {r : Number} {k b : ℕ} → r ≡ number.Refused k b → MeetsNumber t (aCurrency W (toksAt t (n .start))) r → pair W a (toksAt t (c .start)) ≡ refused k b
     pair-no q y =
         pair-on
-        ∙ then-no (aCurrency W) (toksAt t (n .start)) (λ x. lateDate >>= λ y. give (node 32 [] (fields a x y 0) nil)) (numbers-as t (aCurrency W (toksAt t (n .start))) q y)
+        ∙ bind-refused (aCurrency W) (λ x. lateDate >>= λ y. give (node 32 [] (fields a x y 0) nil)) (toksAt t (n .start)) _ _ (numbers-as t (aCurrency W (toksAt t (n .start))) q y)
 
     module _ {r : Number} {d : Cursor} {x : ℕ} (q : r ≡ number.Is d x) (y : MeetsNumber t (aCurrency W (toksAt t (n .start))) r) where
       pub pair-holds : Holds t d
@@ -323,7 +213,7 @@ module _ {t : List ℕ} {c : Cursor} (h : Holds t c) (W : Words) (a : ℕ) where
 
       pub pair-late : {r′ : Number} {k b : ℕ} → r′ ≡ number.Refused k b → MeetsNumber t (optionalBy 46 0 aDate (toksAt t (d .start))) r′ → pair W a (toksAt t (c .start)) ≡ refused k b
       pair-late q′ y′ =
-          pair-first ∙ then-no lateDate (toksAt t (d .start)) (λ y. give (node 32 [] (fields a x y 0) nil)) (numbers-as t (lateDate (toksAt t (d .start))) q′ y′)
+          pair-first ∙ bind-refused lateDate (λ y. give (node 32 [] (fields a x y 0) nil)) (toksAt t (d .start)) _ _ (numbers-as t (lateDate (toksAt t (d .start))) q′ y′)
 
       pub pair-is : {r′ : Number} {e : Cursor} {z : ℕ} → r′ ≡ number.Is e z → MeetsNumber t (optionalBy 46 0 aDate (toksAt t (d .start))) r′
           → (v : Node) → v ≡ record { kind = 32; nodes = 1; parts = 0; f1 = a; f2 = x; f3 = z; f4 = 0 } → MeetsLeaf t (pair W a (toksAt t (c .start))) (leaf.Is e v)
@@ -395,7 +285,7 @@ module _ (t : List ℕ) (W : Words) (c : Cursor) where
     unfolding spot the code
     spot-not q′ y′ =
         next-ok (theBy 40) (toksAt t (c .start)) spotBehind (takes-as t 40 c q y .2)
-        ∙ then-no (theBy 5) (toksAt t (n .start)) (λ u. spotOf W u >>= ending) (takes-as t 5 n q′ y′)
+        ∙ bind-refused (theBy 5) (λ u. spotOf W u >>= ending) (toksAt t (n .start)) _ _ (takes-as t 5 n q′ y′)
 
     pub spot-is : {r′ : Took} {d : Cursor} → r′ ≡ took.Next d → Takes t 5 n r′ → spot W (toksAt t (c .start)) ≡ bind ending (spotOf W (tokenAt t n) (toksAt t (d .start)))
     unfolding spot the code _>>=_
@@ -421,7 +311,7 @@ module _ {t : List ℕ} {c : Cursor} (h : Holds t c) (a : ℕ) where
     pub curve-no : {r : Took} {b : ℕ} → r ≡ took.Not b → Takes t 5 n r → curve a (toksAt t (c .start)) ≡ refused 8 b
     curve-no q y =
         curve-on
-        ∙ then-no (theBy 5) (toksAt t (n .start)) (λ u. give (node 34 [] (fields a (suc (u .from)) (length (content u)) 0) nil)) (takes-as t 5 n q y)
+        ∙ bind-refused (theBy 5) (λ u. give (node 34 [] (fields a (suc (u .from)) (length (content u)) 0) nil)) (toksAt t (n .start)) _ _ (takes-as t 5 n q y)
 
     pub curve-is : {r : Took} {d : Cursor} → r ≡ took.Next d → Takes t 5 n r
         → (x : Node) → x ≡ record { kind = 34; nodes = 1; parts = 0; f1 = a; f2 = n .start + 1; f3 = n .end - n .start - 2; f4 = 0 }
@@ -451,7 +341,7 @@ module _ (t : List ℕ) (c : Cursor) where
     unfolding df the code
     df-date q′ y′ =
         next-ok (theBy 40) (toksAt t (c .start)) dfBehind (takes-as t 40 c q y .2)
-        ∙ then-no aDate (toksAt t (d .start)) (λ x. curve x >>= ending) (numbers-as t (aDate (toksAt t (d .start))) q′ y′)
+        ∙ bind-refused aDate (λ x. curve x >>= ending) (toksAt t (d .start)) _ _ (numbers-as t (aDate (toksAt t (d .start))) q′ y′)
 
     pub df-is : {r′ : Number} {e : Cursor} {x : ℕ} → r′ ≡ number.Is e x → MeetsNumber t (aDate (toksAt t (d .start))) r′ → df (toksAt t (c .start)) ≡ bind ending (curve x (toksAt t (e .start)))
     unfolding df the code _>>=_
@@ -472,7 +362,7 @@ module _ (t : List ℕ) (k : ℕ) (c : Cursor) where
     pub lead-other : (d .code ≡ 5 → ⊥) → Leads t k c (took.Not (d .start))
     lead-other z f =
         next-ok (theBy k) (toksAt t (c .start)) (theBy 5 >>= f) (takes-as t k c q y .2)
-        ∙ then-no (theBy 5) (toksAt t (d .start)) f (by-no (takes-as t k c q y .0 .holds) 5 z)
+        ∙ bind-refused (theBy 5) f (toksAt t (d .start)) _ _ (by-no (takes-as t k c q y .0 .holds) 5 z)
 
     pub lead-is : d .code ≡ 5 → Leads t k c (took.Next d)
     lead-is s = (takes-as t k c q y .0 .holds, s, λ f. next-ok (theBy k) (toksAt t (c .start)) (theBy 5 >>= f) (takes-as t k c q y .2))
@@ -488,13 +378,13 @@ module _ (u v w : Token) (x : ℕ) (e : x ≡ date (content v)) (ts : List Token
   rateBehind a = dateOf w >>= λ b. give (node 35 [] (fields (suc (u .from)) (length (content u)) a b) nil)
 
   pub rate-first : x ≡ 0 → rateOf u v w ts ≡ refused 11 (v .from)
-  rate-first z = then-no (dateOf v) ts rateBehind (day-bad v x e ts z)
+  rate-first z = bind-refused (dateOf v) rateBehind ts _ _ (day-bad v x e ts z)
 
   module _ (o : x ≡ 0 → ⊥) (y : ℕ) (g : y ≡ date (content w)) where
     pub rate-second : y ≡ 0 → rateOf u v w ts ≡ refused 11 (w .from)
     rate-second z =
         then-ok (dateOf v) ts rateBehind (day-is v x e ts o)
-        ∙ then-no (dateOf w) ts (λ b. give (node 35 [] (fields (suc (u .from)) (length (content u)) x b) nil)) (day-bad w y g ts z)
+        ∙ bind-refused (dateOf w) (λ b. give (node 35 [] (fields (suc (u .from)) (length (content u)) x b) nil)) ts _ _ (day-bad w y g ts z)
 
     pub rate-both : (y ≡ 0 → ⊥) → rateOf u v w ts ≡ ok (node 35 [] (fields (suc (u .from)) (length (content u)) x y) nil) ts
     unfolding give

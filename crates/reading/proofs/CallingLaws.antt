@@ -2,24 +2,24 @@
 use mathlib.Core.Path.{_≡_, refl, sym, ap, _∙_}
 use mathlib.Core.Bool.{Bool, true, false, _||_}
 use mathlib.Core.List.{List, []}
-use Prim.Native.Nat.{ℕ, zero, suc, _+_, _-_, _≤_}
+use Prim.Native.Nat.{ℕ, _+_, _-_, _≤_}
 use native.Mathlib.Omega.{arith}
 use lib.Dec.{eqb, leb}
 use lib.ListN.{length, take, drop, length-drop}
-use borrow.Author.Tests.{eqb-true, eqb-false, ne-eqb, eq-eqb, le-leb}
+use borrow.Author.Tests.{eqb-true, ne-eqb, eq-eqb, le-leb}
 use Rattle.tokens.specs.Text.{if_then_else_, leading, other}
 use Rattle.tokens.specs.Names.{place}
 use Rattle.tokens.specs.Dates.{date}
 use Rattle.tokens.specs.Tokens.{Token, code, entry}
 use Rattle.tokens.specs.declared.cursor.Cursor.{Cursor}
 use Rattle.tokens.proofs.Shapes.{leading-le}
-use Rattle.reading.specs.Trees.{Tree, Trees, node, nil, _▹_, fields, snoc, parts, row}
+use Rattle.reading.specs.Trees.{Tree, Trees, node, nil, _▹_, fields, parts, row}
 use Rattle.reading.specs.Readers.{Out, ok, refused, Reader, bind, _>>=_, _>>_, Turn, again, is, give, fail, the}
-use Rattle.reading.specs.Grammar.{Words, isString, textOf, optional, aDate, aCurrency, currencyOf, equity, pair, spot, named, payday}
+use Rattle.reading.specs.Grammar.{Words, isString, textOf, optional, aDate, aCurrency, named, payday}
 use Rattle.reading.specs.Rows.{nodeRow, putRow}
 use Rattle.reading.specs.Calls.{rightCount, optionalBy}
 use Rattle.reading.specs.Meets.{wordsIn, toksAt, tokenAt, Holds, Follows, stringAt, Quoted, Reads, MeetsLeaf, Before}
-use Rattle.reading.specs.Turns.{itemEnd, stringOf, AllQuoted, Shown, shownBy, Inside, contentAt, cvgFault, callFault, specialOf}
+use Rattle.reading.specs.Turns.{itemEnd, Shown, contentAt, cvgFault, callFault}
 use Rattle.reading.specs.declared.answers.Texts.{Texts}
 use Rattle.reading.specs.declared.records.Node.{Node}
 use Rattle.reading.specs.declared.answers.Leaf.the-variants as leaf
@@ -68,50 +68,6 @@ string-yes t (node k s (fields a b c d) ts) q z = go (eqb k 5) refl z
     go : (x : Bool) → eqb k 5 ≡ x → (_≡_ {A = ℕ} (if x then a else 0) 0 → ⊥) → (x ≡ true) × (s ≡ contentAt t (if x then a else 0))
     go true e w = (refl, q (eqb-true k 5 e) .1)
     go false e w = absurd (w refl)
-
-string-in : (t : List ℕ) (e : Tree) → Quoted t e → stringAt e ≤ length t
-string-in t (node k s (fields a b c d) ts) q = go (eqb k 5) refl
-  where
-    go : (x : Bool) → eqb k 5 ≡ x → (if x then a else 0) ≤ length t
-    go true e = q (eqb-true k 5 e) .2
-    go false e = omega arith
-
-string-of-in : (t : List ℕ) (es : Trees) (i : ℕ) → AllQuoted t es → stringOf es i ≤ length t
-string-of-in t nil i q = omega arith
-string-of-in t (e ▹ es) zero q = string-in t e (q .0)
-string-of-in t (e ▹ es) (suc i) q = string-of-in t es i (q .1)
-
--- the strings of parts stand inside the text
-pub shown-inside : {t : List ℕ} {es : Trees} {x : Texts} → Shown t es x → Inside t x
-shown-inside {t} {es} S =
-    (omega (arith, S .first, string-of-in t es 0 (S .quoted)), omega (arith, S .second, string-of-in t es 1 (S .quoted)), omega (arith, S .third, string-of-in t es 2 (S .quoted)))
-
-eqb-suc : (a b : ℕ) → eqb (suc a) (suc b) ≡ eqb a b
-eqb-suc a b = go (eqb a b) refl
-  where
-    go : (x : Bool) → eqb a b ≡ x → eqb (suc a) (suc b) ≡ x
-    go true e = eq-eqb (suc a) (suc b) (ap suc (eqb-true a b e))
-    go false e = ne-eqb (suc a) (suc b) (λ z. eqb-false a b e (omega arith))
-
-string-snoc : (es : Trees) (e : Tree) (i : ℕ) → stringOf (snoc es e) i ≡ (if eqb (parts es) i then stringAt e else stringOf es i)
-string-snoc nil e zero = refl
-string-snoc nil e (suc i) = rw (ne-eqb 0 (suc i) (λ z. omega arith))
-string-snoc (u ▹ us) e zero = rw (ne-eqb (suc (parts us)) 0 (λ z. omega arith))
-string-snoc (u ▹ us) e (suc i) = string-snoc us e i ∙ ap (λ b. if b then stringAt e else stringOf us i) (sym (eqb-suc (parts us) i))
-
-quoted-snoc : (t : List ℕ) (es : Trees) (e : Tree) → AllQuoted t es → Quoted t e → AllQuoted t (snoc es e)
-quoted-snoc t nil e q r = (r, tt)
-quoted-snoc t (u ▹ us) e q r = (q .0, quoted-snoc t us e (q .1) r)
-
--- one more part
-pub shown-more : {t : List ℕ} {es : Trees} {x : Texts} {n p : ℕ} (e : Tree) → Shown t es x → n ≡ parts es → p ≡ stringAt e → Quoted t e
-    → Shown t (snoc es e) (shownBy x n p)
-shown-more {t} {es} {x} {n} {p} e S l w q = record {
-  first = rw (l, w, S .first) (sym (string-snoc es e 0));
-  second = rw (l, w, S .second) (sym (string-snoc es e 1));
-  third = rw (l, w, S .third) (sym (string-snoc es e 2));
-  quoted = quoted-snoc t es e (S .quoted) q;
-}
 
 abbrev faultBy : ℕ → ℕ → ℕ → ℕ
 faultBy d e p = if eqb d 0 || eqb e 0 then 11 else if leb 1 p then 0 else 13
@@ -256,11 +212,3 @@ module _ (r c d : List ℕ) where
   pub named-words : (t : Token) → named (wordsIn r [] []) t ≡ named (wordsIn r c d) t
   unfolding named
   named-words t = refl
-
-  pub special-words : (k : ℕ) → specialOf (wordsIn [] c []) k ≡ specialOf (wordsIn r c d) k
-  unfolding spot equity pair aCurrency currencyOf
-  special-words k = refl
-
-  pub payday-words : (es : Trees) → payday (wordsIn [] c []) es ≡ payday (wordsIn r c d) es
-  unfolding aCurrency currencyOf
-  payday-words es = refl

@@ -1,17 +1,15 @@
 -- Operands joined by operators: what each turn of the code's loop comes to. One set of laws for every level.
 use mathlib.Core.Path.{_≡_, refl, sym, ap, _∙_}
 use mathlib.Core.Bool.{Bool, true, false, _||_, true≢false}
-use mathlib.Core.List.{List, [], _∷_}
+use mathlib.Core.List.{List, []}
 use Prim.Native.Nat.{ℕ, zero, suc, _+_, _-_, _*_, _≤_, _<_}
 use native.Mathlib.Omega.{arith}
-use lib.Dec.{eqb}
 use borrow.Author.Tests.{ne-eqb}
 use lib.ListN.{length}
-use Rattle.tokens.specs.Text.{if_then_else_}
 use Rattle.tokens.specs.Tokens.{Token, code}
 use Rattle.tokens.specs.declared.cursor.Cursor.{Cursor}
-use Rattle.reading.specs.Trees.{Tree, node, nil, _▹_, fields, none as unused, size, row}
-use Rattle.reading.specs.Readers.{Out, ok, refused, Reader, _>>=_, Turn, again, done, follow, loop, is, give, ask, read}
+use Rattle.reading.specs.Trees.{Tree, none as unused, size, row}
+use Rattle.reading.specs.Readers.{Out, refused, Reader, _>>=_, again, follow, loop, is, give, read}
 use Rattle.reading.specs.Grammar.{Words, binary, groupTurn, grouped, power, product, comparison, primary}
 use Rattle.reading.specs.Rows.{rows, putRow, putRows}
 use Rattle.reading.specs.Meets.{toksAt, tokenAt, Holds, Room, Ready, Follows, stringAt, Quoted, Reads}

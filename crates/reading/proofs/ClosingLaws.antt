@@ -3,7 +3,7 @@ use mathlib.Core.Path.{_≡_, refl, sym, ap, _∙_}
 use mathlib.Core.Bool.{Bool, true, false, _||_, not, true≢false}
 use mathlib.Core.List.{List, [], _∷_, _++_, append-assoc}
 use mathlib.Core.Option.{Option, none, some}
-use Prim.Native.Nat.{ℕ, zero, suc, _≤_}
+use Prim.Native.Nat.{ℕ, zero, suc}
 use Prim.Native.String.{String}
 use native.Mathlib.Omega.{arith}
 use lib.Dec.{eqb}
@@ -16,7 +16,7 @@ use Rattle.reading.specs.Grammar as G
 use Rattle.reading.specs.Grammar.{deeper, optional, Words, Inner, deep, nextKind}
 use Rattle.reading.proofs.Laws.{Rel, Near, Follows, near-follows, near-append, Reads, Law, bind-goes, failAt-law, the-law, loop-law}
 use Rattle.reading.proofs.GrammarLaws.{Moves, Each, InnerLaw, expression-law, blockTurn-law, named-law, pays-law, primary-law, target-law, moving-stays}
-use Rattle.reading.proofs.StatementLaws.{then₁, moved, given, idle₂, ended-tail, ifOver-tail, forOver-tail, assign-tail, compound-tail, near-tail, statement-tail}
+use Rattle.reading.proofs.StatementLaws.{then₁, moved, given, idle₂, ended-tail, ifOver-tail, forOver-tail, assign-tail, compound-tail, near-tail, statement-tail, over-reads}
 use Rattle.reading.proofs.EndingLaws.{bad, Fine, Firm, Ends, last-append, EachFirm, shallow, inside, each-moves, pays-firm, primary-firm, Some, bind-ends, if-ends, ask-ends, peek-ends, failAt-ends, the-some, the-last, kind-of, read-some, firm-name, firm-fine, firm-is-fine, named-fine}
 
 -- what was read, up to r, ends in `;` or `}`
@@ -113,6 +113,10 @@ pub data EachInnerFirm : Option Inner → Type 0 where
   flat : EachInnerFirm none
   under : {i : Inner} → InnerLaw i → Ends Firm (i .primary) → EachInnerFirm (some i)
 
+pub firm-deep : (o : Option Inner) → EachInnerFirm o → EachFirm (deep o)
+firm-deep none flat = shallow
+firm-deep (some i) (under h f) = inside (h .primary) f
+
 -- ---- pays: its `;` is read
 
 -- a token that is not bad
@@ -185,10 +189,6 @@ module _ {P : Rel} (F : Follows P) (W : Words) where
   nameFirst-closed p o h g k =
       search (if-closed, law-closed 2 (assign-tail F W p h), law-closed 2 (compound-tail F W p h), assignPaid-closed o g, law-closed 2 (ended-tail F p h))
 
-  firm-deep : (o : Option Inner) → EachInnerFirm o → EachFirm (deep o)
-  firm-deep none flat = shallow
-  firm-deep (some i) (under h f) = inside (h .primary) f
-
   plain-closed : ((r r′ : List Token) → P r r′ → is "else" (first r′) ≡ is "else" (first r))
       → (p : Reader Tree) (o : Option Inner) → Moves p → EachInnerFirm o → Closed P 1 (G.plain W p o)
   unfolding G.plain deeper
@@ -196,45 +196,10 @@ module _ {P : Rel} (F : Follows P) (W : Words) where
   plain-closed noElse p (some i) h (under g f) = peek-closed λ t.
       search (if-closed, law-closed 1 (ifOver-tail F noElse i g), law-closed 1 (forOver-tail F W i g), paid-closed (some (i .primary)) (inside (g .primary) f), law-closed 1 (idle₂ F (ended-tail F p h)))
 
-  firsts : (x r r′ : List Token) → 2 ≤ length x → nextKind (x ++ r′) ≡ nextKind (x ++ r)
-  firsts [] r r′ h = absurd (omega arith)
-  firsts (t ∷ []) r r′ h = absurd (omega arith)
-  firsts (t ∷ u ∷ x) r r′ h = refl
-
   statementOver-closed : ((r r′ : List Token) → P r r′ → is "else" (first r′) ≡ is "else" (first r))
       → (p : Reader Tree) (o : Option Inner) → Moves p → EachInnerFirm o → Closed P 1 (G.statementOver W p o)
-  unfolding G.statementOver
-  statementOver-closed noElse p o h g ts a r e k = go (is "name" (first ts)) refl e
-    where
-      both : Bool → ℕ → Reader Tree
-      both b n = if b then G.nameFirst W p (deep o) n else G.plain W p o
-
-      go : (b : Bool) → is "name" (first ts) ≡ b → both b (nextKind ts) ts ≡ ok a r → Reads P 1 (G.statementOver W p o) ts a r
-      go true t q =
-          let M : Reads P 2 (G.nameFirst W p (deep o) (nextKind ts)) ts a r = nameFirst-closed p (deep o) h (firm-deep o g) (nextKind ts) ts a r q k in
-          record {
-            used = M .used;
-            split = M .split;
-            enough = omega (arith, M .enough);
-            goes = λ nl r″ n g′ x.
-                let r′ : List Token = nl ++ r″ in
-                ap (λ (l : Token). both (is "name" l) (nextKind (M .used ++ r′)) (M .used ++ r′)) (near-append (M .used) r r′ (omega (arith, M .enough)) ∙ ap first (sym (M .split)))
-                ∙ ap (λ (b : Bool). both b (nextKind (M .used ++ r′)) (M .used ++ r′)) t
-                ∙ ap (λ (i : ℕ). both true i (M .used ++ r′)) (firsts (M .used) r r′ (M .enough) ∙ ap nextKind (sym (M .split)))
-                ∙ M .goes nl r″ n g′ x;
-          }
-      go false t q =
-          let M : Reads P 1 (G.plain W p o) ts a r = plain-closed noElse p o h g ts a r q k in
-          record {
-            used = M .used;
-            split = M .split;
-            enough = M .enough;
-            goes = λ nl r″ n g′ x.
-                let r′ : List Token = nl ++ r″ in
-                ap (λ (l : Token). both (is "name" l) (nextKind (M .used ++ r′)) (M .used ++ r′)) (near-append (M .used) r r′ (omega (arith, M .enough)) ∙ ap first (sym (M .split)))
-                ∙ ap (λ (b : Bool). both b (nextKind (M .used ++ r′)) (M .used ++ r′)) t
-                ∙ M .goes nl r″ n g′ x;
-          }
+  statementOver-closed noElse p o h g ts a r e k =
+      over-reads W p o ts a r (λ q. nameFirst-closed p (deep o) h (firm-deep o g) (nextKind ts) ts a r q k) (λ q. plain-closed noElse p o h g ts a r q k) e
 
   -- a statement that ends in `;` or `}` is read the same, whatever stands behind it that agrees on `else`
   pub statement-closed : ((r r′ : List Token) → P r r′ → is "else" (first r′) ≡ is "else" (first r)) → (d : ℕ) → Closed P 1 (G.statement W d)
@@ -260,7 +225,7 @@ module _ {A B : Type 0} {m : Reader A} {f : A → Reader B} where
   noEnd-keeps = bind-ends NoEnd KeepsEnd NoEnd (λ x y p q d. ap (λ t. is "End" t) (last-append d x y) ∙ q (lastOf d x) (p d))
 
 module _ {A : Type 0} {m : Reader A} where
-  law-some : (c : A → ℕ) → Law Near c m → Ends Some m
+  pub law-some : (c : A → ℕ) → Law Near c m → Ends Some m
   law-some c h ts a r e = let M : Reads Near (c a) m ts a r = h ts a r e in (M .used, M .split, tt)
 
   firm-noEnd : Ends Firm m → Ends NoEnd m
@@ -341,13 +306,9 @@ module _ (W : Words) where
   plain-noEnd p (some i) h (under g f) = peek-ends λ t.
       search (if-ends, ifOver-noEnd i g, forOver-noEnd i g, paid-noEnd (some (i .primary)) (inside (g .primary) f), ended-noEnd p h)
 
-  each-deep : (o : Option Inner) → EachInnerFirm o → EachFirm (deep o)
-  each-deep none flat = shallow
-  each-deep (some i) (under h f) = inside (h .primary) f
-
   statementOver-noEnd : (p : Reader Tree) (o : Option Inner) → Moves p → EachInnerFirm o → Ends NoEnd (G.statementOver W p o)
   unfolding G.statementOver
-  statementOver-noEnd p o h g ts a r e = if-ends (is "name" (first ts)) (nameFirst-noEnd p (deep o) h (each-deep o g) (nextKind ts)) (plain-noEnd p o h g) ts a r e
+  statementOver-noEnd p o h g ts a r e = if-ends (is "name" (first ts)) (nameFirst-noEnd p (deep o) h (firm-deep o g) (nextKind ts)) (plain-noEnd p o h g) ts a r e
 
   -- no statement reads End
   pub statement-noEnd : (d : ℕ) → Ends NoEnd (G.statement W d)

@@ -34,8 +34,11 @@ Firm x = (d : Token) → bad (lastOf d x) ≡ false
 abbrev pub Some : List Token → Type 0
 Some x = Unit {0}
 
+abbrev pub EndsBy : {A : Type 0} → (List Token → List Token → Type 0) → Reader A → Type 0
+EndsBy {A} K m = (ts : List Token) (a : A) (r : List Token) → m ts ≡ ok a r → (used : List Token) × (ts ≡ used ++ r) × K used r
+
 abbrev pub Ends : {A : Type 0} → (List Token → Type 0) → Reader A → Type 0
-Ends {A} K m = (ts : List Token) (a : A) (r : List Token) → m ts ≡ ok a r → (used : List Token) × (ts ≡ used ++ r) × K used
+Ends {A} K m = EndsBy (λ x r. K x) m
 
 pub last-append : (d : Token) (x y : List Token) → lastOf d (x ++ y) ≡ lastOf (lastOf d x) y
 unfolding lastOf
@@ -43,16 +46,19 @@ last-append d [] y = refl
 last-append d (t ∷ x) y = last-append (if counts t then t else d) x y
 
 module _ {A B : Type 0} {m : Reader A} {f : A → Reader B} where
-  pub bind-ends : (K L N : List Token → Type 0) → ((x y : List Token) → K x → L y → N (x ++ y)) → Ends K m → ((a : A) → Ends L (f a)) → Ends N (m >>= f)
+  pub bind-by : (K L N : List Token → List Token → Type 0) → ((x y r : List Token) → K x (y ++ r) → L y r → N (x ++ y) r) → EndsBy K m → ((a : A) → EndsBy L (f a)) → EndsBy N (m >>= f)
   unfolding _>>=_
-  bind-ends K L N h hm hf ts b r e = go (m ts) refl e
+  bind-by K L N h hm hf ts b r e = go (m ts) refl e
     where
-      go : (o : Out A) → m ts ≡ o → bind f o ≡ ok b r → (used : List Token) × (ts ≡ used ++ r) × N used
+      go : (o : Out A) → m ts ≡ o → bind f o ≡ ok b r → (used : List Token) × (ts ≡ used ++ r) × N used r
       go (ok a s) q w =
-          let M : (used : List Token) × (ts ≡ used ++ s) × K used = hm ts a s q in
-          let F : (used : List Token) × (s ≡ used ++ r) × L used = hf a s b r w in
-          (M .0 ++ F .0, M .1 ∙ ap (λ l. M .0 ++ l) (F .1) ∙ sym (append-assoc (M .0) (F .0) r), h (M .0) (F .0) (M .2) (F .2))
+          let M : (used : List Token) × (ts ≡ used ++ s) × K used s = hm ts a s q in
+          let F : (used : List Token) × (s ≡ used ++ r) × L used r = hf a s b r w in
+          (M .0 ++ F .0, M .1 ∙ ap (λ l. M .0 ++ l) (F .1) ∙ sym (append-assoc (M .0) (F .0) r), h (M .0) (F .0) r (subst (K (M .0)) (F .1) (M .2)) (F .2))
       go (refused x p) q w = absurd (let z : _≡_ {A = ℕ} 0 1 = cc in omega arith)
+
+  pub bind-ends : (K L N : List Token → Type 0) → ((x y : List Token) → K x → L y → N (x ++ y)) → Ends K m → ((a : A) → Ends L (f a)) → Ends N (m >>= f)
+  bind-ends K L N h = bind-by (λ x r. K x) (λ x r. L x) (λ x r. N x) (λ x y r. h x y)
 
   pub fine-fine : Ends Fine m → ((a : A) → Ends Fine (f a)) → Ends Fine (m >>= f)
   fine-fine = bind-ends Fine Fine Fine (λ x y p q d e. ap bad (last-append d x y) ∙ q (lastOf d x) (p d e))

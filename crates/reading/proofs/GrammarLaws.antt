@@ -9,7 +9,7 @@ use Rattle.tokens.specs.Tokens.{Token}
 use Rattle.reading.specs.Trees.{Tree, Trees}
 use Rattle.reading.specs.Readers.{Reader, _>>=_, _>>_, Turn, again, done, give, ask, peek, read, the}
 use Rattle.reading.specs.Grammar as G
-use Rattle.reading.specs.Grammar.{deeper, optional, grouped, sum, comparison, expression, items, arguments, method, postfixes, dateOf, aDate, df, rateIndex, Words, Inner, block, ifOver, ended}
+use Rattle.reading.specs.Grammar.{deeper, optional, grouped, sum, comparison, expression, items, arguments, method, postfixes, dateOf, aDate, df, rateIndex, Words, Inner}
 use Rattle.reading.proofs.Laws.{Rel, Near, near-follows, Law, bind-law, ask-law, the-law, give-law, fail-law, failAt-law, if-law, weaken, peek-law, read-law, cost, loop-law}
 
 abbrev pub Stays : {A : Type 0} → Reader A → Type 0
@@ -176,24 +176,9 @@ pub blockTurn-law : (s : Reader Tree) → Moves s → (ss : Trees) → Steps (G.
 unfolding G.blockTurn
 blockTurn-law s h ss = search laws depth 9
 
-pub block-law : (s : Reader Tree) → Moves s → Moves (block s)
-unfolding block
-block-law s h = search (laws, blockTurn-law) depth 10
-
-pub block-stays : (s : Reader Tree) → Moves s → Stays (block s)
-block-stays s h = moving-stays (block-law s h)
-
 pub record InnerLaw (i : Inner) : Type 0 where
   pub statement : Moves (i .statement)
   pub primary : Moves (i .primary)
-
-pub ifOver-law : (i : Inner) → InnerLaw i → Moves (ifOver i)
-unfolding ifOver
-ifOver-law i h = search (laws, expression-stays _ (h .primary), block-stays _ (h .statement)) depth 14
-
-pub ended-law : (p : Reader Tree) → Moves p → Law Near (λ t. 2) (ended p)
-unfolding ended _>>_
-ended-law p h = bind-law 1 (λ b. 1) (λ b. 2) (λ b. omega arith) near-follows (expression-law p h) (λ e. search laws depth 6)
 
 module _ (W : Words) where
   pub currencyOf-law : (t : Token) → Stays (G.currencyOf W t)
@@ -262,16 +247,6 @@ module _ (W : Words) where
   unfolding G.primary
   primary-law zero = primaryOver-law none nothing
   primary-law (suc d) = primaryOver-law (some (G.primary W d)) (just (primary-law d))
-
-  pub forOver-law : (i : Inner) → InnerLaw i → Moves (G.forOver W i)
-  unfolding G.forOver
-  forOver-law i h =
-      move-next read-moves (stay-stay (the-stays "name") λ v. stay-next (named-law v)
-      (search (laws, expression-stays _ (h .primary), block-stays _ (h .statement)) depth 9))
-
-  pub paid-law : (o : Option (Reader Tree)) → Each o → Moves (G.paid W o)
-  unfolding G.paid
-  paid-law o h = search (laws, pays-law, optional-law) depth 9
 
   pub target-law : Moves (G.target W)
   unfolding G.target

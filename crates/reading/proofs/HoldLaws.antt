@@ -1,7 +1,7 @@
 -- Cursors that hold a token of a text: what stands there, where the next one stands, and what the readers do there.
 use mathlib.Core.Path.{_≡_, refl, sym, ap, _∙_, subst}
 use mathlib.Core.Bool.{Bool, true, false, not}
-use mathlib.Core.List.{List, [], _∷_, _++_, append-assoc, map}
+use mathlib.Core.List.{List, [], _∷_, _++_, append-assoc, map, map-append}
 use Prim.Native.Nat.{ℕ, zero, suc, _+_, _-_, _≤_, _<_}
 use Prim.Native.String.{String}
 use native.Mathlib.Omega.{arith}
@@ -25,10 +25,11 @@ use Rattle.reading.specs.Readers.{Out, ok, refused, Reader, bind, _>>=_,
 use Rattle.reading.specs.Grammar.{nextKind}
 use Rattle.reading.specs.Script.{back}
 use Rattle.reading.specs.Meets.{listed, toksAt, tokenAt, Holds, Follows, theBy, Takes}
+use Rattle.reading.specs.declared.answers.Took.{Took}
 use Rattle.reading.specs.declared.answers.Took.the-variants as took
 use Rattle.reading.specs.Scripts.{rebase}
 use Rattle.reading.proofs.Laws.{Quiet, skip-clear}
-use Rattle.reading.proofs.ScriptLaws.{quiet-nil, quiet-end, end-append, count-append, map-append}
+use Rattle.reading.proofs.ScriptLaws.{quiet-nil, quiet-end, end-append, count-append, forth-back}
 
 -- ---- counts
 
@@ -262,9 +263,6 @@ module _ {t : List ℕ} {c : Cursor} (h : Holds t c) where
   pub first-from : first (toksAt t (c .start)) .from ≡ c .start
   first-from = ap (λ (u : Token). u .from) first-is
 
-  pub code-low : c .code < 100
-  code-low = rw (h .code-is) at (whole t (c .start) (h .left) (h .here))
-
   pub start-in : c .start ≤ c .end
   start-in = go held
     where
@@ -474,6 +472,12 @@ module _ {t : List ℕ} {c d : Cursor} (w : Follows t c d) (some : c .code ≡ 0
   unfolding _>>_ _>>=_
   read-next m = ap (bind (λ a. m)) (w .reads some)
 
+-- there is a token to read
+pub reads-some : (ts : List Token) (u : Token) (b : ℕ) → read (ts ++ (u ∷ [])) ≡ refused 8 b → ⊥
+unfolding read
+reads-some [] u b e = let z : _≡_ {A = ℕ} 0 1 = cc in omega arith
+reads-some (t ∷ ts) u b e = let z : _≡_ {A = ℕ} 0 1 = cc in omega arith
+
 -- ---- the token of a code, taken or not
 
 pub takes-next : {t : List ℕ} {c d : Cursor} → Holds t c → Follows t c d → (k : ℕ) → (k ≡ 0 → ⊥) → c .code ≡ k → Takes t k c (took.Next d)
@@ -481,6 +485,9 @@ takes-next h w k z e = (w, e, by-yes h w (λ p. z (sym e ∙ p)) k e)
 
 pub takes-not : {t : List ℕ} {c : Cursor} → Holds t c → (k : ℕ) → (c .code ≡ k → ⊥) → Takes t k c (took.Not (c .start))
 takes-not h k z = by-no h k z
+
+pub takes-as : (t : List ℕ) (k : ℕ) (c : Cursor) {r r′ : Took} → r ≡ r′ → Takes t k c r → Takes t k c r′
+takes-as t k c e h = subst (Takes t k c) e h
 
 -- ---- the text from a cursor on, as a text of its own
 
@@ -498,10 +505,6 @@ mark-further d zero i (b ∷ bs) = go (λ n. ap (λ (x : ℕ). markFrom (n - 1) 
     go ih (gap n) = ih n
     go ih (piece κ n) = let p : i + d + n ≡ i + n + d = omega arith in λ j. record { start = i + d; end = p j; code = κ }
     go ih (fault f) = refl
-
-forth-back : (d : ℕ) (ts : List Token) → map (back d) (map (forth d) ts) ≡ ts
-forth-back d [] = refl
-forth-back d (t ∷ ts) = let p : t .from + d - d ≡ t .from = omega arith in λ i. record { kind = t .kind; from = p i; text = t .text } ∷ forth-back d ts i
 
 module _ {t : List ℕ} {c : Cursor} (h : Holds t c) where
   abbrev D : ℕ

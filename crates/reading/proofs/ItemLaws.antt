@@ -1,10 +1,9 @@
 -- Parts of a list, of a call and of a pays: what each step of the code comes to in the definition. Each law is over plain values.
 use mathlib.Core.Path.{_≡_, refl, sym, ap, _∙_}
 use mathlib.Core.Bool.{Bool, true, false, _||_, not}
-use mathlib.Core.List.{List, [], _∷_, _++_}
+use mathlib.Core.List.{List, []}
 use mathlib.Core.Logic.{inl, inr}
 use Prim.Native.Nat.{ℕ, zero, suc, _+_, _-_, _*_, _≤_, _<_}
-use Prim.Native.String.{String}
 use native.Mathlib.Omega.{arith}
 use lib.Dec.{eqb, leb}
 use borrow.Author.Tests.{eq-eqb, ne-eqb, eqb-true, eqb-false, le-leb, leb-true}
@@ -19,8 +18,7 @@ use Rattle.reading.specs.Readers.{Out, ok, refused, Reader, bind, _>>=_,
 use Rattle.reading.specs.Grammar as G
 use Rattle.reading.specs.Grammar.{Words, expression, items, closed, arguments, deeper, primary, calls, callOf, cvg, call, payday, payments, payment, pays, listed, postfixes, currencyOf, aCurrency}
 use Rattle.reading.specs.Calls.{callKind, rightCount}
-use Rattle.reading.specs.Rows.{nodeRow, putRow}
-use Rattle.reading.specs.declared.records.Node.{Node}
+use Rattle.reading.specs.Rows.{putRow}
 use Rattle.reading.specs.Meets.{wordsIn, toksAt, tokenAt, Holds, Room, Ready, Follows, stringAt, Quoted, Reads, Meets, Before}
 use Rattle.reading.specs.Turns.{inner, listPostfixed, paysStop, Closing, itemEnd, itemTurnBy, itemsBy, FollowsItem, stringOf, AllQuoted, Shown, shownBy, ReadsItems, MeetsItems, Closed, refusalOf, itemsRefusal, callFault, Tops}
 use Rattle.reading.specs.declared.answers.Read.{Read}
@@ -32,11 +30,12 @@ use Rattle.reading.specs.declared.answers.Items.{Items}
 use Rattle.reading.specs.declared.answers.Items.the-variants as part
 use Rattle.reading.proofs.Laws.{loop-eq, left-shorter}
 use Rattle.reading.proofs.GrammarLaws.{Moves, Stays, Steps, laws, expression-law, payTurn-law, primary-law}
-use Rattle.reading.proofs.SizeLaws.{Sized, SizedAll, EachSized, nothing, just, expression-size, items-size, arguments-size, moves-less, primary-size}
-use Rattle.reading.proofs.HoldLaws.{toks-are, ask-yes, ask-no, peek-is, fail-is, read-next, the-next}
-use Rattle.reading.proofs.RowLaws.{size-node, size-some, parts-snoc, parts-few, before-none, before-more, before-node}
+use Rattle.reading.proofs.SizeLaws.{Sized, SizedAll, expression-size, items-size, arguments-size, moves-less, primary-size}
+use Rattle.reading.proofs.HoldLaws.{toks-are, ask-yes, ask-no, peek-is, fail-is, read-next, the-next, reads-some}
+use Rattle.reading.proofs.TreeLaws.{parts-snoc}
+use Rattle.reading.proofs.RowLaws.{size-node, size-some, parts-few, before-none, before-more, before-node}
 use Rattle.reading.proofs.ChainLaws.{reads-within}
-use Rattle.reading.proofs.StepLaws.{meets-as, deeper-none, deeper-some}
+use Rattle.reading.proofs.StepLaws.{meets-as, deeper-none, deeper-some, inner-sized, AllRows, row-says}
 
 -- ---- signs
 
@@ -76,12 +75,6 @@ itemTurnBy-law k p h es = search (laws, expression-law, itemEnd-stays) depth 9
 pub itemsBy-size : (k : ℕ) → Closing k → (p : Reader Tree) → Sized p → SizedAll (itemsBy k p)
 itemsBy-size k (inl e) p h = rw (e, items-by-paren p) (items-size ")" p h)
 itemsBy-size k (inr e) p h = rw (e, items-by-bracket p) (items-size "]" p h)
-
--- there is a token to read
-reads-some : (ts : List Token) (u : Token) (b : ℕ) → read (ts ++ (u ∷ [])) ≡ refused 8 b → ⊥
-unfolding read
-reads-some [] u b e = let z : _≡_ {A = ℕ} 0 1 = cc in omega arith
-reads-some (t ∷ ts) u b e = let z : _≡_ {A = ℕ} 0 1 = cc in omega arith
 
 -- ---- strings of parts
 
@@ -162,11 +155,6 @@ closed-code k r c m j x e h = rw e at h
 pub parts-refusal : (t : List ℕ) (R : Out Tree) (n : ℕ) (o : List ℕ) (r : Read) (o′ : List ℕ) (x : Items) (R′ : Out Trees) (n′ : ℕ) (o₁ o₂ : List ℕ) (close k b : ℕ)
     → r ≡ answer.Refused k b → Meets t R n o r o′ → x ≡ itemsRefusal r → (R ≡ refused k b → R′ ≡ refused k b) → MeetsItems t R′ n′ o₁ x o₂ × Closed close x
 parts-refusal t R n o r o′ x R′ n′ o₁ o₂ close k b e h q f = let z : x ≡ part.Refused k b = q ∙ ap itemsRefusal e in rw z (f (rw e at h), tt)
-
--- the row of a node without fields, as the code puts it
-pub item-put : (o₂ o : List ℕ) (n : ℕ) (x : Node) (k a b : ℕ) → o₂ ≡ putRow o n (nodeRow x) → x ≡ record { kind = k; nodes = a; parts = b; f1 = 0; f2 = 0; f3 = 0; f4 = 0 }
-    → o₂ ≡ putRow o n (row k a b unused)
-item-put o₂ o n x k a b e q = e ∙ ap (λ (y : Node). putRow o n (nodeRow y)) q
 
 -- what follows an item
 pub follows-as : (t : List ℕ) (k : ℕ) (c : Cursor) (r r′ : Took) → r ≡ r′ → FollowsItem t k c r → FollowsItem t k c r′
@@ -404,11 +392,7 @@ within-one k n = go (eqb n k) (leb k n) (leb n k) refl refl refl
 abbrev Right : (ℕ × ℕ × ℕ) → Type 0
 Right c = 1 ≤ c .0 → (c .0 ≡ 5 → ⊥) × ((n : ℕ) → within (c .1) (c .2) n ≡ rightCount (c .0) n)
 
-abbrev AllRight : List (String × (ℕ × ℕ × ℕ)) → Type 0
-AllRight [] = Unit {0}
-AllRight (c ∷ cs) = Right (c .1) × AllRight cs
-
-calls-right : AllRight calls
+calls-right : AllRows Right calls
 unfolding rightCount
 calls-right = (
   λ h. (λ e. omega arith, within-one 1),
@@ -430,15 +414,6 @@ calls-right = (
   ),
 )
 
-callOf-right : (w : List ℕ) (cs : List (String × (ℕ × ℕ × ℕ))) → AllRight cs → Right (callOf w cs)
-unfolding callOf
-callOf-right w [] a = λ h. absurd (omega (arith, h))
-callOf-right w (c ∷ cs) a = go (same (bytes (c .0)) w) (callOf-right w cs (a .1))
-  where
-    go : (b : Bool) → Right (callOf w cs) → Right (elim b as (λ _. ℕ × ℕ × ℕ) [ true ↦ c .1 | false ↦ callOf w cs ])
-    go true ih = a .0
-    go false ih = ih
-
 -- a kind that is an ordinary call's
 kind-low : (w : List ℕ) (k : ℕ) → k ≡ callKind w → 1 ≤ k → k < 32 → k ≡ callOf w calls .0
 unfolding callKind
@@ -456,11 +431,6 @@ kind-low w k e l u = go (leb 1 (callOf w calls .0)) e
     go true q = q
     go false q = absurd (other (same (bytes "Spot") w) (same (bytes "Df") w) (same (bytes "RateIndex") w) q)
 
-inner-sized : (W : Words) (d : ℕ) → EachSized (inner W d)
-unfolding inner
-inner-sized W zero = nothing
-inner-sized W (suc d) = just (primary-size W d)
-
 -- what was read behind a name, with what is left, is no more than there was
 pub arguments-within : (W : Words) (depth : ℕ) (t : List ℕ) (c : Cursor) (n : ℕ) (o : List ℕ) (d : Cursor) (m k : ℕ) (x : Texts) (o′ : List ℕ)
     → ReadsItems t (arguments (inner W depth) (toksAt t (c .start))) n o d m k x o′ → Room t c n
@@ -476,7 +446,7 @@ module _ (W : Words) (depth : ℕ) (tok : Token) (k : ℕ) (e : k ≡ callKind (
   row-kind = sym (kind-low (tok .text) k e l u)
 
   row-right : (Row .0 ≡ 5 → ⊥) × ((n : ℕ) → within (Row .1) (Row .2) n ≡ rightCount (Row .0) n)
-  row-right = callOf-right (tok .text) calls calls-right (omega (arith, row-kind, l))
+  row-right = row-says Right (tok .text) calls (λ h. absurd (omega (arith, h))) calls-right (omega (arith, row-kind, l))
 
   pub call-plain : k ≡ 5 → ⊥
   call-plain q = row-right .0 (row-kind ∙ q)

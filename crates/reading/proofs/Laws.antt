@@ -33,10 +33,6 @@ pub near-append : (z r r′ : List Token) → 1 ≤ length z → Near (z ++ r) (
 near-append [] r r′ h = absurd (omega arith)
 near-append (t ∷ z) r r′ h = refl
 
-pub append-follows : {P : Rel} → Follows P → (z r r′ : List Token) → P r r′ → P (z ++ r) (z ++ r′)
-append-follows F [] r r′ p = p
-append-follows F (t ∷ z) r r′ p = F .near (t ∷ z ++ r) (t ∷ z ++ r′) refl
-
 -- nothing but newlines
 abbrev pub Quiet : List Token → Type 0
 Quiet nl = (r : List Token) → skip (nl ++ r) ≡ skip r

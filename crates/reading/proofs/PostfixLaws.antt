@@ -1,10 +1,9 @@
 -- Postfixes and names: what each step of the code comes to in the definition, over plain values.
 use mathlib.Core.Path.{_≡_, refl, sym, ap, _∙_, subst}
 use mathlib.Core.Bool.{Bool, true, false, _&&_, _||_, not, true≢false}
-use mathlib.Core.List.{List, [], _∷_, _++_}
+use mathlib.Core.List.{List, []}
 use mathlib.Core.Option.{Option}
 use Prim.Native.Nat.{ℕ, zero, suc, _+_, _-_, _*_, _≤_, _<_}
-use Prim.Native.String.{String}
 use native.Mathlib.Omega.{arith}
 use lib.Dec.{eqb, leb}
 use borrow.Author.Tests.{eq-eqb, ne-eqb, eqb-true, leb-true}
@@ -16,11 +15,10 @@ use Rattle.tokens.specs.declared.cursor.Cursor.{Cursor}
 use Rattle.reading.specs.Trees.{Tree, Trees, node, nil, _▹_, fields, none as unused, parts, row}
 use Rattle.reading.specs.Readers.{Out, ok, refused, Reader, bind, _>>=_, _>>_, Turn, again, done, follow, loop, is, give, fail, failAt, read, the}
 use Rattle.reading.specs.Grammar.{Words, binary, deeper, expression, arguments, method, methodOf, indexOf, postfixTurn, postfixes, calls, callOf, call, named, variable, name, spot, df, rateIndex, currencyOf, aCurrency, equity, pair, primary}
-use Rattle.reading.specs.Rows.{putRow, nodeRow}
+use Rattle.reading.specs.Rows.{putRow}
 use Rattle.reading.specs.Calls.{callKind, methodKind}
 use Rattle.reading.specs.Meets.{wordsIn, toksAt, tokenAt, Holds, Room, Ready, Follows, theBy, Takes, stringAt, Quoted, Reads, Meets, Before}
 use Rattle.reading.specs.Turns.{inner, postfixSign, ReadsItems, MeetsItems, refusalOf, specialOf, Unquoted, Tops, ReadsTurn, MeetsTurn, Onward, MeetsTurns}
-use Rattle.reading.specs.declared.records.Node.{Node}
 use Rattle.reading.specs.declared.answers.Read.{Read}
 use Rattle.reading.specs.declared.answers.Read.the-variants.{Done, Refused}
 use Rattle.reading.specs.declared.answers.Took.{Took}
@@ -30,11 +28,11 @@ use Rattle.reading.specs.declared.answers.Items.{Items}
 use Rattle.reading.specs.declared.answers.Items.the-variants as part
 use Rattle.reading.proofs.Laws.{loop-eq}
 use Rattle.reading.proofs.GrammarLaws.{Each, nothing, just, Moves, expression-law, postfixTurn-law, primary-law}
-use Rattle.reading.proofs.SizeLaws.{Sized, EachSized, nothing as no-size, just as sized, moves-less, expression-size, arguments-spare, named-size, primary-size}
-use Rattle.reading.proofs.HoldLaws.{toks-are, peek-is, read-next, the-then, the-next, the-then-not, the-next-not}
+use Rattle.reading.proofs.SizeLaws.{Sized, EachSized, moves-less, expression-size, arguments-spare, named-size}
+use Rattle.reading.proofs.HoldLaws.{toks-are, peek-is, read-next, the-then, the-next, the-then-not, the-next-not, reads-some}
 use Rattle.reading.proofs.RowLaws.{size-some, size-node, size-two, sizes-front, parts-few, put-front, put-rows-same, after-two, before-node}
 use Rattle.reading.proofs.ChainLaws.{reads-within}
-use Rattle.reading.proofs.StepLaws.{meets-as, bind-refused, deeper-none, deeper-some}
+use Rattle.reading.proofs.StepLaws.{meets-as, bind-refused, deeper-none, deeper-some, row-says}
 
 -- ---- answers of calls, as the code takes them apart
 
@@ -56,17 +54,8 @@ pub onward-done : (t : List ℕ) (c : Cursor) (n : ℕ) (r : Read) (d : Cursor) 
     → Ready t d m × (n < m) × (length (toksAt t (d .start)) < length (toksAt t (c .start)))
 onward-done t c n r d m q e h = rw e at h
 
-pub items-done : (t : List ℕ) (R : Out Trees) (n : ℕ) (o : List ℕ) (i : Items) (o′ : List ℕ) (c : Cursor) (m k : ℕ) (x : Texts) → i ≡ part.Done c m k x
-    → MeetsItems t R n o i o′ → ReadsItems t R n o c m k x o′
-items-done t R n o i o′ c m k x e h = rw e at h
-
 pub took-next : (t : List ℕ) (k : ℕ) (c : Cursor) (a : Took) (d : Cursor) → a ≡ took.Next d → Takes t k c a → Follows t c d × (c .code ≡ k)
 took-next t k c a d e h = let g : Takes t k c (took.Next d) = (rw e at h) in (g .0, g .1)
-
-read-some : (l : List Token) (u : Token) (b : ℕ) → read (l ++ (u ∷ [])) ≡ refused 8 b → ⊥
-unfolding read
-read-some [] u b e = let z : _≡_ {A = ℕ} 0 1 = cc in omega arith
-read-some (x ∷ l) u b e = let z : _≡_ {A = ℕ} 0 1 = cc in omega arith
 
 -- a token that was not taken is of another kind
 pub took-not : (t : List ℕ) (c : Cursor) → Holds t c → (k : ℕ) (a : Took) (b : ℕ) → a ≡ took.Not b → Takes t k c a → c .code ≡ k → ⊥
@@ -74,12 +63,7 @@ took-not t c h k a b e w q =
     let g : theBy k (toksAt t (c .start)) ≡ refused 8 b = (rw e at w) in
     let f : theBy k (toksAt t (c .start)) ≡ read (toksAt t (c .start))
     = peek-is h (λ u. if eqb k (u .kind) then read else fail 8) ∙ ap (λ (x : Bool). (if x then read else fail 8) (toksAt t (c .start))) (eq-eqb k (c .code) (sym q)) in
-    read-some (h .left) (final (length t)) b (ap read (sym (toks-are h)) ∙ (sym f ∙ g))
-
--- a plain record is put
-pub post-put : (o o′ : List ℕ) (m : ℕ) (x : Node) (k w v : ℕ) → x ≡ record { kind = k; nodes = w; parts = v; f1 = 0; f2 = 0; f3 = 0; f4 = 0 }
-    → o′ ≡ putRow o m (nodeRow x) → o′ ≡ putRow o m (row k w v unused)
-post-put o o′ m x k w v e h = h ∙ ap (λ (y : Node). putRow o m (nodeRow y)) e
+    reads-some (h .left) (final (length t)) b (ap read (sym (toks-are h)) ∙ (sym f ∙ g))
 
 -- behind a token there is room for what there was room for
 pub ready-behind : (t : List ℕ) (c d : Cursor) (n k : ℕ) → Room t c n → Follows t c d → c .code ≡ suc k → Ready t d n
@@ -91,11 +75,6 @@ pub each-inner : (W : Words) (d : ℕ) → Each (inner W d)
 unfolding inner
 each-inner W zero = nothing
 each-inner W (suc d) = just (primary-law W d)
-
-pub inner-sized : (W : Words) (d : ℕ) → EachSized (inner W d)
-unfolding inner
-inner-sized W zero = no-size
-inner-sized W (suc d) = sized (primary-size W d)
 
 -- ---- an index, behind its `[`
 
@@ -349,21 +328,18 @@ module _ (I : Option (Reader Tree)) (each : Each I) (t : List ℕ) where
         or-right false b e = e
 
     module _ (r : Read) (o₂ : List ℕ) (turn : MeetsTurns t (λ x. postfixTurn I x (toksAt t (c .start))) n m o′ c r o₂) where
+      g : MeetsTurn t (postfixTurn I (ch .tree) (toksAt t (c .start))) n o r o₂
+      g = turn .0 (ch .tree) o (ch .tops)
+
       pub post-refused : (k b : ℕ) → r ≡ Refused k b → Meets t R n o r o₂
       post-refused k b e = rw e (turn-of ∙ ap (follow (loop (postfixTurn I))) f)
         where
-          g : MeetsTurn t (postfixTurn I (ch .tree) (toksAt t (c .start))) n o r o₂
-          g = turn .0 (ch .tree) o (ch .tops)
-
           f : postfixTurn I (ch .tree) (toksAt t (c .start)) ≡ refused k b
           f = rw e at g
 
       pub post-more : (d : Cursor) (j q : ℕ) → r ≡ Done d j q → PostChain I t R n o d j o₂
       post-more d j q e = record { tree = f .tree; is = turn-of ∙ (rw (f .is)); tops = f .tops }
         where
-          g : MeetsTurn t (postfixTurn I (ch .tree) (toksAt t (c .start))) n o r o₂
-          g = turn .0 (ch .tree) o (ch .tops)
-
           f : ReadsTurn t (postfixTurn I (ch .tree) (toksAt t (c .start))) n o d j o₂
           f = rw e at g
 
@@ -373,21 +349,8 @@ pub above : (k : ℕ) → (k ≡ 0 → ⊥) → 1 ≤ k
 above zero z = absurd (z refl)
 above (suc k) z = omega arith
 
-abbrev Lows : List (String × (ℕ × ℕ × ℕ)) → Type 0
-Lows [] = Unit {0}
-Lows (c ∷ cs) = (c .1 .0 < 32) × Lows cs
-
-either-low : (b : Bool) (x y : ℕ × ℕ × ℕ) → x .0 < 32 → y .0 < 32 → (let v : ℕ × ℕ × ℕ = elim b [ true ↦ x | false ↦ y ] in v .0) < 32
-either-low true x y h g = h
-either-low false x y h g = g
-
-rows-low : (w : List ℕ) (cs : List (String × (ℕ × ℕ × ℕ))) → Lows cs → callOf w cs .0 < 32
-unfolding callOf
-rows-low w [] h = omega arith
-rows-low w (c ∷ cs) h = either-low (same (bytes (c .0)) w) (c .1) (callOf w cs) (h .0) (rows-low w cs (h .1))
-
 call-low : (w : List ℕ) → callOf w calls .0 < 32
-call-low w = rows-low w calls (omega arith, (omega arith, (omega arith, (omega arith, (omega arith, (omega arith, (omega arith, (omega arith, tt))))))))
+call-low w = row-says (λ c. c .0 < 32) w calls (omega arith) (omega arith, (omega arith, (omega arith, (omega arith, (omega arith, (omega arith, (omega arith, (omega arith, tt))))))))
 
 module _ (W : Words) (I : Option (Reader Tree)) (u : Token) (ts : List Token) where
   abbrev Named : ℕ → Reader Tree → Type 0

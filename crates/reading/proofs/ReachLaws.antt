@@ -1,10 +1,10 @@
 -- Places in a script: statements, and the tokens that they are read from.
 use mathlib.Core.Path.{_≡_, refl, sym, ap, _∙_, subst}
 use mathlib.Core.Bool.{Bool, true, false, not, true≢false}
-use mathlib.Core.List.{List, [], _∷_, _++_, append-assoc, append-nil, map}
-use Prim.Native.Nat.{ℕ, zero, suc, _+_, _-_, _≤_}
+use mathlib.Core.List.{List, [], _∷_, _++_, append-assoc, append-nil, map, map-append}
+use Prim.Native.Nat.{ℕ, suc, _+_, _-_, _≤_}
 use native.Mathlib.Omega.{arith}
-use lib.Seq.{take-append-seam, drop-append-seam}
+use lib.Seq.{drop-append-seam}
 use lib.ListN.{length, take, drop, length-append, length-map}
 use Rattle.tokens.specs.Limits.{mostDepth}
 use Rattle.tokens.specs.Text.{if_then_else_, count}
@@ -16,11 +16,11 @@ use Rattle.reading.specs.Script.{Entry, accepted, back, entryOf, from, t
 use Rattle.reading.proofs.Laws.{Quiet, skip-clear}
 use Rattle.reading.proofs.StatementLaws.{stops}
 use Rattle.reading.proofs.EndingLaws.{last-append}
-use Rattle.reading.proofs.ScriptLaws.{forth, skip-forth, from-forth, from-eq, prepend, Left, Run, none, more, from-run, Parts, map-parts, map-append, quiet-nil, quiet-last, quiet-end, end-append, count-append}
+use Rattle.reading.proofs.ScriptLaws.{forth, skip-forth, from-forth, from-eq, prepend, Left, Run, none, more, from-run, Parts, map-parts, last-map, count-map, used-part, forth-back, quiet-nil, quiet-last, quiet-end, end-append, count-append}
 use Rattle.reading.proofs.ClosingLaws.{statement-noEnd, NoEnd}
-use Rattle.reading.proofs.SealLaws.{unsealed, Sealed, Keeps, statement-seals}
+use Rattle.reading.proofs.SealLaws.{unsealed, Sealed, sealed-after, Keeps, statement-seals}
 use Rattle.reading.proofs.Seams.{none-last}
-use Rattle.reading.proofs.AmendLaws.{Apart, Kept, kept, Mid, mid, opens-of, end-apart, from-end, only-end, forth-back, split-same, run-noEnd, None}
+use Rattle.reading.proofs.AmendLaws.{Apart, Kept, kept, Mid, mid, opens-of, end-apart, from-end, only-end, last-end, split-same, run-noEnd, None}
 
 -- ---- places that ascend
 
@@ -70,58 +70,12 @@ low k (t ∷ r) u us q = let o : forth k t ≡ u = cc in omega (arith, ap (λ (x
 
 -- ---- what does not depend on places
 
-last-forth : (s : ℕ) (d d′ : Token) (x : List Token) → unsealed d ≡ unsealed d′ → unsealed (lastOf d (map (forth s) x)) ≡ unsealed (lastOf d′ x)
-unfolding lastOf
-last-forth s d d′ [] e = e
-last-forth s d d′ (t ∷ x) e = last-forth s (if counts t then forth s t else d) (if counts t then t else d′) x (go (counts t))
-  where
-    go : (b : Bool) → unsealed (if b then forth s t else d) ≡ unsealed (if b then t else d′)
-    go true = refl
-    go false = e
-
-last-back : (s : ℕ) (d d′ : Token) (x : List Token) → unsealed d ≡ unsealed d′ → unsealed (lastOf d (map (back s) x)) ≡ unsealed (lastOf d′ x)
-unfolding lastOf
-last-back s d d′ [] e = e
-last-back s d d′ (t ∷ x) e = last-back s (if counts t then back s t else d) (if counts t then t else d′) x (go (counts t))
-  where
-    go : (b : Bool) → unsealed (if b then back s t else d) ≡ unsealed (if b then t else d′)
-    go true = refl
-    go false = e
-
-end-last-back : (s : ℕ) (d d′ : Token) (x : List Token) → is "End" d ≡ is "End" d′ → is "End" (lastOf d (map (back s) x)) ≡ is "End" (lastOf d′ x)
-unfolding lastOf
-end-last-back s d d′ [] e = e
-end-last-back s d d′ (t ∷ x) e = end-last-back s (if counts t then back s t else d) (if counts t then t else d′) x (go (counts t))
-  where
-    go : (b : Bool) → is "End" (if b then back s t else d) ≡ is "End" (if b then t else d′)
-    go true = refl
-    go false = e
-
-count-forth : (s : ℕ) (x : List Token) → count counts (map (forth s) x) ≡ count counts x
-unfolding count
-count-forth s [] = refl
-count-forth s (t ∷ x) = ap (λ (n : ℕ). (if counts t then 1 else 0) + n) (count-forth s x)
-
-count-back : (s : ℕ) (x : List Token) → count counts (map (back s) x) ≡ count counts x
-unfolding count
-count-back s [] = refl
-count-back s (t ∷ x) = ap (λ (n : ℕ). (if counts t then 1 else 0) + n) (count-back s x)
-
-sealed-after : (x y : List Token) → Sealed y → Sealed (x ++ y)
-sealed-after x y q d = ap unsealed (last-append d x y) ∙ q (lastOf d x)
-
 apart-forth : (d : ℕ) (x : List Token) → Apart (first (skip x)) → Apart (first (skip (map (forth d) x)))
 apart-forth d x q = subst (λ (l : List Token). Apart (first l)) (sym (skip-forth d x)) (go (skip x) q)
   where
     go : (l : List Token) → Apart (first l) → Apart (first (map (forth d) l))
     go [] k = k
     go (t ∷ l) k = record { noElse = k .noElse; noOn = k .noOn; noIn = k .noIn; noSemicolon = k .noSemicolon; noLine = k .noLine }
-
--- what was read, of a list that is split
-used-part : (y w : List Token) → take (length (y ++ w) - length w) (y ++ w) ≡ y
-used-part y w =
-    let e : length (y ++ w) - length w ≡ length y = omega (arith, length-append y w) in
-    ap (λ (n : ℕ). take n (y ++ w)) e ∙ take-append-seam y w
 
 -- ---- a run of statements, and where its tokens are
 
@@ -140,7 +94,7 @@ module _ (W : Words) where
   seal-more : (k : ℕ) {c : ℕ} {r : List Token} {es : List Entry} {δ : ℕ} {r′ : List Token} → Run W c r es δ r′ → (x y : List Token)
       → (stops (first r) ≡ false → Sealed x) → (stops (first r′) ≡ false → Shutting es y) → stops (first r′) ≡ false → Sealed (x ++ map (forth k) y)
   seal-more k none x y p q n d = ap (λ (l : List Token). unsealed (lastOf d (x ++ map (forth k) l))) (q n) ∙ ap (λ l. unsealed (lastOf d l)) (append-nil x) ∙ p n d
-  seal-more k (more nl u us t r s q′ n′ e h run) x y p q n d = sealed-after x (map (forth k) y) (λ d′. last-forth k d′ d′ y refl ∙ q n d′) d
+  seal-more k (more nl u us t r s q′ n′ e h run) x y p q n d = sealed-after x (map (forth k) y) (λ d′. last-map (forth k) (λ t. refl) unsealed (λ t. refl) d′ d′ y refl ∙ q n d′) d
 
   pub reach : {b : ℕ} {ts : List Token} {es : List Entry} {δ : ℕ} {r : List Token} → Run W b ts es δ r → Asc 0 ts → Reach ts es δ r
   unfolding count entryOf
@@ -159,14 +113,14 @@ module _ (W : Words) where
       ∙ ap (λ l. map (forth (u .from)) (R .head) ++ l) (forth-forth (u .from) δ (u .from + δ) r′ (omega arith)) in
       let c : count counts (nl ++ X .one ++ map (forth (u .from)) (R .head)) ≡ count counts (St .0) + tokensOf es
       = count-append (nl ++ X .one) (map (forth (u .from)) (R .head))
-      ∙ (λ i. count-append nl (X .one) i + (count-forth (u .from) (R .head) ∙ R .tokens) i)
-      ∙ (λ i. quiet-end 0 nl (quiet-nil nl q) .1 i + (sym (count-back (u .from) (X .one)) ∙ ap (count counts) (X .left)) i + tokensOf es) ∙ plus (count counts (St .0)) (tokensOf es) in
+      ∙ (λ i. count-append nl (X .one) i + (count-map (forth (u .from)) (λ t. refl) (R .head) ∙ R .tokens) i)
+      ∙ (λ i. quiet-end 0 nl (quiet-nil nl q) .1 i + (sym (count-map (back (u .from)) (λ t. refl) (X .one)) ∙ ap (count counts) (X .left)) i + tokensOf es) ∙ plus (count counts (St .0)) (tokensOf es) in
       record {
         head = nl ++ X .one ++ map (forth (u .from)) (R .head);
         split = s ∙ ap (λ l. nl ++ l) (X .whole ∙ ap (λ l. X .one ++ l) w) ∙ sym (append-assoc nl (X .one) (map (forth (u .from)) (R .head) ++ map (forth (u .from + δ)) r′))
             ∙ sym (append-assoc (nl ++ X .one) (map (forth (u .from)) (R .head)) (map (forth (u .from + δ)) r′));
         shut = seal-more (u .from) run (nl ++ X .one) (R .head)
-            (λ m. sealed-after nl (X .one) (λ d. sym (last-back (u .from) d d (X .one) refl) ∙ ap (λ l. unsealed (lastOf d l)) (X .left) ∙ St .2 m d)) (R .shut);
+            (λ m. sealed-after nl (X .one) (λ d. sym (last-map (back (u .from)) (λ t. refl) unsealed (λ t. refl) d d (X .one) refl) ∙ ap (λ l. unsealed (lastOf d l)) (X .left) ∙ St .2 m d)) (R .shut);
         tokens = c ∙ ap (λ (l : List Token). count counts l + tokensOf es) (sym (used-part (St .0) r) ∙ ap (λ (l : List Token). take (length l - length r) l) (sym (St .1)));
       }
     where
@@ -299,7 +253,7 @@ module _ (W : Words) where
           let e₂ : endOf 0 (take (length (map f′ (u ∷ us)) - length r) (map f′ (u ∷ us))) ≡ endOf 0 (map f′ (X .one))
           = ap (λ (l : List Token). endOf 0 (take (length l - length r) l)) (E .1) ∙ ap (endOf 0) (used-part (E .0) r ∙ sym (X .left)) in
           let n₂ : count counts (take (length (map f′ (u ∷ us)) - length r) (map f′ (u ∷ us))) ≡ count counts (xs ++ (w ∷ nl₂))
-          = ap (λ (l : List Token). count counts (take (length l - length r) l)) (E .1) ∙ ap (count counts) (used-part (E .0) r ∙ sym (X .left)) ∙ count-back (u .from) (X .one) ∙ ap (count counts) one in
+          = ap (λ (l : List Token). count counts (take (length l - length r) l)) (E .1) ∙ ap (count counts) (used-part (E .0) r ∙ sym (X .left)) ∙ count-map (back (u .from)) (λ t. refl) (X .one) ∙ ap (count counts) one in
           let dr : from W 0 (X .two) ≡ accepted es
           = ap (from W 0) (sym (asc-undo (u .from) (X .two) a₃) ∙ ap (map (forth (u .from))) (X .right)) ∙ from-forth W 0 (u .from) r ∙ ap (λ (i : ℕ). from W i r) (plus (u .from)) ∙ f in
           record {
@@ -318,7 +272,7 @@ module _ (W : Words) where
             end = ap (λ (i : ℕ). 0 + u .from + i) e₂ ∙ plus₃ (u .from) (endOf 0 (map f′ (X .one))) ∙ e₁;
             more = asc-member (u .from) xs w nl₂ (subst (λ (l : List Token). Asc (u .from) l) one a₂);
             lastOne = ap (λ t. is "End" t) (sym (last-last u xs w nl₂ k m)) ∙ ap (λ l. is "End" (lastOf u l)) (sym one)
-                ∙ sym (end-last-back (u .from) u u (X .one) refl) ∙ ap (λ l. is "End" (lastOf u l)) (X .left) ∙ E .2 u;
+                ∙ sym (last-map (back (u .from)) (λ t. refl) (λ t. is "End" t) (λ t. refl) u u (X .one) refl) ∙ ap (λ l. is "End" (lastOf u l)) (X .left) ∙ E .2 u;
             lastCounts = m;
             rest = from-quiet 0 nl₂ (X .two) (none-quiet nl₂ k) ∙ dr;
             some = subst (λ (i : ℕ). 1 ≤ i) (sym n₂) (some-last xs w nl₂ m);
@@ -460,7 +414,7 @@ module _ (W : Words) where
   text-goes tn n (x ∷ ns) nn a h (shut c) =
       let M : Mid W 0 tn (final n) (x ∷ ns) = mid W 0 tn (final n) x ns nn refl h c in
       let R : Reach (tn ++ (final n ∷ [])) (x ∷ ns) (M .δ) (M .left) = reach W (M .run) a in
-      let hd : R .head ≡ tn = M .alone (R .head) (map (forth (M .δ)) (M .left)) (R .split) (forth-back W (M .δ) (M .left)) in
+      let hd : R .head ≡ tn = M .alone (R .head) (map (forth (M .δ)) (M .left)) (R .split) (forth-back (M .δ) (M .left)) in
       let s : tn ++ (final n ∷ []) ≡ tn ++ map (forth (M .δ)) (M .left) = R .split ∙ ap (λ l. l ++ map (forth (M .δ)) (M .left)) hd in
       let z : final n ∷ [] ≡ map (forth (M .δ)) (M .left) = sym (drop-append-seam tn (final n ∷ [])) ∙ ap (drop (length tn)) s ∙ drop-append-seam tn (map (forth (M .δ)) (M .left)) in
       goes-farther tn (x ∷ ns) (M .δ) n (low (M .δ) (M .left) (final n) [] (sym z)) (M .goes)
@@ -496,10 +450,6 @@ module _ (W : Words) where
       kind k [] = refl
       kind k (t ∷ x) = refl
 
-  last-some : (d : Token) (l : List Token) (f : Token) → is "End" f ≡ true → lastOf d (l ++ (f ∷ [])) ≡ f
-  unfolding lastOf
-  last-some d l f e = last-append d l (f ∷ []) ∙ ap (λ (c : Bool). if not c then f else lastOf d l) (end-apart W f e .noLine)
-
   end-counts : (l : List Token) (f : Token) → is "End" f ≡ true → count counts (l ++ (f ∷ [])) ≡ suc (count counts l)
   unfolding count
   end-counts l f e = count-append l (f ∷ []) ∙ ap (λ (c : Bool). count counts l + ((if not c then 1 else 0) + 0)) (end-apart W f e .noLine) ∙ omega arith
@@ -507,19 +457,15 @@ module _ (W : Words) where
   -- no run of statements reads End
   left-some : {ts : List Token} {es : List Entry} {δ : ℕ} {r : List Token} → Run W 0 ts es δ r → (l : List Token) (f : Token) → is "End" f ≡ true → ts ≡ l ++ (f ∷ []) → (x : List Token) → ts ≡ x ++ map (forth δ) r
       → count counts (map (forth δ) r) ≡ 0 → ⊥
-  left-some {ts} none l f fe w x v c = omega (arith, count-forth 0 ts, ap (count counts) w, end-counts l f fe)
+  left-some {ts} none l f fe w x v c = omega (arith, count-map (forth 0) (λ t. refl) ts, ap (count counts) w, end-counts l f fe)
   left-some {ts} {δ = δ} {r} (more nl u us t r₁ s q n e h run) l f fe w x v c =
-      true≢false (sym fe ∙ ap (λ t. is "End" t) (sym (last-some f l f fe)) ∙ ap (λ k. is "End" (lastOf f k)) (sym w ∙ v) ∙ ap (λ t. is "End" t) (last-append f x (map (forth δ) r) ∙ none-last (lastOf f x) (map (forth δ) r) c)
-      ∙ run-noEnd W (more nl u us t r₁ s q n e h run) x (map (forth δ) r) v (forth-back W δ r) f)
+      true≢false (sym fe ∙ ap (λ t. is "End" t) (sym (last-end W f f l fe)) ∙ ap (λ k. is "End" (lastOf f k)) (sym w ∙ v) ∙ ap (λ t. is "End" t) (last-append f x (map (forth δ) r) ∙ none-last (lastOf f x) (map (forth δ) r) c)
+      ∙ run-noEnd W (more nl u us t r₁ s q n e h run) x (map (forth δ) r) v (forth-back δ r) f)
 
   -- a script's tokens are those of its statements
   pub tokens-exact : (l : List Token) (f : Token) (es : List Entry) → None W l → is "End" f ≡ true → Asc 0 (l ++ (f ∷ [])) → from W 0 (l ++ (f ∷ [])) ≡ accepted es → count counts l ≡ tokensOf es
   tokens-exact l f es n fe a h =
       let L : Left W 0 (l ++ (f ∷ [])) es [] = from-run W es [] 0 (l ++ (f ∷ [])) (h ∙ ap accepted (sym (append-nil es))) in
       let R : Reach (l ++ (f ∷ [])) es (L .0) (L .1) = reach W (L .2) a in
-      let some : 1 ≤ count counts (map (forth (L .0)) (L .1)) = positive (count counts (map (forth (L .0)) (L .1))) (left-some (L .2) l f fe refl (R .head) (R .split)) in
+      let some : 1 ≤ count counts (map (forth (L .0)) (L .1)) = omega (arith, (left-some (L .2) l f fe refl (R .head) (R .split))) in
       omega (arith, tokens-all l f es n fe a h, end-counts l f fe, ap (count counts) (R .split), count-append (R .head) (map (forth (L .0)) (L .1)), R .tokens)
-    where
-      positive : (k : ℕ) → (k ≡ 0 → ⊥) → 1 ≤ k
-      positive zero g = absurd (g refl)
-      positive (suc k) g = omega arith

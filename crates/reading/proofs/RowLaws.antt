@@ -15,6 +15,7 @@ use Rattle.reading.specs.Sizes.{recordWidth}
 use Rattle.reading.specs.Trees.{Tree, Trees, node, nil, _▹_, Fields, fields, snoc, join, parts, size, sizes, row, records, recordsOf}
 use Rattle.reading.specs.Rows.{rows, rowsOf, putWords, putAt, putAll, putRow, putRows}
 use Rattle.reading.specs.Meets.{Before}
+use Rattle.reading.proofs.TreeLaws.{size-snoc}
 
 -- ---- how many
 
@@ -45,22 +46,6 @@ size-two k x f a b = ap (λ n. suc (size a + n)) (add-zero (size b))
 pub size-some : (t : Tree) → 1 ≤ size t
 size-some (node k x f ts) = omega (arith, size-node k x f ts)
 
-pub size-snoc : (ts : Trees) (t : Tree) → sizes (snoc ts t) ≡ sizes ts + size t
-size-snoc nil t = omega (arith, sizes-nil, sizes-front t nil)
-size-snoc (u ▹ us) t = omega (arith, sizes-front u us, sizes-front u (snoc us t), size-snoc us t)
-
-pub sizes-join : (ts us : Trees) → sizes (join ts us) ≡ sizes ts + sizes us
-sizes-join nil us = omega (arith, sizes-nil)
-sizes-join (t ▹ ts) us = omega (arith, sizes-front t ts, sizes-front t (join ts us), sizes-join ts us)
-
-pub parts-snoc : (ts : Trees) (t : Tree) → parts (snoc ts t) ≡ suc (parts ts)
-parts-snoc nil t = refl
-parts-snoc (u ▹ us) t = ap suc (parts-snoc us t)
-
-pub parts-join : (ts us : Trees) → parts (join ts us) ≡ parts ts + parts us
-parts-join nil us = omega arith
-parts-join (t ▹ ts) us = omega (arith, parts-join ts us)
-
 pub parts-few : (ts : Trees) → parts ts ≤ sizes ts
 parts-few nil = omega arith
 parts-few (t ▹ ts) = omega (arith, sizes-front t ts, size-some t, parts-few ts)
@@ -80,10 +65,6 @@ mutual
 pub rows-node : (k : ℕ) (x : List ℕ) (f : Fields) (ts : Trees) → rows (node k x f ts) ≡ rowsOf ts ++ (row k (suc (sizes ts)) (parts ts) f ∷ [])
 unfolding rows
 rows-node k x f ts = refl
-
-pub rowsOf-nil : rowsOf nil ≡ []
-unfolding rows
-rowsOf-nil = refl
 
 pub rowsOf-front : (t : Tree) (ts : Trees) → rowsOf (t ▹ ts) ≡ rows t ++ rowsOf ts
 unfolding rows
@@ -115,16 +96,7 @@ module _ (w : ℕ) where
   unfolding putAt
   putAt-length o n r = either-length (ltb n (length o / w)) o (putWords o (w * n) r) (putWords-length o (w * n) r)
 
-  pub putAll-length : (o : List ℕ) (n : ℕ) (rs : List (List ℕ)) → length (putAll w o n rs) ≡ length o
-  unfolding putAll
-  putAll-length o n [] = refl
-  putAll-length o n (r ∷ rs) = putAll-length (putAt w o n r) (n + 1) rs ∙ putAt-length o n r
-
   -- ---- the memory, by the rows
-
-  pub putAll-nil : (o : List ℕ) (n : ℕ) → putAll w o n [] ≡ o
-  unfolding putAll
-  putAll-nil o n = refl
 
   pub putAll-one : (o : List ℕ) (n : ℕ) (r : List ℕ) → putAll w o n (r ∷ []) ≡ putAt w o n r
   unfolding putAll
@@ -211,10 +183,6 @@ module _ (o : List ℕ) (n k : ℕ) (x : List ℕ) (f : Fields) {o₂ : List ℕ
 
 pub before-none : (n : ℕ) (o : List ℕ) → Before n o nil n o
 before-none n o = record { counts = omega (arith, sizes-nil); writes = sym (put-nil o n) }
-
-pub before-one : {n m : ℕ} {o o₁ : List ℕ} (t : Tree) → m ≡ n + size t → o₁ ≡ putRows o n (rows t) → Before n o (t ▹ nil) m o₁
-before-one {n} {o} t e w =
-    record { counts = omega (arith, sizes-front t nil, sizes-nil); writes = w ∙ sym (put-single o n t) }
 
 pub before-more : {n m m′ : ℕ} {o o₁ o₂ : List ℕ} {ts : Trees} (t : Tree) → Before n o ts m o₁ → m′ ≡ m + size t → o₂ ≡ putRows o₁ m (rows t)
     → Before n o (snoc ts t) m′ o₂

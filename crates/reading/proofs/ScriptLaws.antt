@@ -1,7 +1,7 @@
 -- The statements of a script, one behind the other.
 use mathlib.Core.Path.{_≡_, refl, sym, ap, _∙_, subst}
 use mathlib.Core.Bool.{Bool, true, false, not}
-use mathlib.Core.List.{List, [], _∷_, _++_, append-assoc, append-nil, map}
+use mathlib.Core.List.{List, [], _∷_, _++_, append-assoc, append-nil, map, map-append}
 use Prim.Native.Nat.{ℕ, zero, suc, _+_, _-_, _≤_, _<_}
 use native.Mathlib.Omega.{arith}
 use native.Mathlib.Nat.{add-assoc, zero-add, add-zero}
@@ -33,6 +33,10 @@ abbrev pub prepend : List Entry → Outcome → Outcome
 prepend [] o = o
 prepend (e ∷ es) o = front e (prepend es o)
 
+pub prepend-accepted : (es fs : List Entry) → prepend es (accepted fs) ≡ accepted (es ++ fs)
+prepend-accepted [] fs = refl
+prepend-accepted (e ∷ es) fs = ap (front e) (prepend-accepted es fs)
+
 pub skip-forth : (d : ℕ) (ts : List Token) → skip (map (forth d) ts) ≡ map (forth d) (skip ts)
 unfolding skip
 skip-forth d [] = refl
@@ -49,6 +53,28 @@ token-eq k x y w e = λ i. record { kind = k; from = e i; text = w }
 back-forth : (d s : ℕ) (ts : List Token) → map (back (s + d)) (map (forth d) ts) ≡ map (back s) ts
 back-forth d s [] = refl
 back-forth d s (t ∷ ts) = λ i. token-eq (t .kind) (t .from + d - (s + d)) (t .from - s) (t .text) (omega arith) i ∷ back-forth d s ts i
+
+pub forth-back : (d : ℕ) (ts : List Token) → map (back d) (map (forth d) ts) ≡ ts
+forth-back d [] = refl
+forth-back d (t ∷ ts) = λ i. token-eq (t .kind) (t .from + d - d) (t .from) (t .text) (omega arith) i ∷ forth-back d ts i
+
+-- ---- what does not depend on places
+
+module _ (f : Token → Token) (same : (t : Token) → counts (f t) ≡ counts t) where
+  pub last-map : (q : Token → Bool) → ((t : Token) → q (f t) ≡ q t) → (d d′ : Token) (x : List Token) → q d ≡ q d′ → q (lastOf d (map f x)) ≡ q (lastOf d′ x)
+  unfolding lastOf
+  last-map q h d d′ [] e = e
+  last-map q h d d′ (t ∷ x) e =
+      last-map q h (if counts (f t) then f t else d) (if counts t then t else d′) x (ap (λ (b : Bool). q (if b then f t else d)) (same t) ∙ go (counts t))
+    where
+      go : (b : Bool) → q (if b then f t else d) ≡ q (if b then t else d′)
+      go true = h t
+      go false = e
+
+  pub count-map : (x : List Token) → count counts (map f x) ≡ count counts x
+  unfolding count
+  count-map [] = refl
+  count-map (t ∷ x) = λ i. (if same t i then 1 else 0) + count-map x i
 
 -- ---- the entry of a statement does not depend on what stands behind
 
@@ -77,32 +103,29 @@ quiet-end p (t ∷ nl) e = go (is "Newline" t) e (quiet-end p nl)
     go true h ih = (ih h .0, zero-add (count counts nl) ∙ ih h .1)
     go false h ih = absurd (let z : _≡_ {A = ℕ} 0 1 = cc in omega arith)
 
+-- what was read, of a list that is split
+pub used-part : (y w : List Token) → take (length (y ++ w) - length w) (y ++ w) ≡ y
+used-part y w =
+    let e : length (y ++ w) - length w ≡ length y = omega (arith, length-append y w) in
+    ap (λ (n : ℕ). take n (y ++ w)) e ∙ take-append-seam y w
+
 entry-same : (s : ℕ) (x nl r r″ : List Token) (t : Tree) → Quiet nl → entryOf s (x ++ (nl ++ r″)) t r″ ≡ entryOf s (x ++ r) t r
 unfolding entryOf
 entry-same s x nl r r″ t q =
     λ i. record { start = s; end = s + (end₁ i); tree = t; tokens = tok₁ i }
   where
-    used : (y w : List Token) → take (length (y ++ w) - length w) (y ++ w) ≡ y
-    used y w =
-        let e : length (y ++ w) - length w ≡ length y = omega (arith, length-append y w) in
-        ap (λ (n : ℕ). take n (y ++ w)) e ∙ take-append-seam y w
-
     whole : take (length (x ++ (nl ++ r″)) - length r″) (x ++ (nl ++ r″)) ≡ x ++ nl
-    whole = ap (λ (l : List Token). take (length l - length r″) l) (sym (append-assoc x nl r″)) ∙ used (x ++ nl) r″
+    whole = ap (λ (l : List Token). take (length l - length r″) l) (sym (append-assoc x nl r″)) ∙ used-part (x ++ nl) r″
 
     end₁ : endOf 0 (take (length (x ++ (nl ++ r″)) - length r″) (x ++ (nl ++ r″))) ≡ endOf 0 (take (length (x ++ r) - length r) (x ++ r))
-    end₁ = ap (endOf 0) whole ∙ end-append 0 x nl ∙ quiet-end (endOf 0 x) nl (quiet-nil nl q) .0 ∙ ap (endOf 0) (sym (used x r))
+    end₁ = ap (endOf 0) whole ∙ end-append 0 x nl ∙ quiet-end (endOf 0 x) nl (quiet-nil nl q) .0 ∙ ap (endOf 0) (sym (used-part x r))
 
     tok₁ : count counts (take (length (x ++ (nl ++ r″)) - length r″) (x ++ (nl ++ r″))) ≡ count counts (take (length (x ++ r) - length r) (x ++ r))
     tok₁ =
         ap (count counts) whole ∙ count-append x nl
-        ∙ ap (λ (n : ℕ). count counts x + n) (quiet-end 0 nl (quiet-nil nl q) .1) ∙ add-zero (count counts x) ∙ ap (count counts) (sym (used x r))
+        ∙ ap (λ (n : ℕ). count counts x + n) (quiet-end 0 nl (quiet-nil nl q) .1) ∙ add-zero (count counts x) ∙ ap (count counts) (sym (used-part x r))
 
 -- ---- lists
-
-pub map-append : (f : Token → Token) (x y : List Token) → map f (x ++ y) ≡ map f x ++ map f y
-map-append f [] y = refl
-map-append f (t ∷ x) y = ap {B = List Token} (λ l. f t ∷ l) (map-append f x y)
 
 pub record Parts (f : Token → Token) (l x y : List Token) : Type 0 where
   pub one : List Token
@@ -257,10 +280,7 @@ module _ (W : Words) where
       from-eq b _
       ∙ ap (turn W (from W) b) (ap skip s ∙ skip-quiet nl u us q n)
       ∙ turn-one (from W) b u us t r e h
-      ∙ ap (front (entryOf (b + u .from) (map (back (u .from)) (u ∷ us)) t r)) (run-from run ∙ ap (λ (x : ℕ). prepend es (from W x r′)) (assoc b (u .from) δ))
-    where
-      assoc : (x y z : ℕ) → x + y + z ≡ x + (y + z)
-      assoc x y z = omega arith
+      ∙ ap (front (entryOf (b + u .from) (map (back (u .from)) (u ∷ us)) t r)) (run-from run ∙ ap (λ (x : ℕ). prepend es (from W x r′)) (add-assoc b (u .from) δ))
 
   abbrev pub Left : ℕ → List Token → List Entry → List Entry → Type 0
   Left b ts es es′ = (δ : ℕ) × (r : List Token) × Run b ts es δ r × (from W (b + δ) r ≡ accepted es′)

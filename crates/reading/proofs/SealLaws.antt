@@ -1,23 +1,22 @@
 -- A statement with another behind it ends in `;`, in `}` or in a string.
 use mathlib.Core.Path.{_≡_, refl, sym, ap, _∙_}
 use mathlib.Core.Bool.{Bool, true, false, _||_, not, true≢false}
-use mathlib.Core.List.{List, [], _++_, append-assoc, append-nil}
+use mathlib.Core.List.{List, [], _++_, append-nil}
 use mathlib.Core.Option.{Option, none, some}
 use Prim.Native.Nat.{ℕ, zero, suc}
 use Prim.Native.String.{String}
-use native.Mathlib.Omega.{arith}
 use lib.Dec.{eqb}
 use Rattle.tokens.specs.Text.{if_then_else_}
 use Rattle.tokens.specs.Tokens.{Token, code}
 use Rattle.reading.specs.Trees.{Tree}
-use Rattle.reading.specs.Readers.{Out, ok, refused, Reader, bind, _>>=_, _>>_, first, is, give, failAt, peek, the, lastOf, closes}
+use Rattle.reading.specs.Readers.{ok, Reader, _>>=_, _>>_, first, is, give, failAt, peek, the, lastOf, closes}
 use Rattle.reading.specs.Grammar as G
 use Rattle.reading.specs.Grammar.{deeper, optional, dateOf, aDate, Words, Inner, deep, nextKind}
-use Rattle.reading.proofs.Laws.{Near, Reads, Law, loop-law}
+use Rattle.reading.proofs.Laws.{loop-law}
 use Rattle.reading.proofs.GrammarLaws.{Moves, InnerLaw, expression-law, blockTurn-law, named-law, payments-law, primary-law, target-law}
 use Rattle.reading.proofs.StatementLaws.{stops, payments-stop, near-tail, statement-tail}
-use Rattle.reading.proofs.EndingLaws.{Ends, Some, last-append, EachFirm, shallow, inside, primary-firm, bind-ends, if-ends, ask-ends, failAt-ends, the-some, the-last, kind-of, read-some}
-use Rattle.reading.proofs.ClosingLaws.{EachInnerFirm, flat, under}
+use Rattle.reading.proofs.EndingLaws.{Ends, Some, last-append, EachFirm, shallow, inside, primary-firm, bind-ends, if-ends, ask-ends, failAt-ends, the-some, the-last, kind-of, read-some, EndsBy, bind-by}
+use Rattle.reading.proofs.ClosingLaws.{EachInnerFirm, flat, under, firm-deep, law-some}
 
 -- not `;`, `}` or a string
 abbrev pub unsealed : Token → Bool
@@ -36,7 +35,7 @@ pub data Still (x : List Token) : Type 0 where
   idle : x ≡ [] → Still x
   ended : Sealed x → Still x
 
-sealed-after : (x y : List Token) → Sealed y → Sealed (x ++ y)
+pub sealed-after : (x y : List Token) → Sealed y → Sealed (x ++ y)
 sealed-after x y q d = ap unsealed (last-append d x y) ∙ q (lastOf d x)
 
 still-still : (x y : List Token) → Still x → Still y → Still (x ++ y)
@@ -55,9 +54,6 @@ module _ {A B : Type 0} {m : Reader A} {f : A → Reader B} where
   still-then = bind-ends Still Still Still still-still
 
 module _ {A : Type 0} {m : Reader A} where
-  law-some : (c : A → ℕ) → Law Near c m → Ends Some m
-  law-some c h ts a r e = let M : Reads Near (c a) m ts a r = h ts a r e in (M .used, M .split, tt)
-
   sealed-is-keeps : Ends Sealed m → Ends Keeps m
   sealed-is-keeps h ts a r e = let M : (used : List Token) × (ts ≡ used ++ r) × Sealed used = h ts a r e in (M .0, M .1, λ d n. M .2 d)
 
@@ -111,8 +107,11 @@ ifOver-sealed i h =
 -- ---- pays: it stops where no statement begins, or has read a string
 
 -- what was read, and that it ends so if pays does not stop at what is left
+abbrev pub SealsBy : List Token → List Token → Type 0
+SealsBy x r = stops (first r) ≡ false → Sealed x
+
 abbrev pub Seals : {A : Type 0} → Reader A → Type 0
-Seals {A} m = (ts : List Token) (a : A) (r : List Token) → m ts ≡ ok a r → (used : List Token) × (ts ≡ used ++ r) × (stops (first r) ≡ false → Sealed used)
+Seals m = EndsBy SealsBy m
 
 module _ {A : Type 0} where
   seals : {m : Reader A} → Ends Sealed m → Seals m
@@ -132,50 +131,21 @@ module _ {B : Type 0} {f : Token → Reader B} where
 
 module _ {A B : Type 0} {m : Reader A} {f : A → Reader B} where
   some-seals : Ends Some m → ((a : A) → Seals (f a)) → Seals (m >>= f)
-  unfolding _>>=_
-  some-seals hm hf ts b r e = go (m ts) refl e
-    where
-      go : (o : Out A) → m ts ≡ o → bind f o ≡ ok b r → (used : List Token) × (ts ≡ used ++ r) × (stops (first r) ≡ false → Sealed used)
-      go (ok a s) q w =
-          let M : (used : List Token) × (ts ≡ used ++ s) × Some used = hm ts a s q in
-          let F : (used : List Token) × (s ≡ used ++ r) × (stops (first r) ≡ false → Sealed used) = hf a s b r w in
-          (M .0 ++ F .0, M .1 ∙ ap (λ l. M .0 ++ l) (F .1) ∙ sym (append-assoc (M .0) (F .0) r), λ n. sealed-after (M .0) (F .0) (F .2 n))
-      go (refused x p) q w = absurd (let z : _≡_ {A = ℕ} 0 1 = cc in omega arith)
+  some-seals = bind-by (λ x r. Some x) SealsBy SealsBy (λ x y r p q n. sealed-after x y (q n))
 
-  -- a part that leaves what pays stops at, then one that reads nothing or ends so
-  stop-seals : Ends Some m → ((ts : List Token) (a : A) (r : List Token) → m ts ≡ ok a r → stops (first r) ≡ true) → ((a : A) → Ends Still (f a)) → Seals (m >>= f)
-  unfolding _>>=_
-  stop-seals hm st hf ts b r e = go (m ts) refl e
-    where
-      still : (x y s : List Token) → Still y → s ≡ y ++ r → stops (first s) ≡ true → stops (first r) ≡ false → Sealed (x ++ y)
-      still x y s (idle z) q t n = absurd (true≢false (sym t ∙ ap (λ l. stops (first l)) (q ∙ ap (λ l. l ++ r) z) ∙ n))
-      still x y s (ended z) q t n = sealed-after x y z
-
-      go : (o : Out A) → m ts ≡ o → bind f o ≡ ok b r → (used : List Token) × (ts ≡ used ++ r) × (stops (first r) ≡ false → Sealed used)
-      go (ok a s) q w =
-          let M : (used : List Token) × (ts ≡ used ++ s) × Some used = hm ts a s q in
-          let F : (used : List Token) × (s ≡ used ++ r) × Still used = hf a s b r w in
-          (M .0 ++ F .0, M .1 ∙ ap (λ l. M .0 ++ l) (F .1) ∙ sym (append-assoc (M .0) (F .0) r), still (M .0) (F .0) s (F .2) (F .1) (st ts a s q))
-      go (refused x p) q w = absurd (let z : _≡_ {A = ℕ} 0 1 = cc in omega arith)
-
-module _ {A B : Type 0} {m : Reader A} {f : A → Reader B} where
   -- then a part that reads nothing, or ends so
   seals-still : Seals m → ((a : A) → Ends Still (f a)) → Seals (m >>= f)
-  unfolding _>>=_
-  seals-still hm hf ts b r e = go (m ts) refl e
+  seals-still = bind-by SealsBy (λ x r. Still x) SealsBy still
     where
-      still : (x y s : List Token) → (stops (first s) ≡ false → Sealed x) → Still y → s ≡ y ++ r → stops (first r) ≡ false → Sealed (x ++ y)
-      still x y s h (idle z) q n =
-          let v : s ≡ r = q ∙ ap (λ l. l ++ r) z in
-          λ d. ap (λ l. unsealed (lastOf d (x ++ l))) z ∙ ap (λ l. unsealed (lastOf d l)) (append-nil x) ∙ h (ap (λ l. stops (first l)) v ∙ n) d
-      still x y s h (ended z) q n = sealed-after x y z
+      still : (x y r : List Token) → SealsBy x (y ++ r) → Still y → SealsBy (x ++ y) r
+      still x y r h (idle z) n d =
+          ap (λ l. unsealed (lastOf d (x ++ l))) z ∙ ap (λ l. unsealed (lastOf d l)) (append-nil x) ∙ h (ap (λ l. stops (first (l ++ r))) z ∙ n) d
+      still x y r h (ended z) n d = sealed-after x y z d
 
-      go : (o : Out A) → m ts ≡ o → bind f o ≡ ok b r → (used : List Token) × (ts ≡ used ++ r) × (stops (first r) ≡ false → Sealed used)
-      go (ok a s) q w =
-          let M : (used : List Token) × (ts ≡ used ++ s) × (stops (first s) ≡ false → Sealed used) = hm ts a s q in
-          let F : (used : List Token) × (s ≡ used ++ r) × Still used = hf a s b r w in
-          (M .0 ++ F .0, M .1 ∙ ap (λ l. M .0 ++ l) (F .1) ∙ sym (append-assoc (M .0) (F .0) r), still (M .0) (F .0) s (M .2) (F .2) (F .1))
-      go (refused x p) q w = absurd (let z : _≡_ {A = ℕ} 0 1 = cc in omega arith)
+-- a part that leaves what pays stops at, then one that reads nothing or ends so
+module _ {A B : Type 0} {m : Reader A} {f : A → Reader B} where
+  stop-seals : Ends Some m → ((ts : List Token) (a : A) (r : List Token) → m ts ≡ ok a r → stops (first r) ≡ true) → ((a : A) → Ends Still (f a)) → Seals (m >>= f)
+  stop-seals hm st = seals-still λ ts a r e. (hm ts a r e .0, hm ts a r e .1, λ n. absurd (true≢false (sym (st ts a r e) ∙ n)))
 
 module _ {A : Type 0} where
   optional-still : (s : String) (a : A) (m : Reader A) → Ends Sealed m → Ends Still (optional s a m)
@@ -241,13 +211,9 @@ module _ (W : Words) where
   plain-seals p (some i) h (under g f) = peek-seals λ t.
       search (if-seals, seals (ifOver-sealed i g), seals (forOver-sealed i g), paid-seals (some (i .primary)) (inside (g .primary) f), seals (ended-sealed p h))
 
-  each-deep : (o : Option Inner) → EachInnerFirm o → EachFirm (deep o)
-  each-deep none flat = shallow
-  each-deep (some i) (under h f) = inside (h .primary) f
-
   statementOver-seals : (p : Reader Tree) (o : Option Inner) → Moves p → EachInnerFirm o → Seals (G.statementOver W p o)
   unfolding G.statementOver
-  statementOver-seals p o h g ts a r e = if-seals (is "name" (first ts)) (nameFirst-seals p (deep o) h (each-deep o g) (nextKind ts)) (plain-seals p o h g) ts a r e
+  statementOver-seals p o h g ts a r e = if-seals (is "name" (first ts)) (nameFirst-seals p (deep o) h (firm-deep o g) (nextKind ts)) (plain-seals p o h g) ts a r e
 
   -- a statement ends in `;`, `}` or a string, unless pays stops at what stands behind it
   pub statement-seals : (d : ℕ) → Seals (G.statement W d)

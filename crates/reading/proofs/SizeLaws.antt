@@ -14,12 +14,12 @@ use Rattle.tokens.specs.Names.{place, member}
 use Rattle.tokens.specs.Dates.{date}
 use Rattle.tokens.specs.Tokens.{Token, code}
 use Rattle.reading.specs.Trees.{Tree, Trees, nil, snoc, parts, size, sizes}
-use Rattle.reading.specs.Readers.{Out, ok, refused, Reader, bind, _>>=_, _>>_, Turn, again, done, follow, turns, loop, first, is, give, fail, failAt, ask, peek, read, the}
+use Rattle.reading.specs.Readers.{Out, ok, refused, Reader, bind, _>>=_, _>>_, Turn, again, done, follow, turns, loop, first, is, give, fail, failAt, ask, peek}
 use Rattle.reading.specs.Grammar as G
 use Rattle.reading.specs.Grammar.{deeper, optional, grouped, sum, comparison, expression, items, arguments, method, postfixes, aDate, df, rateIndex, Words, Inner, block, ifOver, ended, deep, nextKind}
-use Rattle.reading.proofs.Laws.{near-follows, left-shorter, loop-law}
-use Rattle.reading.proofs.GrammarLaws.{Stays, Moves, Steps, Each, moving-stays, stay-then, stay-stay, stay-next, move-then, move-next, read-moves, the-moves, the-stays, give-stays, optional-law, groupTurn-law, grouped-law, sum-law, comparison-law, expression-law, itemTurn-law, items-law, arguments-law, arguments-stays, method-law, postfixTurn-law, postfixes-law, dateOf-law, aDate-law, df-law, rateIndex-law, blockTurn-law, block-law, block-stays, ended-law, aCurrency-law, spot-law, call-law, named-law, name-law, payTurn-law, payments-law, pays-law, minus-law, primary-law, paid-law, target-law, InnerLaw, ifOver-law, forOver-law}
-use Rattle.reading.proofs.StatementLaws.{near-tail, assign-tail, compound-tail, statement-tail}
+use Rattle.reading.proofs.Laws.{left-shorter}
+use Rattle.reading.proofs.GrammarLaws.{Stays, Moves, moving-stays, read-moves, the-moves, optional-law, dateOf-law, aDate-law, aCurrency-law, named-law}
+use Rattle.reading.proofs.StatementLaws.{near-tail, statement-tail}
 use Rattle.reading.proofs.TreeLaws.{size-snoc, sizes-join}
 
 -- ---- the notion, and its forms
@@ -245,9 +245,6 @@ pub items-size : (close : String) (p : Reader Tree) → Sized p → SizedAll (it
 unfolding items size
 items-size close p h = pays-all (loop-pay (itemTurn-pay close p h) nil)
 
-pub closed-size : (close : String) (p : Reader Tree) → Sized p → SizedAll (G.closed close p)
-closed-size close p h = pays-all (trees-pay (items-size close p h) λ es. move-next-pay (the-moves close) (give-pay es (omega arith)))
-
 -- the signs pay for a node more
 pub arguments-spare : (o : Option (Reader Tree)) → EachSized o → Pays 0 (λ es. suc (sizes es)) (arguments o)
 unfolding arguments
@@ -282,18 +279,6 @@ postfixTurn-pay o h x =
     peek-pay λ t. if-pay (is "." t) (move-next-pay read-moves (lend (omega arith) (λ a. omega arith) (methodOf-pay o h x)))
     (if-pay (is "[" t) (deeper-pay t o h λ p m. move-next-pay read-moves (lend (omega arith) (λ a. omega arith) (indexOf-pay p m x)))
     (give-pay (done x) (omega arith)))
-
-pub methodOf-size : (o : Option (Reader Tree)) → EachSized o → (x : Tree) (ts : List Token) (y : Tree) (r : List Token)
-    → G.methodOf o x ts ≡ ok (again y) r → size y + 3 * length r ≤ size x + 3 * length ts
-methodOf-size o h x ts y r e = methodOf-pay o h x .bound ts (again y) r e
-
-pub indexOf-size : (p : Reader Tree) → Sized p → (x : Tree) (ts : List Token) (y : Tree) (r : List Token)
-    → G.indexOf p x ts ≡ ok (again y) r → size y + 3 * length r ≤ size x + 3 * length ts
-indexOf-size p h x ts y r e = indexOf-pay p h x .bound ts (again y) r e
-
-pub postfixTurn-size : (o : Option (Reader Tree)) → EachSized o → (x : Tree) (ts : List Token) (y : Tree) (r : List Token)
-    → G.postfixTurn o x ts ≡ ok (again y) r → size y + 3 * length r ≤ size x + 3 * length ts
-postfixTurn-size o h x ts y r e = postfixTurn-pay o h x .bound ts (again y) r e
 
 pub postfixes-size : (o : Option (Reader Tree)) → EachSized o → (x : Tree) → SizedUp (size x) (postfixes o x)
 unfolding postfixes
@@ -528,157 +513,15 @@ module _ (W : Words) where
       statementOver-size (G.primary W (suc d)) (some (record { statement = G.statement W d; primary = G.primary W d })) (primary-size (suc d))
       (inside (statement-size d) (primary-size d))
 
--- ---- progress: what is left is shorter than what was handed in, or no longer
+-- ---- progress: what is left is shorter than what was handed in
 
 abbrev pub Less : {A : Type 0} → Reader A → Type 0
 Less {A} m = (ts : List Token) (a : A) (r : List Token) → m ts ≡ ok a r → length r < length ts
-
-abbrev pub NoMore : {A : Type 0} → Reader A → Type 0
-NoMore {A} m = (ts : List Token) (a : A) (r : List Token) → m ts ≡ ok a r → length r ≤ length ts
-
--- a turn that goes on has read a token
-abbrev pub LessAgain : {S A : Type 0} → Reader (Turn S A) → Type 0
-LessAgain {S} {A} m = (ts : List Token) (s : S) (r : List Token) → m ts ≡ ok (again s) r → length r < length ts
 
 module _ {A : Type 0} {m : Reader A} where
   pub moves-less : Moves m → Less m
   moves-less h ts a r e = omega (arith, left-shorter (h ts a r e))
 
-  pub stays-nomore : Stays m → NoMore m
-  stays-nomore h ts a r e = omega (arith, left-shorter (h ts a r e))
-
-module _ {S A : Type 0} {m : Reader (Turn S A)} where
-  pub steps-less : Steps m → LessAgain m
-  steps-less h ts s r e = omega (arith, left-shorter (h ts (again s) r e))
-
-pub read-less : Less read
-read-less = moves-less read-moves
-
-pub the-less : (s : String) → Less (the s)
-the-less s = moves-less (the-moves s)
-
-module _ (p : Reader Tree) (h : Moves p) where
-  pub power-less : Less (G.power p)
-  power-less = moves-less (grouped-law _ p h)
-
-  pub product-less : Less (G.product p)
-  product-less = moves-less (grouped-law _ (G.power p) (grouped-law _ p h))
-
-  pub sum-less : Less (sum p)
-  sum-less = moves-less (sum-law p h)
-
-  pub comparison-less : Less (comparison p)
-  comparison-less = moves-less (comparison-law p h)
-
-  pub expression-less : Less (expression p)
-  expression-less = moves-less (expression-law p h)
-
-  pub groupTurn-less : (op : Token → Bool) (l : Tree) → LessAgain (G.groupTurn op p l)
-  groupTurn-less op l = steps-less (groupTurn-law op p h l)
-
-  pub itemTurn-less : (close : String) (es : Trees) → LessAgain (G.itemTurn close p es)
-  itemTurn-less close es = steps-less (itemTurn-law close p h es)
-
-  pub items-nomore : (close : String) → NoMore (items close p)
-  items-nomore close = stays-nomore (items-law close p h)
-
-  pub indexOf-less : (x : Tree) → Less (G.indexOf p x)
-  indexOf-less x = moves-less (move-then (expression-law p h) λ i. stay-next (the-stays "]") (give-stays _))
-
-  pub ended-less : Less (ended p)
-  ended-less ts a r e = omega (arith, left-shorter (ended-law p h ts a r e))
-
-  pub blockTurn-less : (ss : Trees) → LessAgain (G.blockTurn p ss)
-  blockTurn-less ss = steps-less (blockTurn-law p h ss)
-
-  pub blockLoop-nomore : (ss : Trees) → NoMore (loop (G.blockTurn p) ss)
-  blockLoop-nomore ss = stays-nomore (loop-law (blockTurn-law p h) ss)
-
-  pub block-less : Less (block p)
-  block-less = moves-less (block-law p h)
-
-  pub block-nomore : NoMore (block p)
-  block-nomore = stays-nomore (block-stays p h)
-
-module _ (o : Option (Reader Tree)) (h : Each o) where
-  pub arguments-less : Less (arguments o)
-  arguments-less = moves-less (arguments-law o h)
-
-  pub methodOf-less : (x : Tree) → Less (G.methodOf o x)
-  methodOf-less x = moves-less (move-then (the-moves "name") λ m. stay-stay (arguments-stays o h) λ es. stay-stay (method-law x m es) λ y. give-stays _)
-
-  pub postfixTurn-less : (x : Tree) → LessAgain (G.postfixTurn o x)
-  postfixTurn-less x = steps-less (postfixTurn-law o h x)
-
-  pub postfixes-nomore : (x : Tree) → NoMore (postfixes o x)
-  postfixes-nomore x = stays-nomore (postfixes-law o h x)
-
 module _ (W : Words) where
-  module _ (p : Reader Tree) (h : Moves p) where
-    pub parenthesis-less : Less (G.parenthesis W p)
-    parenthesis-less = moves-less (move-then (expression-law p h) λ e. stay-next (the-stays ")") (give-stays e))
-
-    pub negative-less : Less (G.negative W p)
-    negative-less = moves-less (move-then h λ x. give-stays _)
-
-    pub listed-less : Less (G.listed W p)
-    listed-less = moves-less (stay-then (items-law "]" p h) λ es. move-next (the-moves "]") (give-stays _))
-
-    pub payTurn-less : (es : Trees) → LessAgain (G.payTurn W p es)
-    payTurn-less es = steps-less (payTurn-law W p h es)
-
-    pub payments-nomore : NoMore (G.payments W p)
-    payments-nomore = stays-nomore (payments-law W p h)
-
-    -- it may read nothing: the word `pays` stands before it
-    pub payment-nomore : NoMore (G.payment W p)
-    payment-nomore =
-        stays-nomore (stay-stay (payments-law W p h) λ es. stay-stay (optional-law "on" 0 aDate (moving-stays aDate-law)) λ d.
-        stay-stay (optional-law "in" 0 (G.aCurrency W) (moving-stays (aCurrency-law W))) λ c. give-stays _)
-
-  module _ (o : Option (Reader Tree)) (h : Each o) where
-    pub pays-less : Less (G.pays W o)
-    pays-less = moves-less (pays-law W o h)
-
-    pub minus-less : (t : Token) → Less (G.minus W o t)
-    minus-less t = moves-less (minus-law W o h t)
-
-    pub call-less : (t : Token) (c : ℕ × ℕ × ℕ) → Less (G.call W o t c)
-    call-less t c = moves-less (call-law W o h t c)
-
-    pub name-nomore : (t : Token) → NoMore (G.name W o t)
-    name-nomore t = stays-nomore (name-law W o h t)
-
-    pub paid-less : Less (G.paid W o)
-    paid-less = moves-less (paid-law W o h)
-
-  pub spot-less : Less (G.spot W)
-  spot-less = moves-less (spot-law W)
-
-  pub assign-less : (p : Reader Tree) → Moves p → Less (G.assign W p)
-  assign-less p h ts a r e = omega (arith, left-shorter (assign-tail near-follows W p h ts a r e))
-
-  pub compound-less : (p : Reader Tree) → Moves p → Less (G.compound W p)
-  compound-less p h ts a r e = omega (arith, left-shorter (compound-tail near-follows W p h ts a r e))
-
-  pub assignPaid-less : (o : Option (Reader Tree)) → Each o → Less (G.assignPaid W o)
-  unfolding G.assignPaid
-  assignPaid-less o h = moves-less (move-then (target-law W) λ x. stay-stay (moving-stays (paid-law W o h)) λ e. give-stays _)
-
-  pub forOver-less : (i : Inner) → InnerLaw i → Less (G.forOver W i)
-  forOver-less i h = moves-less (forOver-law W i h)
-
-  pub primary-less : (d : ℕ) → Less (G.primary W d)
-  primary-less d = moves-less (primary-law W d)
-
   pub statement-less : (d : ℕ) → Less (G.statement W d)
   statement-less d = moves-less (statement-tail W d near-tail)
-
-pub ifOver-less : (i : Inner) → InnerLaw i → Less (ifOver i)
-ifOver-less i h = moves-less (ifOver-law i h)
-
-pub df-less : Less df
-df-less = moves-less df-law
-
-pub rateIndex-less : Less rateIndex
-rateIndex-less = moves-less rateIndex-law

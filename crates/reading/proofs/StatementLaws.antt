@@ -169,6 +169,48 @@ module _ (W : Words) where
   unfolding G.payments
   payments-stop p h ts es r e = loop-ends (payTurn-law W p h) (λ r. stops (first r) ≡ true) (payments-done p) _ ts es r e
 
+firsts : (x r r′ : List Token) → 2 ≤ length x → nextKind (x ++ r′) ≡ nextKind (x ++ r)
+firsts [] r r′ h = absurd (omega arith)
+firsts (t ∷ []) r r′ h = absurd (omega arith)
+firsts (t ∷ u ∷ x) r r′ h = refl
+
+-- a statement is one that begins with a name or another, whatever may stand behind it
+module _ (W : Words) (p : Reader Tree) (o : Option Inner) where
+  abbrev both : Bool → ℕ → Reader Tree
+  both b k = if b then G.nameFirst W p (deep o) k else G.plain W p o
+
+  pub over-reads : {P : Rel} (ts : List Token) (a : Tree) (r : List Token) → (both true (nextKind ts) ts ≡ ok a r → Reads P 2 (both true (nextKind ts)) ts a r) → (both false 0 ts ≡ ok a r → Reads P 1 (both false 0) ts a r)
+      → G.statementOver W p o ts ≡ ok a r → Reads P 1 (G.statementOver W p o) ts a r
+  unfolding G.statementOver
+  over-reads {P} ts a r named other e = go (is "name" (first ts)) refl e
+    where
+      go : (b : Bool) → is "name" (first ts) ≡ b → both b (nextKind ts) ts ≡ ok a r → Reads P 1 (G.statementOver W p o) ts a r
+      go true t q =
+          let M : Reads P 2 (both true (nextKind ts)) ts a r = named q in
+          record {
+            used = M .used;
+            split = M .split;
+            enough = omega (arith, M .enough);
+            goes = λ nl r″ n g x.
+                let r′ : List Token = nl ++ r″ in
+                ap (λ (l : Token). both (is "name" l) (nextKind (M .used ++ r′)) (M .used ++ r′)) (near-append (M .used) r r′ (omega (arith, M .enough)) ∙ ap first (sym (M .split)))
+                ∙ ap (λ (b : Bool). both b (nextKind (M .used ++ r′)) (M .used ++ r′)) t
+                ∙ ap (λ (k : ℕ). both true k (M .used ++ r′)) (firsts (M .used) r r′ (M .enough) ∙ ap nextKind (sym (M .split)))
+                ∙ M .goes nl r″ n g x;
+          }
+      go false t q =
+          let M : Reads P 1 (both false 0) ts a r = other q in
+          record {
+            used = M .used;
+            split = M .split;
+            enough = M .enough;
+            goes = λ nl r″ n g x.
+                let r′ : List Token = nl ++ r″ in
+                ap (λ (l : Token). both (is "name" l) (nextKind (M .used ++ r′)) (M .used ++ r′)) (near-append (M .used) r r′ (omega (arith, M .enough)) ∙ ap first (sym (M .split)))
+                ∙ ap (λ (b : Bool). both b (nextKind (M .used ++ r′)) (M .used ++ r′)) t
+                ∙ M .goes nl r″ n g x;
+          }
+
 module _ {P : Rel} (T : Tail P) (W : Words) where
   payments-tail : (p : Reader Tree) → Moves p → Law P (λ b. 0) (G.payments W p)
   payments-tail p h ts es r e =
@@ -227,44 +269,9 @@ module _ {P : Rel} (T : Tail P) (W : Words) where
       then₁ peek-law λ t.
       search (if-law, ifOver-tail (T .follows) (T .noElse) i g, forOver-tail (T .follows) W i g, paid-tail (some (i .primary)) (just (g .primary)), idle₂ (T .follows) (ended-tail (T .follows) p h))
 
-  firsts : (x r r′ : List Token) → 2 ≤ length x → nextKind (x ++ r′) ≡ nextKind (x ++ r)
-  firsts [] r r′ h = absurd (omega arith)
-  firsts (t ∷ []) r r′ h = absurd (omega arith)
-  firsts (t ∷ u ∷ x) r r′ h = refl
-
   statementOver-tail : (p : Reader Tree) (o : Option Inner) → Moves p → EachInner o → Law P (λ b. 1) (G.statementOver W p o)
-  unfolding G.statementOver
-  statementOver-tail p o h g ts a r e = go (is "name" (first ts)) refl e
-    where
-      both : Bool → ℕ → Reader Tree
-      both b k = if b then G.nameFirst W p (deep o) k else G.plain W p o
-
-      go : (b : Bool) → is "name" (first ts) ≡ b → both b (nextKind ts) ts ≡ ok a r → Reads P 1 (G.statementOver W p o) ts a r
-      go true t q =
-          let M : Reads P 2 (G.nameFirst W p (deep o) (nextKind ts)) ts a r = nameFirst-tail p (deep o) h (each-deep o g) (nextKind ts) ts a r q in
-          record {
-            used = M .used;
-            split = M .split;
-            enough = omega (arith, M .enough);
-            goes = λ nl r″ n g x.
-                let r′ : List Token = nl ++ r″ in
-                ap (λ (l : Token). both (is "name" l) (nextKind (M .used ++ r′)) (M .used ++ r′)) (near-append (M .used) r r′ (omega (arith, M .enough)) ∙ ap first (sym (M .split)))
-                ∙ ap (λ (b : Bool). both b (nextKind (M .used ++ r′)) (M .used ++ r′)) t
-                ∙ ap (λ (k : ℕ). both true k (M .used ++ r′)) (firsts (M .used) r r′ (M .enough) ∙ ap nextKind (sym (M .split)))
-                ∙ M .goes nl r″ n g x;
-          }
-      go false t q =
-          let M : Reads P 1 (G.plain W p o) ts a r = plain-tail p o h g ts a r q in
-          record {
-            used = M .used;
-            split = M .split;
-            enough = M .enough;
-            goes = λ nl r″ n g x.
-                let r′ : List Token = nl ++ r″ in
-                ap (λ (l : Token). both (is "name" l) (nextKind (M .used ++ r′)) (M .used ++ r′)) (near-append (M .used) r r′ (omega (arith, M .enough)) ∙ ap first (sym (M .split)))
-                ∙ ap (λ (b : Bool). both b (nextKind (M .used ++ r′)) (M .used ++ r′)) t
-                ∙ M .goes nl r″ n g x;
-          }
+  statementOver-tail p o h g ts a r e =
+      over-reads W p o ts a r (λ q. nameFirst-tail p (deep o) h (each-deep o g) (nextKind ts) ts a r q) (λ q. plain-tail p o h g ts a r q) e
 
 module _ (W : Words) where
   -- a statement leaves an end of its tokens, and reads the same whatever else may stand behind it

@@ -1,35 +1,33 @@
 -- What each step of the expression readers' code comes to in the definition. Each law is over plain values, and an answer of a
 -- proof cites one.
 use mathlib.Core.Path.{_≡_, refl, sym, ap, _∙_}
-use mathlib.Core.Bool.{Bool, true, false, _||_, true≢false}
+use mathlib.Core.Bool.{Bool, true, false, true≢false}
 use mathlib.Core.List.{List, [], _∷_}
-use mathlib.Core.Option.{Option, none, some}
+use mathlib.Core.Option.{none, some}
 use Prim.Native.Nat.{ℕ, zero, suc, _+_, _-_, _*_, _≤_, _<_}
+use Prim.Native.String.{String}
 use native.Mathlib.Omega.{arith}
-use lib.Dec.{eqb, leb}
-use lib.Ieee.{neg}
-use borrow.Author.Tests.{eq-eqb, ne-eqb}
+use lib.Dec.{eqb}
+use borrow.Author.Tests.{ne-eqb}
 use lib.ListN.{length}
-use Rattle.tokens.specs.Text.{if_then_else_, within}
+use Rattle.tokens.specs.Text.{bytes, same, within}
 use Rattle.tokens.specs.Tokens.{Token, code}
 use Rattle.tokens.specs.declared.cursor.Cursor.{Cursor}
-use Rattle.reading.specs.Trees.{Tree, Trees, node, nil, _▹_, fields, none as unused, size, row}
-use Rattle.reading.specs.Readers.{Out, ok, refused, Reader, bind, _>>=_, _>>_, Turn, again, done, is, give, fail, failAt, ask, peek, read, the}
-use Rattle.reading.specs.Grammar.{Words, binary, deeper, sum, comparison, expression, postfixes, minus, negative, parenthesis, listed, pays, payment, name, primaryOver, primary}
-use Rattle.reading.specs.Rows.{rows, putRow, putRows, nodeRow}
+use Rattle.reading.specs.Trees.{Tree, node, nil, _▹_, fields, none as unused, row}
+use Rattle.reading.specs.Readers.{Out, refused, Reader, _>>=_, _>>_, is, give, failAt, ask, read, the}
+use Rattle.reading.specs.Grammar.{callOf, Words, binary, deeper, sum, comparison, expression, minus, negative, parenthesis, pays, name, primaryOver, primary}
+use Rattle.reading.specs.Rows.{putRow, nodeRow}
 use Rattle.reading.specs.Joins.{Joins}
 use Rattle.reading.specs.declared.records.Node.{Node}
 use Rattle.reading.specs.declared.records.Joined.{Joined}
 use Rattle.reading.specs.Atoms.{literal, atom}
-use Rattle.reading.specs.Meets.{toksAt, tokenAt, Holds, Room, Ready, Follows, Takes, stringAt, Quoted, Reads, Meets}
+use Rattle.reading.specs.Meets.{toksAt, tokenAt, Holds, Room, Ready, Follows, Takes, Reads, Meets}
 use Rattle.reading.specs.Turns.{inner, parenthesised, listPostfixed, comparator}
 use Rattle.reading.specs.declared.answers.Read.{Read}
 use Rattle.reading.specs.declared.answers.Read.the-variants.{Done, Refused}
-use Rattle.reading.specs.declared.answers.Took.{Took}
 use Rattle.reading.specs.declared.answers.Took.the-variants as took
-use Rattle.reading.proofs.GrammarLaws.{Moves}
-use Rattle.reading.proofs.SizeLaws.{Sized, primary-size}
-use Rattle.reading.proofs.HoldLaws.{ask-yes, ask-no, peek-is, fail-is, read-then, read-next, the-next}
+use Rattle.reading.proofs.SizeLaws.{Sized, EachSized, nothing, just, primary-size}
+use Rattle.reading.proofs.HoldLaws.{ask-yes, ask-no, peek-is, read-then, read-next, the-next}
 use Rattle.reading.proofs.RowLaws.{size-some, size-one, size-two, after-one, after-two}
 use Rattle.reading.proofs.ChainLaws.{reads-within, binary-plain, by-sign}
 
@@ -73,6 +71,11 @@ pub inner-some : (W : Words) (d : ℕ) → (d ≡ 0 → ⊥) → inner W d ≡ s
 unfolding inner
 inner-some W zero h = absurd (h refl)
 inner-some W (suc d) h = let q : suc d - 1 ≡ d = omega arith in rw q
+
+pub inner-sized : (W : Words) (d : ℕ) → EachSized (inner W d)
+unfolding inner
+inner-sized W zero = nothing
+inner-sized W (suc d) = just (primary-size W d)
 
 module _ {A : Type 0} where
   pub deeper-none : (u : Token) (W : Words) (d : ℕ) (k : Reader Tree → Reader A) (ts : List Token) → d ≡ 0 → deeper u (inner W d) k ts ≡ refused 15 (u .from)
@@ -258,13 +261,26 @@ module _ (W : Words) (t : List ℕ) (c d : Cursor) (n : ℕ) (o : List ℕ) (dep
 pub follow-ready : (t : List ℕ) (c d : Cursor) (n : ℕ) → (c .code ≡ 0 → ⊥) → Follows t c d → Ready t c n → Ready t d n × Room t d (n + 3)
 follow-ready t c d n some-token w r = ((w .holds, omega (arith, r .1, w .fewer some-token)), omega (arith, r .1, w .fewer some-token))
 
-pub takes-as : (t : List ℕ) (k : ℕ) (c : Cursor) (r r′ : Took) → r ≡ r′ → Takes t k c r → Takes t k c r′
-takes-as t k c r r′ e h = rw e at h
+-- the record of a node with no more than two fields
+pub put-fields : (o o₃ : List ℕ) (m k w v a b : ℕ) (x : Node) → x ≡ record { kind = k; nodes = w; parts = v; f1 = a; f2 = b; f3 = 0; f4 = 0 } → o₃ ≡ putRow o m (nodeRow x)
+    → o₃ ≡ putRow o m (row k w v (fields a b 0 0))
+put-fields o o₃ m k w v a b x e h = h ∙ ap (λ (y : Node). putRow o m (nodeRow y)) e
 
--- the record of a node without fields
-pub put-plain : (o o₃ : List ℕ) (m k w v : ℕ) (x : Node) → x ≡ record { kind = k; nodes = w; parts = v; f1 = 0; f2 = 0; f3 = 0; f4 = 0 } → o₃ ≡ putRow o m (nodeRow x)
-    → o₃ ≡ putRow o m (row k w v unused)
-put-plain o o₃ m k w v x e h = h ∙ ap (λ (y : Node). putRow o m (nodeRow y)) e
+-- ---- the table of calls
+
+abbrev pub AllRows : ((ℕ × ℕ × ℕ) → Type 0) → List (String × (ℕ × ℕ × ℕ)) → Type 0
+AllRows P [] = Unit {0}
+AllRows P (c ∷ cs) = P (c .1) × AllRows P cs
+
+-- what each row says, and no row at all, is so of a name's row
+pub row-says : (P : (ℕ × ℕ × ℕ) → Type 0) (w : List ℕ) (cs : List (String × (ℕ × ℕ × ℕ))) → P (0, 0, 0) → AllRows P cs → P (callOf w cs)
+unfolding callOf
+row-says P w [] z a = z
+row-says P w (c ∷ cs) z a = go (same (bytes (c .0)) w) (row-says P w cs z (a .1))
+  where
+    go : (b : Bool) → P (callOf w cs) → P (elim b as (λ _. ℕ × ℕ × ℕ) [ true ↦ c .1 | false ↦ callOf w cs ])
+    go true ih = a .0
+    go false ih = ih
 
 -- ---- a primary, by the code of its first token
 

@@ -28,7 +28,7 @@ use Rattle.reading.specs.declared.answers.Read.the-variants as answer
 use Rattle.reading.specs.declared.answers.All.{All}
 use Rattle.reading.specs.declared.answers.All.the-variants as all
 use Rattle.reading.proofs.Laws.{skip-clear}
-use Rattle.reading.proofs.ScriptLaws.{prepend, from-eq}
+use Rattle.reading.proofs.ScriptLaws.{prepend, prepend-accepted, from-eq}
 use Rattle.reading.proofs.SizeLaws.{statement-size, statement-less}
 use Rattle.reading.proofs.HoldLaws.{toks-few, toks-are, first-kind, first-from, at-end, start-holds, rebased-holds, rebased-toks}
 use Rattle.reading.proofs.RowLaws.{size-some, rows-size, putAll-one, putAll-append, put-rows-same}
@@ -56,10 +56,6 @@ module _ {t : List ℕ} {c : Cursor} (h : Holds t c) where
         ∙ rw (is-not "End" (first (toksAt t (c .start))) (c .code) (first-kind h) z, first-from h, rebased-toks h)
 
 -- ---- lists of statements
-
-prepend-accepted : (es fs : List Entry) → prepend es (accepted fs) ≡ accepted (es ++ fs)
-prepend-accepted [] fs = refl
-prepend-accepted (e ∷ es) fs = ap (front e) (prepend-accepted es fs)
 
 prepend-refused : (es : List Entry) (k p : ℕ) → prepend es (refused k p) ≡ refused k p
 prepend-refused [] k p = refl

@@ -2,7 +2,8 @@
 use native.Mathlib.Omega.{arith}
 use Rattle.reading.specs.Grammar.{primary}
 use Rattle.reading.specs.Meets.{wordsIn}
-use Rattle.reading.proofs.StepLaws.{done-reads, refused-on, takes-as}
+use Rattle.reading.proofs.StepLaws.{done-reads, refused-on}
+use Rattle.reading.proofs.HoldLaws.{takes-as}
 use Rattle.reading.proofs.AssignLaws.{ended-refused, ended-open, ended-closed}
 use borrow.Author.Needs.{needs}
 use Rattle.reading.proofs.assignments.ended.Statement.{statement}
@@ -36,13 +37,13 @@ same-length-2 : tie.Need-same-length-2
 same-length-2 c = search needs
 
 returns-2 : tie.Need-returns-2
-returns-2 c = ended-open (primary (wordsIn (c .before .before .before .before .before .before .before .before .before .before .before .before .before .before .before .before .args .reserved .now) (c .before .before .before .before .before .before .before .before .before .before .before .before .before .before .before .before .args .currencies .now) (c .before .before .before .before .before .before .before .before .before .before .before .before .before .before .before .before .args .counters .now)) (c .before .before .before .before .before .before .before .before .before .before .before .before .before .before .before .before .args .depth)) (c .before .before .before .before .before .before .before .before .before .before .before .before .before .before .before .before .args .s .now) (c .before .before .before .before .before .before .before .before .before .before .before .before .before .before .before .before .args .c) (c .before .before .before .before .before .before .before .before .before .before .before .before .before .before .before .before .args .n) (c .before .before .before .before .before .before .before .before .before .before .before .before .before .before .before .before .args .out .now) _ _ _ _ (done-reads _ _ _ _ _ _ _ _ _ (c .before .before .before .before .before .r .given .1) (c .before .before .before .before .before .before .before .before .before .expression .ensures)) _ (takes-as _ _ _ _ _ (c .before .b .given .1) (c .before .before .before .take .ensures))
+returns-2 c = ended-open (primary (wordsIn (c .before .before .before .before .before .before .before .before .before .before .before .before .before .before .before .before .args .reserved .now) (c .before .before .before .before .before .before .before .before .before .before .before .before .before .before .before .before .args .currencies .now) (c .before .before .before .before .before .before .before .before .before .before .before .before .before .before .before .before .args .counters .now)) (c .before .before .before .before .before .before .before .before .before .before .before .before .before .before .before .before .args .depth)) (c .before .before .before .before .before .before .before .before .before .before .before .before .before .before .before .before .args .s .now) (c .before .before .before .before .before .before .before .before .before .before .before .before .before .before .before .before .args .c) (c .before .before .before .before .before .before .before .before .before .before .before .before .before .before .before .before .args .n) (c .before .before .before .before .before .before .before .before .before .before .before .before .before .before .before .before .args .out .now) _ _ _ _ (done-reads _ _ _ _ _ _ _ _ _ (c .before .before .before .before .before .r .given .1) (c .before .before .before .before .before .before .before .before .before .expression .ensures)) _ (takes-as _ _ _ (c .before .b .given .1) (c .before .before .before .take .ensures))
 
 same-length-3 : tie.Need-same-length-3
 same-length-3 c = search needs
 
 returns-3 : tie.Need-returns-3
-returns-3 c = ended-closed (primary (wordsIn (c .before .before .before .before .before .before .before .before .before .before .before .before .before .before .before .before .args .reserved .now) (c .before .before .before .before .before .before .before .before .before .before .before .before .before .before .before .before .args .currencies .now) (c .before .before .before .before .before .before .before .before .before .before .before .before .before .before .before .before .args .counters .now)) (c .before .before .before .before .before .before .before .before .before .before .before .before .before .before .before .before .args .depth)) (c .before .before .before .before .before .before .before .before .before .before .before .before .before .before .before .before .args .s .now) (c .before .before .before .before .before .before .before .before .before .before .before .before .before .before .before .before .args .c) (c .before .before .before .before .before .before .before .before .before .before .before .before .before .before .before .before .args .n) (c .before .before .before .before .before .before .before .before .before .before .before .before .before .before .before .before .args .out .now) _ _ _ _ (done-reads _ _ _ _ _ _ _ _ _ (c .before .before .before .before .before .r .given .1) (c .before .before .before .before .before .before .before .before .before .expression .ensures)) _ (takes-as _ _ _ _ _ (c .before .e .given .1) (c .before .before .before .take .ensures))
+returns-3 c = ended-closed (primary (wordsIn (c .before .before .before .before .before .before .before .before .before .before .before .before .before .before .before .before .args .reserved .now) (c .before .before .before .before .before .before .before .before .before .before .before .before .before .before .before .before .args .currencies .now) (c .before .before .before .before .before .before .before .before .before .before .before .before .before .before .before .before .args .counters .now)) (c .before .before .before .before .before .before .before .before .before .before .before .before .before .before .before .before .args .depth)) (c .before .before .before .before .before .before .before .before .before .before .before .before .before .before .before .before .args .s .now) (c .before .before .before .before .before .before .before .before .before .before .before .before .before .before .before .before .args .c) (c .before .before .before .before .before .before .before .before .before .before .before .before .before .before .before .before .args .n) (c .before .before .before .before .before .before .before .before .before .before .before .before .before .before .before .before .args .out .now) _ _ _ _ (done-reads _ _ _ _ _ _ _ _ _ (c .before .before .before .before .before .r .given .1) (c .before .before .before .before .before .before .before .before .before .expression .ensures)) _ (takes-as _ _ _ (c .before .e .given .1) (c .before .before .before .take .ensures))
 
 pub ended-spec : {M : Type 1} → statement M
 ended-spec =

@@ -4,7 +4,7 @@ use mathlib.Core.List.{[]}
 use native.Mathlib.Omega.{arith}
 use Rattle.reading.specs.Meets.{wordsIn}
 use Rattle.reading.proofs.HoldLaws.{start-in, end-in}
-use Rattle.reading.proofs.StepLaws.{takes-as}
+use Rattle.reading.proofs.HoldLaws.{takes-as}
 use Rattle.reading.proofs.AssignLaws.{head-not, head-reserved, head-open, head-is}
 use borrow.Author.Needs.{needs}
 use Rattle.reading.proofs.bodies.loop_head.Statement.{statement}
@@ -47,10 +47,10 @@ enum-known-f : tie.Need-enum-known-f
 enum-known-f c = search needs
 
 returns-3 : tie.Need-returns-3
-returns-3 c = head-open (wordsIn (c .before .before .before .before .before .before .before .before .before .before .before .before .before .before .args .reserved .now) [] []) (c .before .before .before .before .before .before .before .before .before .before .before .before .before .before .args .s .now) (c .before .before .before .before .before .before .before .before .before .before .before .before .before .before .args .c) (c .before .before .before .before .before .before .before .before .before .before .before .before .before .before .pre) (c .before .before .before .before .before .before .before .before .before .next .result) (c .before .before .before .before .before .before .before .before .before .next .ensures) (c .before .before .before .before .before .before .before .before .before .before .if1 .left) (sym (c .before .before .before .before .before .place-in .ensures) ∙ c .before .before .before .before .if2 .left) _ (takes-as _ _ _ _ _ (c .before .b .given .1) (c .before .before .before .take .ensures))
+returns-3 c = head-open (wordsIn (c .before .before .before .before .before .before .before .before .before .before .before .before .before .before .args .reserved .now) [] []) (c .before .before .before .before .before .before .before .before .before .before .before .before .before .before .args .s .now) (c .before .before .before .before .before .before .before .before .before .before .before .before .before .before .args .c) (c .before .before .before .before .before .before .before .before .before .before .before .before .before .before .pre) (c .before .before .before .before .before .before .before .before .before .next .result) (c .before .before .before .before .before .before .before .before .before .next .ensures) (c .before .before .before .before .before .before .before .before .before .before .if1 .left) (sym (c .before .before .before .before .before .place-in .ensures) ∙ c .before .before .before .before .if2 .left) _ (takes-as _ _ _ (c .before .b .given .1) (c .before .before .before .take .ensures))
 
 returns-4 : tie.Need-returns-4
-returns-4 c = head-is (wordsIn (c .before .before .before .before .before .before .before .before .before .before .before .before .before .before .args .reserved .now) [] []) (c .before .before .before .before .before .before .before .before .before .before .before .before .before .before .args .s .now) (c .before .before .before .before .before .before .before .before .before .before .before .before .before .before .args .c) (c .before .before .before .before .before .before .before .before .before .before .before .before .before .before .pre) (c .before .before .before .before .before .before .before .before .before .next .result) (c .before .before .before .before .before .before .before .before .before .next .ensures) (c .before .before .before .before .before .before .before .before .before .before .if1 .left) (sym (c .before .before .before .before .before .place-in .ensures) ∙ c .before .before .before .before .if2 .left) _ (takes-as _ _ _ _ _ (c .before .f .given .1) (c .before .before .before .take .ensures))
+returns-4 c = head-is (wordsIn (c .before .before .before .before .before .before .before .before .before .before .before .before .before .before .args .reserved .now) [] []) (c .before .before .before .before .before .before .before .before .before .before .before .before .before .before .args .s .now) (c .before .before .before .before .before .before .before .before .before .before .before .before .before .before .args .c) (c .before .before .before .before .before .before .before .before .before .before .before .before .before .before .pre) (c .before .before .before .before .before .before .before .before .before .next .result) (c .before .before .before .before .before .before .before .before .before .next .ensures) (c .before .before .before .before .before .before .before .before .before .before .if1 .left) (sym (c .before .before .before .before .before .place-in .ensures) ∙ c .before .before .before .before .if2 .left) _ (takes-as _ _ _ (c .before .f .given .1) (c .before .before .before .take .ensures))
 
 pub loop-head-spec : {M : Type 1} → statement M
 loop-head-spec =

@@ -2,7 +2,8 @@
 use native.Mathlib.Omega.{arith}
 use mathlib.Core.List.{[]}
 use Rattle.reading.specs.Meets.{wordsIn}
-use Rattle.reading.proofs.CallLaws.{takes-as, took-wide, took-holds, currency-not, currency-bad, currency-is, place-fits}
+use Rattle.reading.proofs.HoldLaws.{takes-as}
+use Rattle.reading.proofs.CallLaws.{took-wide, took-holds, currency-not, currency-bad, currency-is, place-fits}
 use borrow.Author.Needs.{needs}
 use Rattle.reading.proofs.calls.currency.Statement.{statement}
 use Rattle.reading.proofs.calls.currency.Tie as tie

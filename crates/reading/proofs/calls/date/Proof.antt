@@ -1,6 +1,7 @@
 -- A string token is a date where its content is one.
 use native.Mathlib.Omega.{arith}
-use Rattle.reading.proofs.CallLaws.{takes-as, took-wide, took-holds, date-not, date-bad, date-is}
+use Rattle.reading.proofs.HoldLaws.{takes-as}
+use Rattle.reading.proofs.CallLaws.{took-wide, took-holds, date-not, date-bad, date-is}
 use borrow.Author.Needs.{needs}
 use Rattle.reading.proofs.calls.date.Statement.{statement}
 use Rattle.reading.proofs.calls.date.Tie as tie

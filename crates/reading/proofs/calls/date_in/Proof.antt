@@ -1,7 +1,8 @@
 -- The date in the content of a string token.
 use native.Mathlib.Omega.{arith}
 use Rattle.reading.proofs.HoldLaws.{end-in}
-use Rattle.reading.proofs.CallLaws.{string-wide, date-in}
+use Rattle.reading.proofs.AtomLaws.{string-wide}
+use Rattle.reading.proofs.CallLaws.{date-in}
 use borrow.Author.Needs.{needs}
 use Rattle.reading.proofs.calls.date_in.Statement.{statement}
 use Rattle.reading.proofs.calls.date_in.Tie as tie

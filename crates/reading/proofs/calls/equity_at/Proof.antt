@@ -2,7 +2,8 @@
 use native.Mathlib.Omega.{arith}
 use mathlib.Core.List.{[]}
 use Rattle.reading.specs.Meets.{wordsIn}
-use Rattle.reading.proofs.CallLaws.{string-wide, equity-no, equity-is}
+use Rattle.reading.proofs.AtomLaws.{string-wide}
+use Rattle.reading.proofs.CallLaws.{equity-no, equity-is}
 use borrow.Author.Needs.{needs}
 use Rattle.reading.proofs.calls.equity_at.Statement.{statement}
 use Rattle.reading.proofs.calls.equity_at.Tie as tie

@@ -1,7 +1,8 @@
 -- The dates of a RateIndex are judged when all of it is read.
 use native.Mathlib.Omega.{arith}
 use Rattle.reading.specs.Meets.{toksAt, tokenAt}
-use Rattle.reading.proofs.CallLaws.{string-wide, rate-first, rate-second, rate-is}
+use Rattle.reading.proofs.AtomLaws.{string-wide}
+use Rattle.reading.proofs.CallLaws.{rate-first, rate-second, rate-is}
 use borrow.Author.Needs.{needs}
 use Rattle.reading.proofs.calls.rate.Statement.{statement}
 use Rattle.reading.proofs.calls.rate.Tie as tie

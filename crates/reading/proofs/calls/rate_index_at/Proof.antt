@@ -1,5 +1,6 @@
 -- RateIndex: three strings behind their signs, and the closing sign.
-use Rattle.reading.proofs.CallLaws.{leads-as, takes-as, leaf-as, index-name, index-from, index-to, index-close, index-is}
+use Rattle.reading.proofs.HoldLaws.{takes-as}
+use Rattle.reading.proofs.CallLaws.{leads-as, leaf-as, index-name, index-from, index-to, index-close, index-is}
 use borrow.Author.Needs.{needs}
 use Rattle.reading.proofs.calls.rate_index_at.Statement.{statement}
 use Rattle.reading.proofs.calls.rate_index_at.Tie as tie

@@ -2,7 +2,8 @@
 use native.Mathlib.Omega.{arith}
 use mathlib.Core.List.{[]}
 use Rattle.reading.specs.Meets.{wordsIn}
-use Rattle.reading.proofs.CallLaws.{takes-as, leaf-as, leaf-holds, spot-no, spot-inner, spot-not, spot-is}
+use Rattle.reading.proofs.HoldLaws.{takes-as}
+use Rattle.reading.proofs.CallLaws.{leaf-as, leaf-holds, spot-no, spot-inner, spot-not, spot-is}
 use borrow.Author.Needs.{needs}
 use Rattle.reading.proofs.calls.spot_at.Statement.{statement}
 use Rattle.reading.proofs.calls.spot_at.Tie as tie

@@ -3,7 +3,8 @@ use native.Mathlib.Omega.{arith}
 use mathlib.Core.List.{[]}
 use Rattle.reading.specs.Meets.{wordsIn}
 use Rattle.reading.proofs.HoldLaws.{end-in}
-use Rattle.reading.proofs.CallLaws.{string-wide, place-fits, leaf-as, spot-equity, spot-pair}
+use Rattle.reading.proofs.AtomLaws.{string-wide}
+use Rattle.reading.proofs.CallLaws.{place-fits, leaf-as, spot-equity, spot-pair}
 use borrow.Author.Needs.{needs}
 use Rattle.reading.proofs.calls.spot_of.Statement.{statement}
 use Rattle.reading.proofs.calls.spot_of.Tie as tie

@@ -1,6 +1,4 @@
-use mathlib.Core.Path.{ap}
 use borrow.Author.Needs.{needs}
-use Rattle.tokens.specs.declared.places.Place.{Place}
 use Rattle.reading.proofs.reading.refusal.Statement.{statement}
 use Rattle.reading.proofs.reading.refusal.Tie as tie
 

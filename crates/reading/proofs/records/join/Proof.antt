@@ -3,7 +3,7 @@ use borrow.Author.Needs.{needs}
 use Rattle.reading.proofs.records.join.Statement.{statement}
 use Rattle.reading.proofs.records.join.Tie as tie
 use mathlib.Core.Path.{refl}
-use Rattle.reading.proofs.StepLaws.{put-plain}
+use Rattle.reading.proofs.StepLaws.{put-fields}
 
 returns : tie.Need-returns
 returns c = (λ z. (refl, refl, refl), λ z. absurd (z (c .if1 .taken)))
@@ -27,7 +27,7 @@ same-length : tie.Need-same-length
 same-length c = search needs
 
 returns-2 : tie.Need-returns-2
-returns-2 c = (λ z. absurd (c .before .before .before .before .before .if1 .left z), λ z. (refl, refl, put-plain _ _ _ _ _ _ _ (c .before .before .before .plain .ensures) (c .before .before .put .ensures)))
+returns-2 c = (λ z. absurd (c .before .before .before .before .before .if1 .left z), λ z. (refl, refl, put-fields _ _ _ _ _ _ _ _ _ (c .before .before .before .plain .ensures) (c .before .before .put .ensures)))
 
 pub join-spec : {M : Type 1} → statement M
 join-spec =
