@@ -7,9 +7,9 @@ use lib.ListN.{length, take, drop}
 use lib.Dec.{T}
 use Rattle.tokens.specs.Text.{bytes}
 use Rattle.tokens.specs.Names.{Lists}
-use Rattle.reading.specs.Trees.{node, fields, nil}
-use Rattle.reading.specs.Script.{Entry, Outcome, accepted, refused, readScript}
-use Rattle.reading.specs.Words.{Row}
+use Rattle.grammar.specs.Trees.{node, fields, nil}
+use Rattle.grammar.specs.Script.{Entry, Outcome, accepted, refused, readScript}
+use Rattle.grammar.specs.Words.{Row}
 use Rattle.reading.specs.Computing.{computing}
 use Rattle.amending.specs.Amend.{endsWell, replaced, amendedList}
 use Rattle.amending.specs.Amending.{State, Rooms, Answer, done, refusal, pick, over, fitting, put, amendAt, amend, after}

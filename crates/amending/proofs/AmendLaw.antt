@@ -11,9 +11,9 @@ use Rattle.tokens.specs.Limits.{mostBytes, mostTokens}
 use Rattle.tokens.specs.Text.{every, other}
 use Rattle.tokens.specs.Names.{Lists}
 use Rattle.tokens.specs.Tokens.{Lexed}
-use Rattle.reading.specs.Grammar.{Words}
-use Rattle.reading.specs.Script.{Entry, accepted, words, readScript, movedEntry, tokensOf, noZero}
-use Rattle.reading.proofs.AmendBytes.{Text, Fore, join, Cut, cut-at, fore-ended, text-same, every-append, append-every, Accepted, read-accepted, accepted-read, tokens-append, tokens-moved}
+use Rattle.grammar.specs.Grammar.{Words}
+use Rattle.grammar.specs.Script.{Entry, accepted, words, readScript, movedEntry, tokensOf, noZero}
+use Rattle.grammar.proofs.AmendBytes.{Text, Fore, join, Cut, cut-at, fore-ended, text-same, every-append, append-every, Accepted, read-accepted, accepted-read, tokens-append, tokens-moved}
 use Rattle.amending.specs.Amend.{wellEnded, endsWell, replaced, between, amendedList, AmendLaw}
 
 module _ (W : Words) where

@@ -11,11 +11,11 @@ use borrow.Author.Tests.{ltb-false}
 use Rattle.tokens.specs.Limits.{mostBytes, mostTokens}
 use Rattle.tokens.specs.Text.{if_then_else_, other}
 use Rattle.tokens.specs.Names.{Lists}
-use Rattle.reading.specs.Trees.{records}
-use Rattle.reading.specs.Script.{Entry, Outcome, accepted, refused, nodes, readScript, movedEntry, tokensOf, noZero}
-use Rattle.reading.specs.Words.{wordsOf}
-use Rattle.reading.proofs.AmendBytes.{append-every}
-use Rattle.reading.proofs.WordLaws.{words-append, words-moved}
+use Rattle.grammar.specs.Trees.{records}
+use Rattle.grammar.specs.Script.{Entry, Outcome, accepted, refused, nodes, readScript, movedEntry, tokensOf, noZero}
+use Rattle.grammar.specs.Words.{wordsOf}
+use Rattle.grammar.proofs.AmendBytes.{append-every}
+use Rattle.grammar.proofs.WordLaws.{words-append, words-moved}
 use Rattle.amending.specs.Amend.{endsWell, replaced, between, amendedList}
 use Rattle.amending.specs.Amending.{State, Rooms, Pick, onto, pick, over, Answer, done, refusal, fitting, put, amendAt, amend, left, after, Good, anew}
 use Rattle.amending.proofs.AmendLaw.{replaced-noZero, tokens-amended, amend-law, amend-exact}

@@ -10,16 +10,16 @@ use lib.ListN.{length, take, length-map}
 use lib.Seq.{take-at}
 use Rattle.tokens.specs.Text.{script}
 use Rattle.tokens.specs.Names.{Lists}
-use Rattle.reading.specs.Sizes.{recordWidth, entryWidth, mostRecords, mostStatements, recordRoom, statementRoom}
-use Rattle.reading.specs.Trees.{records}
-use Rattle.reading.specs.Script.{Entry, Outcome, accepted, refused, fitting, readScript, reading, nodes, tokensOf}
-use Rattle.reading.specs.Words.{wordsOf, rowOf, directoryOf, rowsWords}
+use Rattle.grammar.specs.Sizes.{recordWidth, entryWidth, mostRecords, mostStatements, recordRoom, statementRoom}
+use Rattle.grammar.specs.Trees.{records}
+use Rattle.grammar.specs.Script.{Entry, Outcome, accepted, refused, fitting, readScript, reading, nodes, tokensOf}
+use Rattle.grammar.specs.Words.{wordsOf, rowOf, directoryOf, rowsWords}
 use Rattle.reading.specs.Judging.{judgedOf, lastEnd}
 use Rattle.reading.specs.Reading.{answerOf, over, leftBy, readInto, Leaves}
 use Rattle.reading.specs.declared.reading.Answer.{Answer}
-use Rattle.reading.proofs.AmendBytes.{Accepted, read-accepted, script-noZero, read-script, script-all}
+use Rattle.grammar.proofs.AmendBytes.{Accepted, read-accepted, script-noZero, read-script, script-all}
 use Rattle.reading.proofs.JudgeLaws.{script-in, script-take}
-use Rattle.reading.proofs.WordLaws.{words-length, words-before, directory-length}
+use Rattle.grammar.proofs.WordLaws.{words-length, words-before, directory-length}
 use Rattle.reading.proofs.ReadLaws.{room-in}
 use Rattle.amending.specs.Amend.{replaced}
 use Rattle.amending.specs.Amending.{State, Rooms, Pick, Answer as Result, done, amend, left, after}

@@ -11,9 +11,9 @@ use borrow.Author.Tests.{le-ltb}
 use Rattle.tokens.specs.Limits.{mostBytes, mostTokens}
 use Rattle.tokens.specs.Text.{if_then_else_, every, leading, script, other}
 use Rattle.tokens.specs.Names.{Lists}
-use Rattle.reading.specs.Grammar.{Words}
-use Rattle.reading.specs.Script.{Entry, Outcome, accepted, refused, nodes, words, readScript, reading, fitting as fits, movedEntry, tokensOf, noZero}
-use Rattle.reading.proofs.AmendBytes.{Text, Cut, cut-at, Accepted, read-accepted, append-every, script-noZero, read-script}
+use Rattle.grammar.specs.Grammar.{Words}
+use Rattle.grammar.specs.Script.{Entry, Outcome, accepted, refused, nodes, words, readScript, reading, fitting as fits, movedEntry, tokensOf, noZero}
+use Rattle.grammar.proofs.AmendBytes.{Text, Cut, cut-at, Accepted, read-accepted, append-every, script-noZero, read-script}
 use Rattle.amending.specs.Amend.{endsWell, replaced, between, amendedList}
 use Rattle.amending.specs.Amending.{State, Rooms, Good, over}
 use Rattle.amending.proofs.AmendLaw.{replaced-noZero, amend-law}

@@ -6,9 +6,9 @@ use Prim.Native.Nat.{ℕ, _+_, _-_, _*_, _^_, _≤_, _<_, max}
 use native.Mathlib.Omega.{arith}
 use lib.ListN.{length, take, drop, replicate, length-append, length-map}
 use lib.Seq.{take-at, drop-append-add}
-use Rattle.reading.specs.Sizes.{entryWidth}
-use Rattle.reading.specs.Words.{Row, rowWords, rowsWords}
-use Rattle.reading.proofs.WordLaws.{rows-length, rows-append}
+use Rattle.grammar.specs.Sizes.{entryWidth}
+use Rattle.grammar.specs.Words.{Row, rowWords, rowsWords}
+use Rattle.grammar.proofs.WordLaws.{rows-length, rows-append}
 use Rattle.amending.specs.Amending.{Pick}
 use Rattle.amending.specs.Lent.{ascending, movedRow, betweenRow, swappedRows}
 use Rattle.amending.specs.Moves.{usedAfter, resized, spliced, leave}

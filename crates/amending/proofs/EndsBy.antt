@@ -10,12 +10,12 @@ use borrow.Author.Tests.{ne-eqb, eq-eqb}
 use Rattle.tokens.specs.Text.{count}
 use Rattle.tokens.specs.Tokens.{counts, endOf}
 use Rattle.tokens.proofs.Closers.{closer}
-use Rattle.reading.specs.Readers.{first, lastOf, closes}
-use Rattle.reading.specs.Grammar.{Words}
-use Rattle.reading.specs.Script.{Entry, accepted, tokensOf}
-use Rattle.reading.proofs.ReachLaws.{none-end}
-use Rattle.reading.proofs.AmendBytes.{Text, text-tokens, tokens-append}
-use Rattle.reading.proofs.Endings.{Snoc, nil, snoc, snoc-of, LastToken, last-token}
+use Rattle.grammar.specs.Readers.{first, lastOf, closes}
+use Rattle.grammar.specs.Grammar.{Words}
+use Rattle.grammar.specs.Script.{Entry, accepted, tokensOf}
+use Rattle.grammar.proofs.ReachLaws.{none-end}
+use Rattle.grammar.proofs.AmendBytes.{Text, text-tokens, tokens-append}
+use Rattle.grammar.proofs.Endings.{Snoc, nil, snoc, snoc-of, LastToken, last-token}
 use Rattle.amending.specs.Amend.{wellEnded, endsWell, lastEnd, endsBy}
 
 pub last-end : (p : ℕ) (es : List Entry) (e : Entry) → lastEnd p (es ++ (e ∷ [])) ≡ e .end

@@ -7,8 +7,8 @@ use native.Mathlib.Nat.{add-zero, add-assoc}
 use native.Mathlib.Omega.{arith}
 use lib.ListN.{length, take, drop, getD}
 use lib.Seq.{getD-drop, drop-drop}
-use Rattle.reading.specs.Sizes.{entryWidth}
-use Rattle.reading.specs.Words.{Row, rowsWords}
+use Rattle.grammar.specs.Sizes.{entryWidth}
+use Rattle.grammar.specs.Words.{Row, rowsWords}
 use Rattle.amending.specs.Amending.{Pick, onto, pick}
 use Rattle.amending.specs.Lent.{sumRecords}
 use Rattle.amending.specs.Entries.{rowAt, rowsFrom, pickAt}

@@ -14,16 +14,16 @@ use Rattle.tokens.specs.Text.{script, count, leading, every, other}
 use Rattle.tokens.proofs.Shapes.{leading-le}
 use Rattle.tokens.specs.Names.{Lists}
 use Rattle.tokens.specs.Tokens.{Lexed, counts, endOf}
-use Rattle.reading.specs.Sizes.{recordWidth, entryWidth, mostRecords, mostStatements}
-use Rattle.reading.specs.Grammar.{Words}
-use Rattle.reading.specs.Script.{Entry, accepted, refused, readScript, noZero, tokensOf, words}
-use Rattle.reading.specs.Words.{Row, rowOf}
+use Rattle.grammar.specs.Sizes.{recordWidth, entryWidth, mostRecords, mostStatements}
+use Rattle.grammar.specs.Grammar.{Words}
+use Rattle.grammar.specs.Script.{Entry, accepted, refused, readScript, noZero, tokensOf, words}
+use Rattle.grammar.specs.Words.{Row, rowOf}
 use Rattle.reading.specs.Meets.{listed}
 use Rattle.reading.specs.Judging.{lastEnd as textEnd}
 use Rattle.reading.specs.declared.judging.Counts.{Counts}
-use Rattle.reading.proofs.AmendBytes.{Text, Accepted, read-accepted, script-all, text-tokens, tokens-append}
-use Rattle.reading.proofs.ReachLaws.{none-end}
-use Rattle.reading.proofs.Endings.{Snoc, nil, snoc, snoc-of, LastToken, last-token}
+use Rattle.grammar.proofs.AmendBytes.{Text, Accepted, read-accepted, script-all, text-tokens, tokens-append}
+use Rattle.grammar.proofs.ReachLaws.{none-end}
+use Rattle.grammar.proofs.Endings.{Snoc, nil, snoc, snoc-of, LastToken, last-token}
 use Rattle.reading.proofs.ReadLaws.{room-in, room-most, Good}
 use Rattle.amending.specs.Amend.{endsWell, lastEnd}
 use Rattle.amending.specs.Amending.{Rooms, Pick, pick}

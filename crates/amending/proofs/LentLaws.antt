@@ -12,11 +12,11 @@ use borrow.Author.Tests.{le-leb, lt-ltb, eq-eqb}
 use Rattle.tokens.specs.Limits.{mostBytes, mostTokens}
 use Rattle.tokens.specs.Text.{if_then_else_}
 use Rattle.tokens.specs.Names.{Lists}
-use Rattle.reading.specs.Sizes.{recordWidth}
-use Rattle.reading.specs.Trees.{size, records}
-use Rattle.reading.specs.Script.{Entry, Outcome, accepted, refused, nodes, readScript, movedEntry, tokensOf, noZero}
-use Rattle.reading.specs.Words.{wordsOf, Row, rowOf}
-use Rattle.reading.proofs.WordLaws.{words-length as all-words, words-before, records-length}
+use Rattle.grammar.specs.Sizes.{recordWidth}
+use Rattle.grammar.specs.Trees.{size, records}
+use Rattle.grammar.specs.Script.{Entry, Outcome, accepted, refused, nodes, readScript, movedEntry, tokensOf, noZero}
+use Rattle.grammar.specs.Words.{wordsOf, Row, rowOf}
+use Rattle.grammar.proofs.WordLaws.{words-length as all-words, words-before, records-length}
 use Rattle.amending.specs.Amend.{endsWell, replaced, between, amendedList}
 use Rattle.amending.specs.Amending.{State, Rooms, Pick, onto, pick, over, fitting, Answer, done, refusal, put, amendAt, amend, Good, left, after}
 use Rattle.amending.specs.Lent.{Lent, sumRecords, sumTokens, overRows, ascending, inOrder, movedRow, betweenRow, swappedRows, swapped, handed, unchanged, fittingLent, putLent, lentAt, amendLent, leftLent, afterLent, lentOf, given}

@@ -7,8 +7,8 @@ use native.Mathlib.Omega.{arith}
 use lib.Dec.{leb, ltb, eqb}
 use lib.ListN.{length}
 use borrow.Author.Tests.{ltb-true, leb-true, eqb-true, lt-ltb, le-leb, eq-eqb}
-use Rattle.reading.specs.Sizes.{entryWidth}
-use Rattle.reading.specs.Words.{Row}
+use Rattle.grammar.specs.Sizes.{entryWidth}
+use Rattle.grammar.specs.Words.{Row}
 use Rattle.amending.specs.Amending.{Pick}
 use Rattle.amending.specs.Lent.{ascending, sumRecords, sumTokens}
 use Rattle.amending.specs.Entries.{rowsFrom, rowFits}

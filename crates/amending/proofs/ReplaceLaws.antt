@@ -9,13 +9,13 @@ use lib.ListN.{length, take, drop, getD, length-drop, length-map}
 use lib.Seq.{length-take-le}
 use borrow.Author.Tests.{le-ltb}
 use Rattle.tokens.specs.Names.{Lists}
-use Rattle.reading.specs.Sizes.{recordWidth, entryWidth, mostRecords, mostStatements}
-use Rattle.reading.specs.Script.{Entry, accepted, reading, nodes}
-use Rattle.reading.specs.Words.{wordsOf, Row, rowOf, rowsWords, directoryOf}
+use Rattle.grammar.specs.Sizes.{recordWidth, entryWidth, mostRecords, mostStatements}
+use Rattle.grammar.specs.Script.{Entry, accepted, reading, nodes}
+use Rattle.grammar.specs.Words.{wordsOf, Row, rowOf, rowsWords, directoryOf}
 use Rattle.reading.specs.Reading.{leftBy, readInto, Leaves}
 use Rattle.reading.specs.declared.judging.Counts.{Counts}
 use Rattle.reading.specs.declared.reading.Answer.{Answer}
-use Rattle.reading.proofs.WordLaws.{words-length, directory-length}
+use Rattle.grammar.proofs.WordLaws.{words-length, directory-length}
 use Rattle.reading.proofs.ReadLaws.{room-in, room-most}
 use Rattle.amending.specs.Amending.{Pick}
 use Rattle.amending.specs.Lent.{Lent, unchanged, ascending, sumRecords, swapped}

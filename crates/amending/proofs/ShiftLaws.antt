@@ -10,9 +10,9 @@ use lib.Dec.{leb, ltb}
 use lib.ListN.{length, take, drop, getD, set, length-append, take-append-drop}
 use lib.Seq.{drop-cons, take-at, drop-at, take-append-add, drop-append-add, length-take-le, getD-set-other}
 use borrow.Author.Tests.{ltb-true, leb-true, lt-ltb, le-leb}
-use Rattle.reading.specs.Sizes.{entryWidth}
-use Rattle.reading.specs.Words.{Row, rowsWords}
-use Rattle.reading.proofs.WordLaws.{rows-length}
+use Rattle.grammar.specs.Sizes.{entryWidth}
+use Rattle.grammar.specs.Words.{Row, rowsWords}
+use Rattle.grammar.proofs.WordLaws.{rows-length}
 use Rattle.amending.specs.Lent.{ascending, movedRow, betweenRow}
 use Rattle.amending.specs.Entries.{movedPlace, shiftedRow, movedWords, shifted}
 use Rattle.amending.proofs.Flags.{no, left, right}

@@ -11,12 +11,12 @@ use lib.Seq.{take-at}
 use borrow.Author.Tests.{ltb-false}
 use Rattle.tokens.specs.Text.{if_then_else_, script}
 use Rattle.tokens.specs.Names.{Lists}
-use Rattle.reading.specs.Sizes.{recordWidth, entryWidth, mostRecords, mostStatements}
-use Rattle.reading.specs.Script.{Entry, Outcome, accepted, refused, fitting, readScript, reading, noZero, nodes, tokensOf}
+use Rattle.grammar.specs.Sizes.{recordWidth, entryWidth, mostRecords, mostStatements}
+use Rattle.grammar.specs.Script.{Entry, Outcome, accepted, refused, fitting, readScript, reading, noZero, nodes, tokensOf}
 use Rattle.reading.specs.Reading.{over}
-use Rattle.reading.specs.Words.{rowOf, wordsOf, rowsWords}
+use Rattle.grammar.specs.Words.{rowOf, wordsOf, rowsWords}
 use Rattle.reading.specs.declared.reading.Answer.{Answer}
-use Rattle.reading.proofs.WordLaws.{words-length as record-words, rows-length}
+use Rattle.grammar.proofs.WordLaws.{words-length as record-words, rows-length}
 use Rattle.reading.proofs.ReadLaws.{room-in}
 use Rattle.amending.specs.Amend.{endsWell, replaced, amendedList}
 use Rattle.amending.specs.Amending.{State, Rooms, Pick, pick, over as overRooms, Answer as Result, done, refusal, fitting as fittingRooms, put, amendAt, amend, left, Good}

@@ -5,7 +5,7 @@ use Prim.Native.Nat.{ℕ, _+_, _-_, _≤_}
 use native.Mathlib.Omega.{arith}
 use lib.ListN.{length, take, drop}
 use lib.Seq.{drop-length}
-use Rattle.reading.specs.Words.{Row}
+use Rattle.grammar.specs.Words.{Row}
 use Rattle.reading.specs.Reading.{over}
 use Rattle.amending.specs.Amending.{Pick}
 use Rattle.amending.specs.Lent.{sumRecords, sumTokens, movedRow, betweenRow, swappedRows}

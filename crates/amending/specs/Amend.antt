@@ -9,8 +9,8 @@ use Rattle.tokens.specs.Limits.{mostBytes, mostTokens}
 use Rattle.tokens.specs.Text.{count}
 use Rattle.tokens.specs.Names.{Lists}
 use Rattle.tokens.specs.Tokens.{Lexed, lexed, refused as faulty, scan, counts, endOf}
-use Rattle.reading.specs.Readers.{first, lastOf, closes}
-use Rattle.reading.specs.Script.{Entry, movedEntry, accepted, readScript, noZero, tokensOf}
+use Rattle.grammar.specs.Readers.{first, lastOf, closes}
+use Rattle.grammar.specs.Script.{Entry, movedEntry, accepted, readScript, noZero, tokensOf}
 
 -- ---- 18
 

@@ -8,7 +8,7 @@ use lib.Dec.{T, ltb}
 use lib.ListN.{length}
 use Rattle.tokens.specs.Text.{if_then_else_}
 use Rattle.tokens.specs.Names.{Lists}
-use Rattle.reading.specs.Script.{Entry, Outcome, accepted, refused, nodes, tokensOf, noZero, readScript}
+use Rattle.grammar.specs.Script.{Entry, Outcome, accepted, refused, nodes, tokensOf, noZero, readScript}
 use Rattle.amending.specs.Amend.{endsWell, replaced, amendedList}
 
 -- a script and its statements

@@ -5,8 +5,8 @@ use Prim.Native.Nat.{ℕ, zero, suc, _+_, _-_, _*_, _^_}
 use lib.Dec.{leb, ltb}
 use lib.ListN.{length, take, drop, getD}
 use Rattle.tokens.specs.Text.{if_then_else_}
-use Rattle.reading.specs.Sizes.{entryWidth}
-use Rattle.reading.specs.Words.{Row}
+use Rattle.grammar.specs.Sizes.{entryWidth}
+use Rattle.grammar.specs.Words.{Row}
 use Rattle.amending.specs.Amending.{Pick}
 
 -- ---- read

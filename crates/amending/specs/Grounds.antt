@@ -8,8 +8,8 @@ use lib.ListN.{length, getD}
 use Rattle.tokens.specs.Limits.{mostBytes, mostTokens}
 use Rattle.tokens.specs.Text.{if_then_else_}
 use Rattle.tokens.specs.Names.{Lists}
-use Rattle.reading.specs.Sizes.{recordWidth, entryWidth, mostRecords, mostStatements}
-use Rattle.reading.specs.Script.{Entry, accepted, readScript, noZero, nodes}
+use Rattle.grammar.specs.Sizes.{recordWidth, entryWidth, mostRecords, mostStatements}
+use Rattle.grammar.specs.Script.{Entry, accepted, readScript, noZero, nodes}
 use Rattle.reading.specs.declared.judging.Counts.{Counts}
 use Rattle.amending.specs.Amending.{Rooms}
 use Rattle.amending.specs.Lent.{handed, unchanged, ascending, sumRecords, sumTokens, swapped}

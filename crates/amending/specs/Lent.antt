@@ -7,9 +7,9 @@ use lib.Dec.{leb, ltb, eqb}
 use lib.ListN.{length, take, drop}
 use Rattle.tokens.specs.Text.{if_then_else_}
 use Rattle.tokens.specs.Names.{Lists}
-use Rattle.reading.specs.Sizes.{recordWidth}
-use Rattle.reading.specs.Script.{Entry, Outcome, accepted, refused, tokensOf, noZero, readScript}
-use Rattle.reading.specs.Words.{wordsOf, Row, rowOf}
+use Rattle.grammar.specs.Sizes.{recordWidth}
+use Rattle.grammar.specs.Script.{Entry, Outcome, accepted, refused, tokensOf, noZero, readScript}
+use Rattle.grammar.specs.Words.{wordsOf, Row, rowOf}
 use Rattle.amending.specs.Amend.{endsWell}
 use Rattle.amending.specs.Amending.{State, Rooms, Pick, pick, Answer, done, refusal}
 

@@ -9,8 +9,8 @@ use Rattle.tokens.specs.Limits.{mostBytes, mostTokens}
 use Rattle.tokens.specs.Text.{if_then_else_}
 use Rattle.tokens.specs.Names.{Lists}
 use Rattle.tokens.specs.Places.{line, column}
-use Rattle.reading.specs.Sizes.{recordWidth, entryWidth, recordRoom, statementRoom}
-use Rattle.reading.specs.Words.{rowsWords}
+use Rattle.grammar.specs.Sizes.{recordWidth, entryWidth, recordRoom, statementRoom}
+use Rattle.grammar.specs.Words.{rowsWords}
 use Rattle.reading.specs.declared.reading.Answer.{Answer}
 use Rattle.amending.specs.Amending.{Rooms}
 use Rattle.amending.specs.Lent.{Lent, Handed, handed, unchanged, sumRecords, amendLent}

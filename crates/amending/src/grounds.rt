@@ -13,7 +13,7 @@ use tokens::text::find;
 ghost use mathlib.Core.Path.{_≡_};
 ghost use Prim.Native.Nat.{_+_, _*_, _≤_};
 ghost use lib.ListN.{length};
-ghost use Rattle.reading.specs.Script.{noZero};
+ghost use Rattle.grammar.specs.Script.{noZero};
 ghost use Rattle.reading.specs.Judging.{listsIn};
 ghost use Rattle.amending.specs.Memory.{memory, roomsOf, within};
 ghost use Rattle.amending.specs.Grounds.{endsWhole, endsShut, Ends, wordsAt, Stands, Few, alone, totals, fittingBy, MeetsVerdict};

@@ -5,7 +5,7 @@ ghost use mathlib.Core.Bool.{_&&_};
 ghost use Prim.Native.Nat.{_*_, _^_, _≤_, _<_};
 ghost use lib.Dec.{leb, eqb};
 ghost use lib.ListN.{length};
-ghost use Rattle.reading.specs.Sizes.{entryWidth};
+ghost use Rattle.grammar.specs.Sizes.{entryWidth};
 ghost use Rattle.amending.specs.Lent.{ascending, sumRecords, sumTokens};
 ghost use Rattle.amending.specs.Entries.{rowsFrom, rowFits};
 

@@ -9,13 +9,13 @@ use lib.ListN.{length, take, drop, length-drop}
 use lib.Seq.{take-append-le, drop-append-le}
 use borrow.Author.Tests.{eq-eqb, ne-eqb, ltb-false}
 use Rattle.tokens.specs.Text.{if_then_else_, script}
-use Rattle.reading.specs.Sizes.{recordRoom, statementRoom, mostRecords, mostStatements}
-use Rattle.reading.specs.Script.{Outcome, accepted, refused, fitting, readScript, reading, nodes}
-use Rattle.reading.specs.Words.{wordsOf}
+use Rattle.grammar.specs.Sizes.{recordRoom, statementRoom, mostRecords, mostStatements}
+use Rattle.grammar.specs.Script.{Outcome, accepted, refused, fitting, readScript, reading, nodes}
+use Rattle.grammar.specs.Words.{wordsOf}
 use Rattle.reading.specs.Judging.{judgedOf, lastEnd}
 use Rattle.reading.specs.Reading.{answerOf, leftBy, Leaves}
 use Rattle.reading.specs.declared.reading.Answer.{Answer}
-use Rattle.reading.proofs.WordLaws.{words-length}
+use Rattle.grammar.proofs.WordLaws.{words-length}
 use Rattle.listing.specs.Lines.{line, recordLines}
 use Rattle.listing.specs.Listing.{ownLists, acceptedLines, refusedLine, answerLines, wordsRead, readingLines, listing}
 

@@ -4,7 +4,7 @@ use mathlib.Core.List.{List, [], _∷_, _++_}
 use Prim.Native.Nat.{ℕ, zero, suc, _+_}
 use lib.ListN.{length, take, drop}
 use Rattle.io.specs.Digits.{digits}
-use Rattle.reading.specs.Sizes.{recordWidth}
+use Rattle.grammar.specs.Sizes.{recordWidth}
 
 -- eight hexadecimal digits, lowercase, the most significant first
 unfoldable pub word : ℕ → List ℕ

@@ -5,9 +5,9 @@ use lib.Dec.{eqb}
 use lib.ListN.{length}
 use Rattle.tokens.specs.Text.{if_then_else_, script}
 use Rattle.tokens.specs.Names.{Lists}
-use Rattle.reading.specs.Sizes.{mostRecords, mostStatements}
-use Rattle.reading.specs.Script.{Outcome, accepted, refused, reading}
-use Rattle.reading.specs.Words.{wordsOf}
+use Rattle.grammar.specs.Sizes.{mostRecords, mostStatements}
+use Rattle.grammar.specs.Script.{Outcome, accepted, refused, reading}
+use Rattle.grammar.specs.Words.{wordsOf}
 use Rattle.reading.specs.Judging.{listsIn, judgedOf, lastEnd}
 use Rattle.reading.specs.Reading.{answerOf}
 use Rattle.reading.specs.declared.reading.Answer.{Answer}

@@ -12,9 +12,9 @@ use Rattle.tokens.specs.Text.{if_then_else_}
 use Rattle.tokens.specs.Names.{place, member}
 use Rattle.tokens.specs.Tokens.{Token, code}
 use Rattle.tokens.specs.declared.cursor.Cursor.{Cursor}
-use Rattle.reading.specs.Trees.{Tree, fields, none as unused, size, row}
-use Rattle.reading.specs.Readers.{Out, ok, refused, Reader, bind, _>>=_, _>>_, is, give, failAt, the}
-use Rattle.reading.specs.Grammar.{Words, binary, variable, optional, expression, pays, ended, named, paid, target, assign, compound, assignPaid, nameFirst, nextKind}
+use Rattle.grammar.specs.Trees.{Tree, fields, none as unused, size, row}
+use Rattle.grammar.specs.Readers.{Out, ok, refused, Reader, bind, _>>=_, _>>_, is, give, failAt, the}
+use Rattle.grammar.specs.Grammar.{Words, binary, variable, optional, expression, pays, ended, named, paid, target, assign, compound, assignPaid, nameFirst, nextKind}
 use Rattle.reading.specs.Rows.{rows, putRow, putRows, nodeRow}
 use Rattle.reading.specs.Meets.{toksAt, tokenAt, Holds, Ready, Follows, Takes, Reads, Meets}
 use Rattle.reading.specs.Bodies.{ReadsTwice, MeetsTwice, loopHead}
@@ -22,12 +22,12 @@ use Rattle.reading.specs.declared.records.Node.{Node}
 use Rattle.reading.specs.declared.answers.Read.{Read}
 use Rattle.reading.specs.declared.answers.Read.the-variants.{Done, Refused}
 use Rattle.reading.specs.declared.answers.Took.the-variants as took
-use Rattle.reading.proofs.SizeLaws.{Sized, EachSized, ended-size, paid-size}
+use Rattle.grammar.proofs.SizeLaws.{Sized, EachSized, ended-size, paid-size}
 use Rattle.reading.proofs.HoldLaws.{start-in, end-in, ask-yes, ask-no, the-then, the-next, the-then-not, read-then, read-next}
 use Rattle.reading.proofs.RowLaws.{size-leaf, size-two, after-leaf, after-two, put-rows-same}
 use Rattle.reading.proofs.ChainLaws.{reads-within, binary-plain}
 use Rattle.reading.proofs.AtomLaws.{named-not}
-use Rattle.reading.proofs.SignLaws.{is-it, is-other}
+use Rattle.grammar.proofs.SignLaws.{is-it, is-other}
 use Rattle.reading.proofs.StepLaws.{bind-refused}
 
 -- ---- the head of a loop

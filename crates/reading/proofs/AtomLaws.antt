@@ -20,9 +20,9 @@ use Rattle.tokens.proofs.Joins.{body}
 use Rattle.tokens.proofs.Shapes.{entry-every}
 use Rattle.tokens.proofs.LexLaws.{front}
 use Rattle.tokens.proofs.ScanLaws.{Stands, over, token, faulty, stands}
-use Rattle.reading.specs.Trees.{Tree, fields, none, row}
-use Rattle.reading.specs.Readers.{Out, ok, refused, Reader, _>>_, is, give, fail, failAt, the}
-use Rattle.reading.specs.Grammar.{Words, leaf, content, string, constant, named}
+use Rattle.grammar.specs.Trees.{Tree, fields, none, row}
+use Rattle.grammar.specs.Readers.{Out, ok, refused, Reader, _>>_, is, give, fail, failAt, the}
+use Rattle.grammar.specs.Grammar.{Words, leaf, content, string, constant, named}
 use Rattle.reading.specs.Atoms.{atom, literal}
 use Rattle.reading.specs.Rows.{putRow}
 use Rattle.reading.specs.Meets.{toksAt, tokenAt, Holds, Follows, Quoted, Reads}

@@ -11,9 +11,9 @@ use lib.ListN.{length, take, drop, length-take, length-drop}
 use Rattle.tokens.specs.Text.{if_then_else_}
 use Rattle.tokens.specs.Tokens.{Token, code}
 use Rattle.tokens.specs.declared.cursor.Cursor.{Cursor}
-use Rattle.reading.specs.Trees.{Tree, Trees, node, nil, _▹_, fields, none as unused, snoc, join, parts, size, sizes, row}
-use Rattle.reading.specs.Readers.{Out, ok, refused, Reader, bind, _>>=_, _>>_, again, follow, loop, is, give, failAt, ask, read, the}
-use Rattle.reading.specs.Grammar.{Words, Inner, deep, deeper, expression, primary, nextKind, named, nameFirst, plain, paid, ended, statementOver, statement, block, blockTurn, ifOver, forOver}
+use Rattle.grammar.specs.Trees.{Tree, Trees, node, nil, _▹_, fields, none as unused, snoc, join, parts, size, sizes, row}
+use Rattle.grammar.specs.Readers.{Out, ok, refused, Reader, bind, _>>=_, _>>_, again, follow, loop, is, give, failAt, ask, read, the}
+use Rattle.grammar.specs.Grammar.{Words, Inner, deep, deeper, expression, primary, nextKind, named, nameFirst, plain, paid, ended, statementOver, statement, block, blockTurn, ifOver, forOver}
 use Rattle.reading.specs.Rows.{rows, rowsOf, putRow, putRows}
 use Rattle.reading.specs.Meets.{wordsIn, toksAt, tokenAt, Holds, Room, Ready, Follows, Takes, Reads, Meets, Before}
 use Rattle.reading.specs.Turns.{inner}
@@ -26,12 +26,12 @@ use Rattle.reading.specs.declared.answers.Number.{Number}
 use Rattle.reading.specs.declared.answers.Number.the-variants as number
 use Rattle.reading.specs.declared.answers.Block.{Block}
 use Rattle.reading.specs.declared.answers.Block.the-variants as blocks
-use Rattle.reading.proofs.Laws.{loop-eq}
-use Rattle.reading.proofs.GrammarLaws.{Moves, move-then, stay-next, the-moves, the-stays, give-stays, named-law, blockTurn-law}
-use Rattle.reading.proofs.StatementLaws.{near-tail, statement-tail}
-use Rattle.reading.proofs.SizeLaws.{Sized, expression-size, primary-size, block-size, statement-size, moves-less}
+use Rattle.grammar.proofs.Laws.{loop-eq}
+use Rattle.grammar.proofs.GrammarLaws.{Moves, move-then, stay-next, the-moves, the-stays, give-stays, named-law, blockTurn-law}
+use Rattle.grammar.proofs.StatementLaws.{near-tail, statement-tail}
+use Rattle.grammar.proofs.SizeLaws.{Sized, expression-size, primary-size, block-size, statement-size, moves-less}
 use Rattle.reading.proofs.HoldLaws.{first-kind, start-in, end-in, ask-yes, ask-no, peek-is, read-next, the-next, the-next-not}
-use Rattle.reading.proofs.TreeLaws.{sizes-join, parts-snoc, parts-join}
+use Rattle.grammar.proofs.TreeLaws.{sizes-join, parts-snoc, parts-join}
 use Rattle.reading.proofs.RowLaws.{size-node, size-some, sizes-front, parts-few, put-rows-same, put-front, put-join, before-none, before-more, before-node}
 use Rattle.reading.proofs.ChainLaws.{reads-within}
 use Rattle.reading.proofs.StepLaws.{bind-refused}

@@ -17,9 +17,9 @@ use Rattle.tokens.specs.declared.cursor.Cursor.{Cursor}
 use Rattle.tokens.proofs.Shapes.{same-eq}
 use Rattle.tokens.proofs.KeyLaws.{Bytes, small, smalls, same-pack}
 use Rattle.tokens.proofs.NameLaws.{place-le}
-use Rattle.reading.specs.Trees.{Tree, node, nil, fields}
-use Rattle.reading.specs.Readers.{Out, ok, refused, Reader, bind, _>>=_, _>>_, give, failAt, the}
-use Rattle.reading.specs.Grammar.{Words, content, optional, dateOf, aDate, currencyOf, aCurrency, curve, df, rateOf, rateIndex, equity, pair, spotOf, spot, callOf}
+use Rattle.grammar.specs.Trees.{Tree, node, nil, fields}
+use Rattle.grammar.specs.Readers.{Out, ok, refused, Reader, bind, _>>=_, _>>_, give, failAt, the}
+use Rattle.grammar.specs.Grammar.{Words, content, optional, dateOf, aDate, currencyOf, aCurrency, curve, df, rateOf, rateIndex, equity, pair, spotOf, spot, callOf}
 use Rattle.reading.specs.Calls.{callKind, callBy, methodKind, optionalBy, ending}
 use Rattle.reading.specs.Meets.{toksAt, tokenAt, Holds, Follows, theBy, Takes, MeetsNumber, MeetsLeaf, LeafHolds, Leads, Few}
 use Rattle.reading.specs.declared.records.Node.{Node}

@@ -13,9 +13,9 @@ use Rattle.tokens.specs.Dates.{date}
 use Rattle.tokens.specs.Tokens.{Token, code, entry}
 use Rattle.tokens.specs.declared.cursor.Cursor.{Cursor}
 use Rattle.tokens.proofs.Shapes.{leading-le}
-use Rattle.reading.specs.Trees.{Tree, Trees, node, nil, _▹_, fields, parts, row}
-use Rattle.reading.specs.Readers.{Out, ok, refused, Reader, bind, _>>=_, _>>_, Turn, again, is, give, fail, the}
-use Rattle.reading.specs.Grammar.{Words, isString, textOf, optional, aDate, aCurrency, named, payday}
+use Rattle.grammar.specs.Trees.{Tree, Trees, node, nil, _▹_, fields, parts, row}
+use Rattle.grammar.specs.Readers.{Out, ok, refused, Reader, bind, _>>=_, _>>_, Turn, again, is, give, fail, the}
+use Rattle.grammar.specs.Grammar.{Words, isString, textOf, optional, aDate, aCurrency, named, payday}
 use Rattle.reading.specs.Rows.{nodeRow, putRow}
 use Rattle.reading.specs.Calls.{rightCount, optionalBy}
 use Rattle.reading.specs.Meets.{wordsIn, toksAt, tokenAt, Holds, Follows, stringAt, Quoted, Reads, MeetsLeaf, Before}

@@ -8,17 +8,17 @@ use borrow.Author.Tests.{ne-eqb}
 use lib.ListN.{length}
 use Rattle.tokens.specs.Tokens.{Token, code}
 use Rattle.tokens.specs.declared.cursor.Cursor.{Cursor}
-use Rattle.reading.specs.Trees.{Tree, none as unused, size, row}
-use Rattle.reading.specs.Readers.{Out, refused, Reader, _>>=_, again, follow, loop, is, give, read}
-use Rattle.reading.specs.Grammar.{Words, binary, groupTurn, grouped, power, product, comparison, primary}
+use Rattle.grammar.specs.Trees.{Tree, none as unused, size, row}
+use Rattle.grammar.specs.Readers.{Out, refused, Reader, _>>=_, again, follow, loop, is, give, read}
+use Rattle.grammar.specs.Grammar.{Words, binary, groupTurn, grouped, power, product, comparison, primary}
 use Rattle.reading.specs.Rows.{rows, putRow, putRows}
 use Rattle.reading.specs.Meets.{toksAt, tokenAt, Holds, Room, Ready, Follows, stringAt, Quoted, Reads}
 use Rattle.reading.specs.Joins.{Joins}
 use Rattle.reading.specs.declared.records.Joined.{Joined}
-use Rattle.reading.specs.Turns.{jointSign, sumSign, productSign, powerSign}
-use Rattle.reading.proofs.Laws.{loop-eq}
-use Rattle.reading.proofs.GrammarLaws.{Moves, groupTurn-law, grouped-law, comparison-law, primary-law}
-use Rattle.reading.proofs.SizeLaws.{Sized, moves-less, primary-size, power-size, product-size, comparison-size}
+use Rattle.grammar.specs.Signs.{jointSign, sumSign, productSign, powerSign}
+use Rattle.grammar.proofs.Laws.{loop-eq}
+use Rattle.grammar.proofs.GrammarLaws.{Moves, groupTurn-law, grouped-law, comparison-law, primary-law}
+use Rattle.grammar.proofs.SizeLaws.{Sized, moves-less, primary-size, power-size, product-size, comparison-size}
 use Rattle.reading.proofs.HoldLaws.{ask-yes, ask-no, read-then}
 use Rattle.reading.proofs.RowLaws.{size-some, size-two, after-two}
 

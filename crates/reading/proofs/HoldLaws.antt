@@ -21,15 +21,15 @@ use Rattle.tokens.proofs.Shapes.{Sound, sound}
 use Rattle.tokens.proofs.MarkLaws.{start-at, start-within, skip-at}
 use Rattle.tokens.proofs.ScanLaws.{Stands, over as past, token, faulty as bad, stands, scan-end, scan-fault, scan-token, token-within, newline-is}
 use Rattle.tokens.proofs.CursorLaws.{settle-here, settle-line}
-use Rattle.reading.specs.Readers.{Out, ok, refused, Reader, bind, _>>=_, _>>_, first, is, skip, fail, ask, peek, read, the}
-use Rattle.reading.specs.Grammar.{nextKind}
-use Rattle.reading.specs.Script.{back}
+use Rattle.grammar.specs.Readers.{Out, ok, refused, Reader, bind, _>>=_, _>>_, first, is, skip, fail, ask, peek, read, the}
+use Rattle.grammar.specs.Grammar.{nextKind}
+use Rattle.grammar.specs.Script.{back}
 use Rattle.reading.specs.Meets.{listed, toksAt, tokenAt, Holds, Follows, theBy, Takes}
 use Rattle.reading.specs.declared.answers.Took.{Took}
 use Rattle.reading.specs.declared.answers.Took.the-variants as took
 use Rattle.reading.specs.Scripts.{rebase}
-use Rattle.reading.proofs.Laws.{Quiet, skip-clear}
-use Rattle.reading.proofs.ScriptLaws.{quiet-nil, quiet-end, end-append, count-append, forth-back}
+use Rattle.grammar.proofs.Laws.{Quiet, skip-clear}
+use Rattle.grammar.proofs.ScriptLaws.{quiet-nil, quiet-end, end-append, count-append, forth-back}
 
 -- ---- counts
 

@@ -13,10 +13,10 @@ use Rattle.tokens.specs.Names.{member}
 use Rattle.tokens.specs.Dates.{date}
 use Rattle.tokens.specs.Tokens.{Token, code, entry}
 use Rattle.tokens.specs.declared.cursor.Cursor.{Cursor}
-use Rattle.reading.specs.Trees.{Tree, Trees, node, nil, _▹_, fields, none as unused, snoc, parts, row}
-use Rattle.reading.specs.Readers.{Out, ok, refused, Reader, bind, _>>=_, _>>_, Turn, again, follow, loop, is, give, fail, failAt, read, the}
-use Rattle.reading.specs.Grammar as G
-use Rattle.reading.specs.Grammar.{Words, expression, items, closed, arguments, deeper, primary, calls, callOf, cvg, call, payday, payments, payment, pays, listed, postfixes, currencyOf, aCurrency}
+use Rattle.grammar.specs.Trees.{Tree, Trees, node, nil, _▹_, fields, none as unused, snoc, parts, row}
+use Rattle.grammar.specs.Readers.{Out, ok, refused, Reader, bind, _>>=_, _>>_, Turn, again, follow, loop, is, give, fail, failAt, read, the}
+use Rattle.grammar.specs.Grammar as G
+use Rattle.grammar.specs.Grammar.{Words, expression, items, closed, arguments, deeper, primary, calls, callOf, cvg, call, payday, payments, payment, pays, listed, postfixes, currencyOf, aCurrency}
 use Rattle.reading.specs.Calls.{callKind, rightCount}
 use Rattle.reading.specs.Rows.{putRow}
 use Rattle.reading.specs.Meets.{wordsIn, toksAt, tokenAt, Holds, Room, Ready, Follows, stringAt, Quoted, Reads, Meets, Before}
@@ -28,11 +28,11 @@ use Rattle.reading.specs.declared.answers.Took.the-variants as took
 use Rattle.reading.specs.declared.answers.Texts.{Texts}
 use Rattle.reading.specs.declared.answers.Items.{Items}
 use Rattle.reading.specs.declared.answers.Items.the-variants as part
-use Rattle.reading.proofs.Laws.{loop-eq, left-shorter}
-use Rattle.reading.proofs.GrammarLaws.{Moves, Stays, Steps, laws, expression-law, payTurn-law, primary-law}
-use Rattle.reading.proofs.SizeLaws.{Sized, SizedAll, expression-size, items-size, arguments-size, moves-less, primary-size}
+use Rattle.grammar.proofs.Laws.{loop-eq, left-shorter}
+use Rattle.grammar.proofs.GrammarLaws.{Moves, Stays, Steps, laws, expression-law, payTurn-law, primary-law}
+use Rattle.grammar.proofs.SizeLaws.{Sized, SizedAll, expression-size, items-size, arguments-size, moves-less, primary-size}
 use Rattle.reading.proofs.HoldLaws.{toks-are, ask-yes, ask-no, peek-is, fail-is, read-next, the-next, reads-some}
-use Rattle.reading.proofs.TreeLaws.{parts-snoc}
+use Rattle.grammar.proofs.TreeLaws.{parts-snoc}
 use Rattle.reading.proofs.RowLaws.{size-node, size-some, parts-few, before-none, before-more, before-node}
 use Rattle.reading.proofs.ChainLaws.{reads-within}
 use Rattle.reading.proofs.StepLaws.{meets-as, deeper-none, deeper-some, inner-sized, AllRows, row-says}

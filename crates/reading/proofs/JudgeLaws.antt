@@ -20,15 +20,15 @@ use Rattle.tokens.specs.declared.scanning.Scanned.{Scanned}
 use Rattle.tokens.specs.declared.scanning.Scanned.the-variants as scanned
 use Rattle.tokens.proofs.Shapes.{leading-le}
 use Rattle.tokens.proofs.NameLaws.{good-few}
-use Rattle.reading.specs.Script.{Outcome, refused, ofTokens, readScript, statements, from, words, tokensOf}
+use Rattle.grammar.specs.Script.{Outcome, refused, ofTokens, readScript, statements, from, words, tokensOf}
 use Rattle.reading.specs.Meets.{listed, toksAt, Few}
 use Rattle.reading.specs.Scripts.{Clean, ReadsAll, MeetsAll}
 use Rattle.reading.specs.declared.answers.All.{All}
 use Rattle.reading.specs.declared.answers.All.the-variants as all
 use Rattle.reading.specs.Judging.{judgedOf, lastEnd, judgement, textJudgement}
 use Rattle.reading.specs.declared.judging.Judged.the-variants as judged
-use Rattle.reading.proofs.ScriptLaws.{count-append}
-use Rattle.reading.proofs.AmendBytes.{Text, text-tokens}
+use Rattle.grammar.proofs.ScriptLaws.{count-append}
+use Rattle.grammar.proofs.AmendBytes.{Text, text-tokens}
 
 -- ---- the end of a script
 

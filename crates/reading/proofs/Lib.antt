@@ -1,25 +1,8 @@
 -- Laws of the definitions, for the layer above and for the proofs of this one.
-pub mod Laws
-pub mod GrammarLaws
-pub mod StatementLaws
-pub mod EndingLaws
-pub mod ScriptLaws
-pub mod ClosingLaws
-pub mod SealLaws
-pub mod Seams
-pub mod AmendLaws
-pub mod ReachLaws
-pub mod AmendBytes
-pub mod Endings
-pub mod TreeLaws
-pub mod SizeLaws
-pub mod WordLaws
-pub mod Examples
 pub mod HoldLaws
 pub mod RowLaws
 pub mod ChainLaws
 pub mod StepLaws
-pub mod SignLaws
 pub mod CallLaws
 pub mod AtomLaws
 pub mod CallingLaws

@@ -5,7 +5,7 @@ use mathlib.Core.List.{List, [], _∷_, map}
 use Prim.Native.Nat.{ℕ}
 use Prim.Native.String.{String}
 use Rattle.tokens.specs.Text.{bytes}
-use Rattle.reading.specs.Trees.{fields, none, row}
+use Rattle.grammar.specs.Trees.{fields, none, row}
 use Rattle.reading.specs.Parts.{Part, ofScript, ofList, span, empty, partNamed}
 use Rattle.reading.specs.Computing.{computing}
 

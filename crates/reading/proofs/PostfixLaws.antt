@@ -12,13 +12,14 @@ use Rattle.tokens.specs.Text.{if_then_else_, bytes, same}
 use Rattle.tokens.specs.Names.{member}
 use Rattle.tokens.specs.Tokens.{Token, code, final}
 use Rattle.tokens.specs.declared.cursor.Cursor.{Cursor}
-use Rattle.reading.specs.Trees.{Tree, Trees, node, nil, _▹_, fields, none as unused, parts, row}
-use Rattle.reading.specs.Readers.{Out, ok, refused, Reader, bind, _>>=_, _>>_, Turn, again, done, follow, loop, is, give, fail, failAt, read, the}
-use Rattle.reading.specs.Grammar.{Words, binary, deeper, expression, arguments, method, methodOf, indexOf, postfixTurn, postfixes, calls, callOf, call, named, variable, name, spot, df, rateIndex, currencyOf, aCurrency, equity, pair, primary}
+use Rattle.grammar.specs.Trees.{Tree, Trees, node, nil, _▹_, fields, none as unused, parts, row}
+use Rattle.grammar.specs.Readers.{Out, ok, refused, Reader, bind, _>>=_, _>>_, Turn, again, done, follow, loop, is, give, fail, failAt, read, the}
+use Rattle.grammar.specs.Grammar.{Words, binary, deeper, expression, arguments, method, methodOf, indexOf, postfixTurn, postfixes, calls, callOf, call, named, variable, name, spot, df, rateIndex, currencyOf, aCurrency, equity, pair, primary}
 use Rattle.reading.specs.Rows.{putRow}
 use Rattle.reading.specs.Calls.{callKind, methodKind}
 use Rattle.reading.specs.Meets.{wordsIn, toksAt, tokenAt, Holds, Room, Ready, Follows, theBy, Takes, stringAt, Quoted, Reads, Meets, Before}
-use Rattle.reading.specs.Turns.{inner, postfixSign, ReadsItems, MeetsItems, refusalOf, specialOf, Unquoted, Tops, ReadsTurn, MeetsTurn, Onward, MeetsTurns}
+use Rattle.grammar.specs.Signs.{postfixSign}
+use Rattle.reading.specs.Turns.{inner, ReadsItems, MeetsItems, refusalOf, specialOf, Unquoted, Tops, ReadsTurn, MeetsTurn, Onward, MeetsTurns}
 use Rattle.reading.specs.declared.answers.Read.{Read}
 use Rattle.reading.specs.declared.answers.Read.the-variants.{Done, Refused}
 use Rattle.reading.specs.declared.answers.Took.{Took}
@@ -26,9 +27,9 @@ use Rattle.reading.specs.declared.answers.Took.the-variants as took
 use Rattle.reading.specs.declared.answers.Texts.{Texts}
 use Rattle.reading.specs.declared.answers.Items.{Items}
 use Rattle.reading.specs.declared.answers.Items.the-variants as part
-use Rattle.reading.proofs.Laws.{loop-eq}
-use Rattle.reading.proofs.GrammarLaws.{Each, nothing, just, Moves, expression-law, postfixTurn-law, primary-law}
-use Rattle.reading.proofs.SizeLaws.{Sized, EachSized, moves-less, expression-size, arguments-spare, named-size}
+use Rattle.grammar.proofs.Laws.{loop-eq}
+use Rattle.grammar.proofs.GrammarLaws.{Each, nothing, just, Moves, expression-law, postfixTurn-law, primary-law}
+use Rattle.grammar.proofs.SizeLaws.{Sized, EachSized, moves-less, expression-size, arguments-spare, named-size}
 use Rattle.reading.proofs.HoldLaws.{toks-are, peek-is, read-next, the-then, the-next, the-then-not, the-next-not, reads-some}
 use Rattle.reading.proofs.RowLaws.{size-some, size-node, size-two, sizes-front, parts-few, put-front, put-rows-same, after-two, before-node}
 use Rattle.reading.proofs.ChainLaws.{reads-within}

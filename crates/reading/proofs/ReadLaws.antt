@@ -9,9 +9,9 @@ use lib.ListN.{length, length-map, take}
 use borrow.Author.Tests.{lt-ltb, le-ltb, ltb-true, ltb-false}
 use Rattle.tokens.specs.Text.{if_then_else_, script}
 use Rattle.tokens.specs.Names.{Lists}
-use Rattle.reading.specs.Sizes.{recordWidth, entryWidth, mostRecords, mostStatements, recordRoom, statementRoom}
-use Rattle.reading.specs.Script.{Entry, Outcome, accepted, refused, fitting, readScript, reading, statements, words, nodes, tokensOf}
-use Rattle.reading.specs.Words.{wordsOf, rowOf, rowWords, directoryOf}
+use Rattle.grammar.specs.Sizes.{recordWidth, entryWidth, mostRecords, mostStatements, recordRoom, statementRoom}
+use Rattle.grammar.specs.Script.{Entry, Outcome, accepted, refused, fitting, readScript, reading, statements, words, nodes, tokensOf}
+use Rattle.grammar.specs.Words.{wordsOf, rowOf, rowWords, directoryOf}
 use Rattle.reading.specs.Rows.{rows, putRows, putEntries}
 use Rattle.reading.specs.Meets.{toksAt, Few}
 use Rattle.reading.specs.Scripts.{Clean, rowsIn, entriesIn, MeetsAll}
@@ -22,8 +22,8 @@ use Rattle.reading.specs.declared.judging.Judged.the-variants as judged
 use Rattle.reading.specs.declared.reading.Answer.{Answer}
 use Rattle.reading.specs.Judging.{judgedOf, lastEnd, judgement}
 use Rattle.reading.specs.Reading.{acceptedWith, refusedAt, answerOf, over, leftBy, readInto, Leaves}
-use Rattle.reading.proofs.AmendBytes.{Accepted, read-accepted, script-noZero, read-script}
-use Rattle.reading.proofs.WordLaws.{words-length, directory-length}
+use Rattle.grammar.proofs.AmendBytes.{Accepted, read-accepted, script-noZero, read-script}
+use Rattle.grammar.proofs.WordLaws.{words-length, directory-length}
 use Rattle.reading.proofs.RowLaws.{flat, flat-append, rows-flat, rows-wide, Wide, none, more, wide-append, put-first}
 use Rattle.reading.proofs.WholeLaws.{rowsIn-size}
 use Rattle.reading.proofs.JudgeLaws.{script-in, script-take, toks-all, lists-few}

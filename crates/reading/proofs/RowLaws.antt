@@ -11,11 +11,11 @@ use lib.ListN.{length, length-append, length-set, set, take, drop, take-append-d
 use lib.Seq.{sets, sets-eq, length-take-le, take-at, drop-append-add, drop-drop}
 use borrow.Author.Tests.{lt-ltb, le-ltb}
 use Rattle.tokens.specs.Text.{if_then_else_}
-use Rattle.reading.specs.Sizes.{recordWidth}
-use Rattle.reading.specs.Trees.{Tree, Trees, node, nil, _▹_, Fields, fields, snoc, join, parts, size, sizes, row, records, recordsOf}
+use Rattle.grammar.specs.Sizes.{recordWidth}
+use Rattle.grammar.specs.Trees.{Tree, Trees, node, nil, _▹_, Fields, fields, snoc, join, parts, size, sizes, row, records, recordsOf}
 use Rattle.reading.specs.Rows.{rows, rowsOf, putWords, putAt, putAll, putRow, putRows}
 use Rattle.reading.specs.Meets.{Before}
-use Rattle.reading.proofs.TreeLaws.{size-snoc}
+use Rattle.grammar.proofs.TreeLaws.{size-snoc}
 
 -- ---- how many
 

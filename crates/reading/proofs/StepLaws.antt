@@ -13,20 +13,21 @@ use lib.ListN.{length}
 use Rattle.tokens.specs.Text.{bytes, same, within}
 use Rattle.tokens.specs.Tokens.{Token, code}
 use Rattle.tokens.specs.declared.cursor.Cursor.{Cursor}
-use Rattle.reading.specs.Trees.{Tree, node, nil, _▹_, fields, none as unused, row}
-use Rattle.reading.specs.Readers.{Out, refused, Reader, _>>=_, _>>_, is, give, failAt, ask, read, the}
-use Rattle.reading.specs.Grammar.{callOf, Words, binary, deeper, sum, comparison, expression, minus, negative, parenthesis, pays, name, primaryOver, primary}
+use Rattle.grammar.specs.Trees.{Tree, node, nil, _▹_, fields, none as unused, row}
+use Rattle.grammar.specs.Readers.{Out, refused, Reader, _>>=_, _>>_, is, give, failAt, ask, read, the}
+use Rattle.grammar.specs.Grammar.{callOf, Words, binary, deeper, sum, comparison, expression, minus, negative, parenthesis, pays, name, primaryOver, primary}
 use Rattle.reading.specs.Rows.{putRow, nodeRow}
 use Rattle.reading.specs.Joins.{Joins}
 use Rattle.reading.specs.declared.records.Node.{Node}
 use Rattle.reading.specs.declared.records.Joined.{Joined}
 use Rattle.reading.specs.Atoms.{literal, atom}
 use Rattle.reading.specs.Meets.{toksAt, tokenAt, Holds, Room, Ready, Follows, Takes, Reads, Meets}
-use Rattle.reading.specs.Turns.{inner, parenthesised, listPostfixed, comparator}
+use Rattle.grammar.specs.Signs.{comparator}
+use Rattle.reading.specs.Turns.{inner, parenthesised, listPostfixed}
 use Rattle.reading.specs.declared.answers.Read.{Read}
 use Rattle.reading.specs.declared.answers.Read.the-variants.{Done, Refused}
 use Rattle.reading.specs.declared.answers.Took.the-variants as took
-use Rattle.reading.proofs.SizeLaws.{Sized, EachSized, nothing, just, primary-size}
+use Rattle.grammar.proofs.SizeLaws.{Sized, EachSized, nothing, just, primary-size}
 use Rattle.reading.proofs.HoldLaws.{ask-yes, ask-no, peek-is, read-then, read-next, the-next}
 use Rattle.reading.proofs.RowLaws.{size-some, size-one, size-two, after-one, after-two}
 use Rattle.reading.proofs.ChainLaws.{reads-within, binary-plain, by-sign}

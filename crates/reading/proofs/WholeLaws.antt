@@ -14,12 +14,12 @@ use Rattle.tokens.specs.Text.{count}
 use Rattle.tokens.specs.Tokens.{Token, Lexed, final, code, counts, endOf}
 use Rattle.tokens.specs.Lexing.{cursorAt}
 use Rattle.tokens.specs.declared.cursor.Cursor.{Cursor}
-use Rattle.reading.specs.Sizes.{recordWidth, entryWidth}
-use Rattle.reading.specs.Trees.{Tree, size}
-use Rattle.reading.specs.Readers.{Out, refused as wrong, first, is, skip}
-use Rattle.reading.specs.Grammar.{Words, statement}
-use Rattle.reading.specs.Script.{Entry, Outcome, accepted, refused, front, back, entryOf, onward, turn, from, statements, nodes}
-use Rattle.reading.specs.Words.{rowOf, rowWords}
+use Rattle.grammar.specs.Sizes.{recordWidth, entryWidth}
+use Rattle.grammar.specs.Trees.{Tree, size}
+use Rattle.grammar.specs.Readers.{Out, refused as wrong, first, is, skip}
+use Rattle.grammar.specs.Grammar.{Words, statement}
+use Rattle.grammar.specs.Script.{Entry, Outcome, accepted, refused, front, back, entryOf, onward, turn, from, statements, nodes}
+use Rattle.grammar.specs.Words.{rowOf, rowWords}
 use Rattle.reading.specs.Rows.{rows, putAll, putRows, putEntry, putEntries}
 use Rattle.reading.specs.Meets.{listed, toksAt, Holds, Room, Ready, Reads, Meets}
 use Rattle.reading.specs.Scripts.{Clean, rebase, refusedAt, rowsIn, entriesIn, ReadsAll, MeetsAll}
@@ -27,9 +27,9 @@ use Rattle.reading.specs.declared.answers.Read.{Read}
 use Rattle.reading.specs.declared.answers.Read.the-variants as answer
 use Rattle.reading.specs.declared.answers.All.{All}
 use Rattle.reading.specs.declared.answers.All.the-variants as all
-use Rattle.reading.proofs.Laws.{skip-clear}
-use Rattle.reading.proofs.ScriptLaws.{prepend, prepend-accepted, from-eq}
-use Rattle.reading.proofs.SizeLaws.{statement-size, statement-less}
+use Rattle.grammar.proofs.Laws.{skip-clear}
+use Rattle.grammar.proofs.ScriptLaws.{prepend, prepend-accepted, from-eq}
+use Rattle.grammar.proofs.SizeLaws.{statement-size, statement-less}
 use Rattle.reading.proofs.HoldLaws.{toks-few, toks-are, first-kind, first-from, at-end, start-holds, rebased-holds, rebased-toks}
 use Rattle.reading.proofs.RowLaws.{size-some, rows-size, putAll-one, putAll-append, put-rows-same}
 

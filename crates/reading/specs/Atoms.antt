@@ -3,9 +3,9 @@ use mathlib.Core.Bool.{Bool}
 use lib.Ieee.{neg}
 use Rattle.tokens.specs.Text.{if_then_else_}
 use Rattle.tokens.specs.Numbers.{value, signed}
-use Rattle.reading.specs.Trees.{Tree, none as unused}
-use Rattle.reading.specs.Readers.{Reader, _>>=_, _>>_, is, give, fail, peek, the}
-use Rattle.reading.specs.Grammar.{leaf, string, constant}
+use Rattle.grammar.specs.Trees.{Tree, none as unused}
+use Rattle.grammar.specs.Readers.{Reader, _>>=_, _>>_, is, give, fail, peek, the}
+use Rattle.grammar.specs.Grammar.{leaf, string, constant}
 
 -- a number, negated where a minus stood before it
 abbrev pub literal : Bool → Reader Tree

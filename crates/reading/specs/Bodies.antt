@@ -5,9 +5,9 @@ use mathlib.Core.Option.{Option, none, some}
 use Prim.Native.Nat.{ℕ, zero, suc, _+_}
 use Rattle.tokens.specs.Tokens.{Token}
 use Rattle.tokens.specs.declared.cursor.Cursor.{Cursor}
-use Rattle.reading.specs.Trees.{Tree, Trees, size, sizes, parts}
-use Rattle.reading.specs.Readers.{Out, ok, refused, Reader, _>>=_, _>>_, give, the}
-use Rattle.reading.specs.Grammar.{Words, Inner, deeper, ifOver, named, forOver, primary, statement}
+use Rattle.grammar.specs.Trees.{Tree, Trees, size, sizes, parts}
+use Rattle.grammar.specs.Readers.{Out, ok, refused, Reader, _>>=_, _>>_, give, the}
+use Rattle.grammar.specs.Grammar.{Words, Inner, deeper, ifOver, named, forOver, primary, statement}
 use Rattle.reading.specs.Rows.{rows, rowsOf, putRows}
 use Rattle.reading.specs.Meets.{toksAt, tokenAt, Holds}
 use Rattle.reading.specs.declared.answers.Read.{Read}

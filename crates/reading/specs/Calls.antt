@@ -8,9 +8,9 @@ use Rattle.tokens.specs.Text.{if_then_else_, bytes, same, within}
 use Rattle.tokens.specs.Dates.{date}
 use Rattle.tokens.specs.Tokens.{Token}
 use Rattle.tokens.specs.Keys.{pack, lookup, keyed}
-use Rattle.reading.specs.Trees.{Tree}
-use Rattle.reading.specs.Readers.{Reader, _>>=_, _>>_, ask, give, the}
-use Rattle.reading.specs.Grammar.{calls, callOf, content}
+use Rattle.grammar.specs.Trees.{Tree}
+use Rattle.grammar.specs.Readers.{Reader, _>>=_, _>>_, ask, give, the}
+use Rattle.grammar.specs.Grammar.{calls, callOf, content}
 use Rattle.reading.specs.Meets.{theBy}
 
 -- the kind of record that a call of this name makes, 0 where the name is no call's

@@ -1,11 +1,7 @@
--- Everything of the definition unfolds where `unfolding computing` stands.
-use Rattle.tokens.specs.Computing.{computing as lexing}
-use Rattle.reading.specs.Trees.{size, records}
-use Rattle.reading.specs.Readers.{_>>=_, _>>_, turns, loop, skip, lastOf, give, fail, failAt, ask, peek, read, the}
-use Rattle.reading.specs.Grammar.{constant, deeper, optional, groupTurn, grouped, sum, comparison, expression, itemTurn, items, arguments, method, postfixTurn, postfixes, dateOf, aDate, df, rateIndex, callOf, blockTurn, block, ifOver, ended, currencyOf, aCurrency, equity, pair, spot, cvg, call, named, name, payTurn, payments, pays, minus, primaryOver, primary, forOver, paid, target, assign, compound, assignPaid, nameFirst, plain, statementOver, statement}
-use Rattle.reading.specs.Script.{entryOf, onward, turn, upTo, from, statements, ofTokens, readScript, reading}
+-- Everything of the definition unfolds where `unfolding computing` stands, the lookup too.
+use Rattle.grammar.specs.Computing.{computing as grammar}
 use Rattle.reading.specs.Parts.{firstName, nameIn, textAt, lines, nameAt, currencyAt, partAt}
 
 unfoldable pub computing : Unit {0}
-unfolding lexing size records _>>=_ _>>_ turns loop skip lastOf give fail failAt ask peek read the constant deeper optional groupTurn grouped sum comparison expression itemTurn items arguments method postfixTurn postfixes dateOf aDate df rateIndex callOf blockTurn block ifOver ended currencyOf aCurrency equity pair spot cvg call named name payTurn payments pays minus primaryOver primary forOver paid target assign compound assignPaid nameFirst plain statementOver statement entryOf onward turn upTo from statements ofTokens readScript reading firstName nameIn textAt lines nameAt currencyAt partAt
+unfolding grammar firstName nameIn textAt lines nameAt currencyAt partAt
 computing = tt

@@ -2,7 +2,7 @@
 use mathlib.Core.Path.{_≡_}
 use mathlib.Core.List.{List}
 use Prim.Native.Nat.{ℕ, _+_, _-_}
-use Rattle.reading.specs.Trees.{none as unused, row}
+use Rattle.grammar.specs.Trees.{none as unused, row}
 use Rattle.reading.specs.Rows.{putRow}
 use Rattle.reading.specs.declared.records.Joined.{Joined}
 

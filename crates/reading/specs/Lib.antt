@@ -1,10 +1,4 @@
--- What the paper's words mean: trees and records, the grammar, the reading of a script; and what the code's readers answer.
-pub mod Sizes
-pub mod Trees
-pub mod Readers
-pub mod Grammar
-pub mod Script
-pub mod Words
+-- What the code's readers answer, in terms of the definition; what judging and reading answer and leave; the lookup.
 pub mod Atoms
 pub mod Rows
 pub mod Joins

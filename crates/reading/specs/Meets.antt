@@ -11,9 +11,9 @@ use Rattle.tokens.specs.Names.{names}
 use Rattle.tokens.specs.Tokens.{Token, Lexed, lexed, refused as faulty, scan, final, counts, endOf}
 use Rattle.tokens.specs.Lexing.{markAt}
 use Rattle.tokens.specs.declared.cursor.Cursor.{Cursor}
-use Rattle.reading.specs.Trees.{Tree, Trees, node, nil, fields, size, sizes}
-use Rattle.reading.specs.Readers.{Out, ok, refused, Reader, _>>=_, _>>_, fail, peek, read}
-use Rattle.reading.specs.Grammar.{Words, nextKind}
+use Rattle.grammar.specs.Trees.{Tree, Trees, node, nil, fields, size, sizes}
+use Rattle.grammar.specs.Readers.{Out, ok, refused, Reader, _>>=_, _>>_, fail, peek, read}
+use Rattle.grammar.specs.Grammar.{Words, nextKind}
 use Rattle.reading.specs.Rows.{rows, rowsOf, putRows}
 use Rattle.reading.specs.declared.answers.Read.{Read}
 use Rattle.reading.specs.declared.answers.Read.the-variants.{Done, Refused}

@@ -8,7 +8,7 @@ use lib.ListN.{length, getD, take, drop}
 use denote.Ref.{RefT, ptr, now}
 use Rattle.tokens.specs.Text.{if_then_else_}
 use Rattle.tokens.specs.Names.{names, goodList}
-use Rattle.reading.specs.Sizes.{recordWidth}
+use Rattle.grammar.specs.Sizes.{recordWidth}
 use Rattle.reading.specs.declared.parts.Place.{Place}
 use Rattle.reading.specs.declared.parts.Name.{Name}
 use Rattle.reading.specs.declared.parts.Name.the-variants.{Text, Currency, Nothing}

@@ -6,9 +6,9 @@ use lib.ListN.{length, drop}
 use Rattle.tokens.specs.Text.{script}
 use Rattle.tokens.specs.Names.{Lists}
 use Rattle.tokens.specs.Places.{line, column}
-use Rattle.reading.specs.Sizes.{recordRoom, statementRoom}
-use Rattle.reading.specs.Script.{Entry, Outcome, accepted, refused, reading}
-use Rattle.reading.specs.Words.{wordsOf, directoryOf}
+use Rattle.grammar.specs.Sizes.{recordRoom, statementRoom}
+use Rattle.grammar.specs.Script.{Entry, Outcome, accepted, refused, reading}
+use Rattle.grammar.specs.Words.{wordsOf, directoryOf}
 use Rattle.reading.specs.Judging.{judgedOf, lastEnd}
 use Rattle.reading.specs.declared.judging.Counts.{Counts}
 use Rattle.reading.specs.declared.judging.Judged.{Judged}

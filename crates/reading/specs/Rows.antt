@@ -4,8 +4,8 @@ use Prim.Native.Nat.{ℕ, suc, _+_, _*_, _/_}
 use lib.Dec.{ltb}
 use lib.ListN.{length, set}
 use Rattle.tokens.specs.Text.{if_then_else_}
-use Rattle.reading.specs.Sizes.{recordWidth, entryWidth}
-use Rattle.reading.specs.Trees.{Tree, Trees, node, nil, _▹_, fields, parts, sizes, row}
+use Rattle.grammar.specs.Sizes.{recordWidth, entryWidth}
+use Rattle.grammar.specs.Trees.{Tree, Trees, node, nil, _▹_, fields, parts, sizes, row}
 use Rattle.reading.specs.declared.records.Node.{Node}
 use Rattle.reading.specs.declared.records.Entry.{Entry}
 

@@ -7,8 +7,8 @@ use lib.ListN.{length}
 use Rattle.tokens.specs.Limits.{mostBytes}
 use Rattle.tokens.specs.Tokens.{Token, lexed, scan}
 use Rattle.tokens.specs.declared.cursor.Cursor.{Cursor}
-use Rattle.reading.specs.Script.{Entry, Outcome, accepted, refused, nodes}
-use Rattle.reading.specs.Words.{rowOf, rowWords}
+use Rattle.grammar.specs.Script.{Entry, Outcome, accepted, refused, nodes}
+use Rattle.grammar.specs.Words.{rowOf, rowWords}
 use Rattle.reading.specs.Rows.{rows, putRows, putEntries}
 use Rattle.reading.specs.declared.answers.Read.{Read}
 use Rattle.reading.specs.declared.answers.Read.the-variants as answer

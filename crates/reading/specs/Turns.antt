@@ -7,14 +7,14 @@ use mathlib.Core.Option.{Option, none, some}
 use Prim.Native.Nat.{ℕ, zero, suc, _+_, _≤_, _<_}
 use lib.Dec.{eqb}
 use lib.ListN.{length, take, drop}
-use Rattle.tokens.specs.Text.{if_then_else_, within, leading, other}
+use Rattle.tokens.specs.Text.{if_then_else_, leading, other}
 use Rattle.tokens.specs.Names.{member}
 use Rattle.tokens.specs.Dates.{date}
 use Rattle.tokens.specs.Tokens.{Token}
 use Rattle.tokens.specs.declared.cursor.Cursor.{Cursor}
-use Rattle.reading.specs.Trees.{Tree, Trees, node, nil, _▹_, snoc, size, sizes, parts}
-use Rattle.reading.specs.Readers.{Out, ok, refused, Reader, _>>=_, _>>_, Turn, again, done, loop, is, give, fail, ask, peek, read, the}
-use Rattle.reading.specs.Grammar.{Words, expression, primary, strings, text, spot, df, rateIndex, deeper, parenthesis, listed, postfixes}
+use Rattle.grammar.specs.Trees.{Tree, Trees, node, nil, _▹_, snoc, size, sizes, parts}
+use Rattle.grammar.specs.Readers.{Out, ok, refused, Reader, _>>=_, _>>_, Turn, again, done, loop, is, give, fail, ask, peek, read, the}
+use Rattle.grammar.specs.Grammar.{Words, expression, primary, strings, text, spot, df, rateIndex, deeper, parenthesis, listed, postfixes}
 use Rattle.reading.specs.Rows.{rows, rowsOf, putRows}
 use Rattle.reading.specs.Calls.{rightCount}
 use Rattle.reading.specs.Meets.{toksAt, Holds, Ready, stringAt, Quoted}
@@ -39,28 +39,7 @@ parenthesised W d u = deeper u (inner W d) (λ p. read >> parenthesis W p)
 abbrev pub listPostfixed : Words → ℕ → Token → Reader Tree
 listPostfixed W d u = deeper u (inner W d) (λ p. read >> listed W p) >>= postfixes (inner W d)
 
--- ---- signs by their numbers
-
--- `and`, `or`
-abbrev pub jointSign : ℕ → Bool
-jointSign k = eqb 19 k || eqb 20 k
-
--- `==` `!=` `>` `<` `>=` `<=`
-abbrev pub comparator : ℕ → Bool
-comparator k = within 13 18 k
-
-abbrev pub sumSign : ℕ → Bool
-sumSign k = eqb 8 k || eqb 9 k
-
-abbrev pub productSign : ℕ → Bool
-productSign k = eqb 10 k || eqb 11 k
-
-abbrev pub powerSign : ℕ → Bool
-powerSign k = eqb 12 k
-
--- `.`, `[`
-abbrev pub postfixSign : ℕ → Bool
-postfixSign k = eqb 47 k || eqb 44 k
+-- ---- what ends a pays
 
 -- `;`, `)`, `on`, `in`, the end
 abbrev pub paysStop : ℕ → Bool

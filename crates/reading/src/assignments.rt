@@ -20,7 +20,7 @@ use tokens::cursor::Cursor;
 ghost use mathlib.Core.Path.{_≡_};
 ghost use mathlib.Core.List.{[]};
 ghost use Prim.Native.Nat.{_-_, _≤_};
-ghost use Rattle.reading.specs.Grammar.{primary, ended, named, paid, assign, compound, assignPaid, nameFirst, nextKind};
+ghost use Rattle.grammar.specs.Grammar.{primary, ended, named, paid, assign, compound, assignPaid, nameFirst, nextKind};
 ghost use Rattle.reading.specs.Meets.{wordsIn, toksAt, tokenAt, Ready, Few, Follows, Meets};
 ghost use Rattle.reading.specs.Turns.{inner};
 ghost use Rattle.reading.specs.Bodies.{MeetsTwice};

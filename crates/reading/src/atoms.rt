@@ -11,7 +11,7 @@ use tokens::names::place_in;
 use tokens::numbers::bits_of;
 ghost use mathlib.Core.Path.{_≡_};
 ghost use mathlib.Core.List.{[]};
-ghost use Rattle.reading.specs.Grammar.{named};
+ghost use Rattle.grammar.specs.Grammar.{named};
 ghost use Rattle.reading.specs.Meets.{wordsIn, toksAt, tokenAt, Holds, Ready, Follows, Takes, Meets};
 ghost use Rattle.reading.specs.Atoms.{atom, literal};
 

@@ -14,9 +14,12 @@ use crate::calls::rate_index_at;
 use crate::calls::spot_at;
 use crate::records::Node;
 use crate::records::put;
+use tokens::codes::CLOSE_PAREN;
 use tokens::codes::COMMA;
+use tokens::codes::EOF;
 use tokens::codes::IN;
 use tokens::codes::ON;
+use tokens::codes::SEMICOLON;
 use tokens::cursor::Cursor;
 use tokens::dates::date_of;
 use tokens::names::place_in;
@@ -27,11 +30,11 @@ ghost use Prim.Native.Nat.{ℕ, _<_, _≤_};
 ghost use lib.ListN.{length};
 ghost use Rattle.tokens.specs.Names.{names, place};
 ghost use Rattle.tokens.specs.Dates.{date};
-ghost use Rattle.reading.specs.Trees.{Tree, Trees, parts};
-ghost use Rattle.reading.specs.Readers.{Out};
-ghost use Rattle.reading.specs.Grammar.{payday};
-ghost use Rattle.reading.specs.Meets.{wordsIn, toksAt, Holds, Ready, Few, Meets, MeetsLeaf, LeafHolds, Before};
-ghost use Rattle.reading.specs.Turns.{Closing, FollowsItem, Shown, shownBy, Inside, contentAt, refusalOf, itemsRefusal, cvgFault, callFault, specialOf};
+ghost use Rattle.grammar.specs.Trees.{Tree, Trees, parts};
+ghost use Rattle.grammar.specs.Readers.{Out};
+ghost use Rattle.grammar.specs.Grammar.{payday};
+ghost use Rattle.reading.specs.Meets.{wordsIn, toksAt, Holds, Ready, Few, Meets, MeetsLeaf, Before};
+ghost use Rattle.reading.specs.Turns.{Closing, FollowsItem, Shown, shownBy, Inside, contentAt, refusalOf, itemsRefusal, cvgFault, callFault, specialOf, paysStop};
 
 // What follows an expression of a list: a comma, which is taken, or the closing sign, which is not.
 pub fn follow(s: &[u8], c: Cursor, close: u8) -> Took
@@ -213,4 +216,11 @@ pub fn payday_at(
             }
         },
     }
+}
+
+// What ends the parts of a pays.
+pub fn stops_pays(code: u8) -> bool
+    ensures { λ r. ⌜ r ≡ paysStop code ⌝ }
+{
+    code == SEMICOLON || (code == CLOSE_PAREN || (code == ON || (code == IN || code == EOF)))
 }

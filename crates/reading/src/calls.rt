@@ -16,9 +16,9 @@ use tokens::text::equal;
 use tokens::words::key_of;
 ghost use mathlib.Core.Path.{_≡_};
 ghost use mathlib.Core.List.{[]};
-ghost use Rattle.reading.specs.Grammar.{aDate, aCurrency, df, curve, rateIndex, rateOf, spot, spotOf, equity, pair};
-ghost use Rattle.reading.specs.Trees.{Tree};
-ghost use Rattle.reading.specs.Readers.{Out, bind};
+ghost use Rattle.grammar.specs.Grammar.{aDate, aCurrency, df, curve, rateIndex, rateOf, spot, spotOf, equity, pair};
+ghost use Rattle.grammar.specs.Trees.{Tree};
+ghost use Rattle.grammar.specs.Readers.{Out, bind};
 ghost use Rattle.reading.specs.Calls.{callKind, callBy, rightCount, methodKind, optionalBy, ending, dateIn};
 ghost use Rattle.reading.specs.Meets.{wordsIn, toksAt, tokenAt, Holds, Few, Follows, MeetsNumber, MeetsLeaf, LeafHolds, Leads};
 

@@ -12,5 +12,4 @@ pub mod reading;
 mod records;
 pub mod rooms;
 mod scripts;
-mod signs;
 mod statements;

@@ -4,7 +4,7 @@ use crate::records::Node;
 ghost use mathlib.Core.Path.{_≡_};
 ghost use lib.Dec.{ltb};
 ghost use Rattle.tokens.specs.Text.{if_then_else_};
-ghost use Rattle.reading.specs.Sizes.{recordRoom, statementRoom};
+ghost use Rattle.grammar.specs.Sizes.{recordRoom, statementRoom};
 
 // The words of a record, and of a directory entry.
 pub const RECORD_WIDTH: usize = Node::WIDTH;

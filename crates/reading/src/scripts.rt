@@ -8,7 +8,7 @@ use tokens::codes::EOF;
 use tokens::cursor::Cursor;
 ghost use mathlib.Core.Path.{_≡_};
 ghost use Prim.Native.Nat.{_≤_};
-ghost use Rattle.reading.specs.Script.{statements};
+ghost use Rattle.grammar.specs.Script.{statements};
 ghost use Rattle.reading.specs.Meets.{wordsIn, toksAt, Few};
 ghost use Rattle.reading.specs.Scripts.{Clean, rebase, refusedAt, MeetsAll};
 

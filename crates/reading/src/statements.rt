@@ -25,7 +25,7 @@ use tokens::codes::OPEN_CURLY;
 use tokens::codes::PAYS;
 use tokens::cursor::Cursor;
 ghost use mathlib.Core.Path.{_≡_};
-ghost use Rattle.reading.specs.Grammar.{block, statement};
+ghost use Rattle.grammar.specs.Grammar.{block, statement};
 ghost use Rattle.reading.specs.Meets.{wordsIn, toksAt, tokenAt, Ready, Few, Follows, Meets};
 ghost use Rattle.reading.specs.Bodies.{conditionalIn, repetitionIn, MeetsBlock};
 

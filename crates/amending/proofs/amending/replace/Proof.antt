@@ -6,7 +6,7 @@ use Rattle.amending.proofs.amending.replace.Lts as lts
 use native.Mathlib.Omega.{arith}
 use mathlib.Core.Path.{_∙_}
 use Prim.Native.Nat.{_+_, _-_, _*_}
-use Rattle.reading.specs.Sizes.{recordWidth, entryWidth}
+use Rattle.grammar.specs.Sizes.{recordWidth, entryWidth}
 use Rattle.reading.specs.Judging.{listsIn}
 use Rattle.amending.specs.Memory.{memory}
 use Rattle.amending.proofs.ReplaceLaws.{row-is, replaced}

@@ -7,7 +7,7 @@ use native.Mathlib.Omega.{arith}
 use lib.ListN.{length, drop}
 use borrow.Author.Needs.{needs}
 use borrow.Author.Tests.{le-leb, lt-leb, not-true, not-false}
-use Rattle.reading.specs.Words.{Row}
+use Rattle.grammar.specs.Words.{Row}
 use Rattle.amending.specs.Entries.{rowAt, rowsFrom, rowFits}
 use Rattle.amending.proofs.EntryLaws.{rows-turn}
 use Rattle.amending.proofs.OrderLaws.{Fits, fits-are, counted, counted-turn, counted-none}

@@ -1,6 +1,6 @@
 -- The very next token decides; behind a line break none does.
 use native.Mathlib.Omega.{arith}
-use Rattle.reading.specs.Grammar.{primary}
+use Rattle.grammar.specs.Grammar.{primary}
 use Rattle.reading.specs.Meets.{wordsIn}
 use Rattle.reading.specs.Turns.{inner}
 use Rattle.reading.proofs.StepLaws.{meets-as}

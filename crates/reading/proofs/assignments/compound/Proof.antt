@@ -2,9 +2,9 @@
 use mathlib.Core.Path.{_∙_}
 use mathlib.Core.List.{[]}
 use native.Mathlib.Omega.{arith}
-use Rattle.reading.specs.Grammar.{primary}
+use Rattle.grammar.specs.Grammar.{primary}
 use Rattle.reading.specs.Meets.{wordsIn}
-use Rattle.reading.proofs.SizeLaws.{primary-size}
+use Rattle.grammar.proofs.SizeLaws.{primary-size}
 use Rattle.reading.proofs.StepLaws.{done-reads, refused-on, put-fields}
 use Rattle.reading.proofs.CallingLaws.{named-words}
 use Rattle.reading.proofs.AssignLaws.{twice-done, twice-refused-on, compound-unnamed, compound-ready, compound-wrong, compound-numbers, compound-reads}

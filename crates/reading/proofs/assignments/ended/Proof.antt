@@ -1,6 +1,6 @@
 -- An expression, then its `;`.
 use native.Mathlib.Omega.{arith}
-use Rattle.reading.specs.Grammar.{primary}
+use Rattle.grammar.specs.Grammar.{primary}
 use Rattle.reading.specs.Meets.{wordsIn}
 use Rattle.reading.proofs.StepLaws.{done-reads, refused-on}
 use Rattle.reading.proofs.HoldLaws.{takes-as}

@@ -1,7 +1,7 @@
 -- Where the sign stands, a currency is read behind it.
 use mathlib.Core.List.{[]}
 use Rattle.reading.specs.Meets.{wordsIn}
-use Rattle.reading.specs.Grammar.{aCurrency}
+use Rattle.grammar.specs.Grammar.{aCurrency}
 use Rattle.reading.proofs.CallLaws.{optional-no, optional-yes, number-as}
 use borrow.Author.Needs.{needs}
 use Rattle.reading.proofs.calls.optional_currency.Statement.{statement}

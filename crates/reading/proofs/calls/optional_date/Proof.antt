@@ -1,5 +1,5 @@
 -- Where the sign stands, a date is read behind it.
-use Rattle.reading.specs.Grammar.{aDate}
+use Rattle.grammar.specs.Grammar.{aDate}
 use Rattle.reading.proofs.CallLaws.{optional-no, optional-yes, number-as}
 use borrow.Author.Needs.{needs}
 use Rattle.reading.proofs.calls.optional_date.Statement.{statement}

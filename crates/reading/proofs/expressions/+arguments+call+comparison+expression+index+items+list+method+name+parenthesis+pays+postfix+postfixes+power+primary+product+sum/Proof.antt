@@ -69,13 +69,13 @@ use Rattle.reading.proofs.calls.method_of.Reads as method-of-reads
 use Rattle.reading.proofs.records.join.Reads as join-reads
 use Rattle.reading.proofs.records.plain.Reads as plain-reads
 use Rattle.reading.proofs.records.put.Reads as put-reads
-use Rattle.reading.proofs.signs.is_comparator.Reads as is-comparator-reads
-use Rattle.reading.proofs.signs.is_joint.Reads as is-joint-reads
-use Rattle.reading.proofs.signs.is_postfix.Reads as is-postfix-reads
-use Rattle.reading.proofs.signs.is_power.Reads as is-power-reads
-use Rattle.reading.proofs.signs.is_product.Reads as is-product-reads
-use Rattle.reading.proofs.signs.is_sum.Reads as is-sum-reads
-use Rattle.reading.proofs.signs.stops_pays.Reads as stops-pays-reads
+use Rattle.grammar.proofs.signs.is_comparator.Reads as is-comparator-reads
+use Rattle.grammar.proofs.signs.is_joint.Reads as is-joint-reads
+use Rattle.grammar.proofs.signs.is_postfix.Reads as is-postfix-reads
+use Rattle.grammar.proofs.signs.is_power.Reads as is-power-reads
+use Rattle.grammar.proofs.signs.is_product.Reads as is-product-reads
+use Rattle.grammar.proofs.signs.is_sum.Reads as is-sum-reads
+use Rattle.reading.proofs.calling.stops_pays.Reads as stops-pays-reads
 use Rattle.reading.proofs.expressions.+arguments+call+comparison+expression+index+items+list+method+name+parenthesis+pays+postfix+postfixes+power+primary+product+sum.{statement}
 use Rattle.reading.proofs.expressions.+arguments+call+comparison+expression+index+items+list+method+name+parenthesis+pays+postfix+postfixes+power+primary+product+sum.Tie.{close}
 use borrow.Author.Needs.{needs}
@@ -86,17 +86,18 @@ use borrow.Author.Tests.{not-true, not-false}
 use mathlib.Core.Bool.{_||_}
 use mathlib.Core.List.{List}
 use mathlib.Core.Path.{_≡_, refl, sym, _∙_}
-use Rattle.reading.specs.Trees.{Tree}
-use Rattle.reading.specs.Readers.{Out, is as isSign}
-use Rattle.reading.specs.Grammar as G
+use Rattle.grammar.specs.Trees.{Tree}
+use Rattle.grammar.specs.Readers.{Out, is as isSign}
+use Rattle.grammar.specs.Grammar as G
 use Rattle.reading.proofs.StepLaws.{done-reads, refused-on, meets-as, follow-ready, put-fields, bind-refused, reads-as, read-numbers, Compares, compare-less, compare-first, compare-ready, compare-refused, compare-numbers, compare-last, compare-alone, compare-none, compare-next, parenthesis-deep, parenthesis-refused, parenthesis-open, parenthesis-closed, prim-paren, prim-plus-0, prim-plus, prim-list, prim-pays, prim-atom, prim-name, prim-minus-number, prim-minus-0, prim-minus, negate-reads, inner-sized}
 use Rattle.reading.proofs.ChainLaws.{power-level, product-level, sum-level, joint-level, chain-exit, Pending, pend-first, pend-next, pend-ready, pend-refused, pend-numbers, pend-chain, pend-less}
-use Rattle.reading.proofs.SizeLaws.{primary-size, sum-size}
+use Rattle.grammar.proofs.SizeLaws.{primary-size, sum-size}
 use mathlib.Core.Logic.{inl, inr}
-use Rattle.reading.specs.Turns.{itemsBy, jointSign, sumSign, productSign, powerSign, inner}
-use Rattle.reading.proofs.GrammarLaws.{primary-law}
+use Rattle.grammar.specs.Signs.{jointSign, sumSign, productSign, powerSign}
+use Rattle.reading.specs.Turns.{itemsBy, inner}
+use Rattle.grammar.proofs.GrammarLaws.{primary-law}
 use Rattle.reading.proofs.ItemLaws.{ItemChain, items-start, items-exit, items-ready, items-refused, items-numbers, items-wrong, items-less, items-next, done-items, items-refused-on, refusal-on, closed-code, parts-refusal, follows-as, shown-inside, arguments-no, arguments-0, arguments-ready, arguments-refused, arguments-done, arguments-within, call-refused, call-faulty, call-done, list-0, list-ready, list-refused, list-numbers, list-after, list-done, list-tops, PayChain, pay-start, pay-ready, pay-refused, pay-numbers, pay-less, pay-next, pays-0, pays-ready, pays-refused, pays-done}
-use Rattle.reading.specs.Grammar.{primary as primaryG, methodOf, indexOf, postfixTurn}
+use Rattle.grammar.specs.Grammar.{primary as primaryG, methodOf, indexOf, postfixTurn}
 use Rattle.reading.proofs.HoldLaws.{start-in, end-in, takes-as}
 use Rattle.reading.proofs.PostfixLaws.{turns-as, onward-done, ready-behind, each-inner, index-refuses, index-open, index-numbers, index-reads, method-unnamed, method-ready, method-refuses, method-none, method-numbers, method-reads, postfix-dot, postfix-low, postfix-index, postfix-fewer, postfix-ready, PostChain, post-enter, post-exit, post-refused, post-more, above, name-refuses, name-numbers, name-reads, name-special, name-call, sign-no, sign-yes}
 
@@ -3000,7 +3001,6 @@ power-loop-holds : (t : ℕ) → power-lts.Need-loop-holds (
   next-reads.Asked,
   next-reads.Learnt,
 ) (power-at t) power.Post power-Inv-loop power-μ-loop
-unfolding G.power
 power-loop-holds t c = (refl, pend-first (power-level (wordsIn (c .before .before .before .before .before .args .reserved .now) (c .before .before .before .before .before .args .currencies .now) (c .before .before .before .before .before .args .counters .now)) (c .before .before .before .before .before .args .depth)) (c .before .before .before .before .before .args .s .now) (c .before .before .before .before .before .args .c) (c .before .before .before .before .before .args .n) (c .before .before .before .before .before .args .out .now) (c .before .before .before .before .before .pre .1 .0))
 
 -- src/expressions.rt:205:13
@@ -4128,7 +4128,6 @@ product-loop-holds : (t : ℕ) → product-lts.Need-loop-holds (
   next-reads.Asked,
   next-reads.Learnt,
 ) (product-at t) product.Post product-Inv-loop product-μ-loop
-unfolding G.product
 product-loop-holds t c = (refl, pend-first (product-level (wordsIn (c .before .before .before .before .before .args .reserved .now) (c .before .before .before .before .before .args .currencies .now) (c .before .before .before .before .before .args .counters .now)) (c .before .before .before .before .before .args .depth)) (c .before .before .before .before .before .args .s .now) (c .before .before .before .before .before .args .c) (c .before .before .before .before .before .args .n) (c .before .before .before .before .before .args .out .now) (c .before .before .before .before .before .pre .1 .0))
 
 -- src/expressions.rt:172:13

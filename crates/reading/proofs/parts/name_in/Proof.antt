@@ -1,6 +1,6 @@
 -- The kind and the fields are words of the record, where it is whole.
 use borrow.Author.Tests.{lt-ltb, le-ltb}
-use Rattle.reading.specs.Sizes.{recordWidth}
+use Rattle.grammar.specs.Sizes.{recordWidth}
 use Rattle.reading.specs.Parts.{nameIn}
 use borrow.Author.Needs.{needs}
 use Rattle.reading.proofs.parts.name_in.Statement.{statement}

@@ -33,11 +33,11 @@ use native.Mathlib.Omega.{arith}
 use Prim.Native.Nat.{_+_, _*_}
 use mathlib.Core.Path.{_≡_, refl, _∙_}
 use lib.ListN.{length}
-use Rattle.reading.specs.Trees.{nil}
-use Rattle.reading.specs.Readers.{loop}
-use Rattle.reading.specs.Grammar as G
+use Rattle.grammar.specs.Trees.{nil}
+use Rattle.grammar.specs.Readers.{loop}
+use Rattle.grammar.specs.Grammar as G
 use Rattle.reading.specs.Meets.{wordsIn, toksAt}
-use Rattle.reading.proofs.SizeLaws.{statement-size}
+use Rattle.grammar.proofs.SizeLaws.{statement-size}
 use Rattle.reading.proofs.HoldLaws.{start-in}
 use Rattle.reading.proofs.StepLaws.{done-reads, refused-on, meets-as, put-fields}
 use Rattle.reading.proofs.BodyLaws.{done-block, block-refusal-on, tree-refusal-on, head-is, head-refusal-on, statement-law, stat-name, stat-if, stat-for, stat-pays, stat-ended, BlockChain, block-unopened, block-opened, block-start, block-ready, block-exit, block-refused, block-numbers, block-less, block-next, bind-is, if-0, if-ready, if-refused, if-body-ready, if-body-refused, if-numbers, if-done, else-ready, else-refused, else-numbers, else-done, for-0, for-head-refused, for-ready, for-refused, for-body-ready, for-body-refused, for-numbers, for-done}

@@ -1,0 +1,10 @@
+-- `is_power` tells `**`.
+use Rattle.grammar.proofs.SignLaws.{turned}
+use Rattle.grammar.proofs.signs.is_power.Statement.{statement}
+use Rattle.grammar.proofs.signs.is_power.Tie as tie
+
+returns : tie.Need-returns
+returns c = turned (c .args .code) 12
+
+pub is-power-spec : {M : Type 1} → statement M
+is-power-spec = tie.close (tie.spec returns)

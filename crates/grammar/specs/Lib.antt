@@ -1,0 +1,9 @@
+-- What the paper's words mean: trees and records, the grammar, the reading of a script.
+pub mod Sizes
+pub mod Trees
+pub mod Readers
+pub mod Grammar
+pub mod Signs
+pub mod Script
+pub mod Words
+pub mod Computing

@@ -1,0 +1,32 @@
+-- The words of a reading in lent memory: its records and its directory.
+use mathlib.Core.List.{List, [], _∷_, _++_, map}
+use Prim.Native.Nat.{ℕ}
+use Rattle.grammar.specs.Trees.{size, records}
+use Rattle.grammar.specs.Script.{Entry}
+
+-- the records of all statements, one statement after the other
+abbrev pub wordsOf : List Entry → List ℕ
+wordsOf [] = []
+wordsOf (e ∷ es) = records (e .tree) ++ wordsOf es
+
+-- Directory, per top-level statement: start byte, end byte (past its last token), records, tokens
+pub record Row : Type 0 where
+  pub start : ℕ
+  pub end : ℕ
+  pub records : ℕ
+  pub tokens : ℕ
+
+abbrev pub rowOf : Entry → Row
+rowOf e = record { start = e .start; end = e .end; records = size (e .tree); tokens = e .tokens }
+
+-- its four words
+abbrev pub rowWords : Row → List ℕ
+rowWords r = r .start ∷ r .end ∷ r .records ∷ r .tokens ∷ []
+
+abbrev pub rowsWords : List Row → List ℕ
+rowsWords [] = []
+rowsWords (r ∷ rs) = rowWords r ++ rowsWords rs
+
+-- the directory of all statements
+abbrev pub directoryOf : List Entry → List ℕ
+directoryOf es = rowsWords (map rowOf es)
