@@ -3,16 +3,16 @@
 -- was left by a reading (`read-holds`) or by calls on such memory (`calls-hold`). That is what `Holds` says. No ground checks it, so the theorems name it.
 use mathlib.Core.Path.{_≡_, sym, ap, _∙_, subst}
 use mathlib.Core.Bool.{true}
-use mathlib.Core.List.{List, _++_, map}
+use mathlib.Core.List.{List, _∷_, _++_, map}
 use Prim.Native.Nat.{ℕ, _+_, _-_, _*_, _/_}
 use native.Mathlib.Omega.{arith}
 use lib.ListN.{length, take, length-map}
-use lib.Seq.{take-at}
+use lib.Seq.{slice, take-at}
 use Rattle.tokens.specs.Text.{script}
 use Rattle.tokens.specs.Names.{Lists}
 use Rattle.grammar.specs.Sizes.{recordWidth, entryWidth, mostRecords, mostStatements, recordRoom, statementRoom}
 use Rattle.grammar.specs.Trees.{records}
-use Rattle.grammar.specs.Script.{Entry, Outcome, accepted, refused, fitting, readScript, reading, nodes, tokensOf}
+use Rattle.grammar.specs.Script.{Entry, Outcome, accepted, fitting, readScript, reading, words, nodes, tokensOf}
 use Rattle.grammar.specs.Words.{wordsOf, rowOf, directoryOf, rowsWords}
 use Rattle.reading.specs.Judging.{judgedOf, lastEnd}
 use Rattle.reading.specs.Reading.{answerOf, over, leftBy, readInto, Leaves}
@@ -21,7 +21,6 @@ use Rattle.grammar.proofs.AmendBytes.{Accepted, read-accepted, script-noZero, r
 use Rattle.reading.proofs.JudgeLaws.{script-in, script-take}
 use Rattle.grammar.proofs.WordLaws.{words-length, words-before, directory-length}
 use Rattle.reading.proofs.ReadLaws.{room-in}
-use Rattle.amending.specs.Amend.{replaced}
 use Rattle.amending.specs.Amending.{State, Rooms, Pick, Answer as Result, done, amend, left, after}
 use Rattle.amending.specs.Lent.{Lent, sumRecords, inOrder, lentOf, given}
 use Rattle.amending.specs.Memory.{Memory, memory, roomsIn, usedIn, within, heldBy, answered, Amends}
@@ -31,7 +30,7 @@ use Rattle.amending.specs.declared.held.Held.{Held}
 use Rattle.amending.proofs.EntryLaws.{rows-of-words, words-of-rows}
 use Rattle.amending.proofs.AmendingLaws.{pick-split, words-amended}
 use Rattle.amending.proofs.LentLaws.{sum-nodes, good-inOrder}
-use Rattle.amending.proofs.Directory.{good-reading, reading-good}
+use Rattle.amending.proofs.Directory.{texts, texts-append, texts-amended, good-reading, reading-good}
 use Rattle.amending.proofs.GroundLaws.{Within, within-yes, entries-fit}
 use Rattle.amending.proofs.StateLaws.{over-length, reading-is, fits-are, Done, done-is, held-within, call-is, call-holds}
 
@@ -129,4 +128,24 @@ module _ (l : Lists) where
         wordsOf (p .behind),
         ap (λ (x : Lent). x .words) (H .used) ∙ ap wordsOf (pick-split k (st .entries) p (D .is-there)) ∙ words-before (p .before) (p .one) (p .behind),
         ap (λ (x : Lent). x .words) (H′ .used) ∙ ap wordsOf (D .entries-are) ∙ words-amended (p .before) (p .one) (p .behind) (length n) (D .new),
+      )
+
+  -- and their texts are the same bytes in the same order, where the old directory and the new one place them; y are those of the new text
+  pub kept-texts : {M M′ : Memory} {h : Held} {st st′ : State} {k : ℕ} {n : List ℕ} {r : Answer} (H : Holds l M h st) → Amends l M h k n r M′ → amend l (roomsIn M) st k n ≡ done st′
+      → (a : List (List ℕ)) × (x : List ℕ) × (y b : List (List ℕ)) × (texts (take (h .bytes) (M .script)) (st .entries) ≡ a ++ (x ∷ b))
+      × (texts (take (r .bytes) (M′ .script)) (st′ .entries) ≡ a ++ (y ++ b))
+  kept-texts {M} {M′} {h} {st} {st′} {k} {n} {r} H A e =
+      let D : Done l (roomsIn M) st k n st′ = done-is l (roomsIn M) st k n st′ e in
+      let p : Pick Entry = D .picked in
+      let H′ : Holds l M′ (heldOf r) st′ = subst (λ (x : Result). Holds l M′ (heldOf r) (left st x)) e (call-leaves H A) in
+      let es : st .entries ≡ p .before ++ (p .one ∷ p .behind) = pick-split k (st .entries) p (D .is-there) in
+      let old : Accepted l (st .script) (p .before ++ (p .one ∷ p .behind)) = read-accepted l (st .script) _ (H .good .clear) (H .good .read ∙ ap accepted es) in
+      let new : Accepted l n (D .new) = read-accepted l n (D .new) (D .clear) (D .read) in (
+        texts (st .script) (p .before),
+        slice (p .one .start) (p .one .end) (st .script),
+        texts n (D .new),
+        texts (st .script) (p .behind),
+        (λ i. texts (H .used i .script) (es i)) ∙ texts-append (st .script) (p .before) (p .one ∷ p .behind),
+        (λ i. texts (H′ .used i .script) (st′ .entries)) ∙ (λ i. texts (D .script-is i) (D .entries-are i))
+            ∙ texts-amended (words l) (st .script) n (p .before) (p .one) (p .behind) (D .new) (old .text) (new .text),
       )

@@ -78,7 +78,7 @@ order-behind : (i j : ℕ) (es : List Entry) (e : Entry) (es′ : List Entry) �
 order-behind i j [] e es′ h = h .3
 order-behind i j (x ∷ es) e es′ h = order-behind (x .end) j es e es′ (h .3)
 
-texts-append : (s : List ℕ) (x y : List Entry) → texts s (x ++ y) ≡ texts s x ++ texts s y
+pub texts-append : (s : List ℕ) (x y : List Entry) → texts s (x ++ y) ≡ texts s x ++ texts s y
 texts-append s [] y = refl
 texts-append s (e ∷ x) y = ap {B = List (List ℕ)} (λ l. slice (e .start) (e .end) s ∷ l) (texts-append s x y)
 

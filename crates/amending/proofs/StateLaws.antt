@@ -5,7 +5,7 @@ use mathlib.Core.List.{List, [], _∷_, map}
 use mathlib.Core.Option.{Option, none, some}
 use Prim.Native.Nat.{ℕ, _*_, _/_, _≤_}
 use native.Mathlib.Omega.{arith}
-use lib.Dec.{ltb}
+use lib.Dec.{T, ltb}
 use lib.ListN.{length, take, drop, length-append, length-drop, length-map}
 use lib.Seq.{take-at}
 use borrow.Author.Tests.{ltb-false}
@@ -59,6 +59,9 @@ pub record Done (l : Lists) (R : Rooms) (st : State) (k : ℕ) (n : List ℕ) (s
   pub picked : Pick Entry
   pub new : List Entry
   pub is-there : pick k (st .entries) ≡ some picked
+  pub clear : T (noZero n)
+  pub read : readScript l n ≡ accepted new
+  pub script-is : st′ .script ≡ replaced (st .script) (picked .one) n
   pub entries-are : st′ .entries ≡ amendedList (picked .before) (picked .one) (picked .behind) (length n) new
 
 pub done-is : (l : Lists) (R : Rooms) (st : State) (k : ℕ) (n : List ℕ) (st′ : State) → amend l R st k n ≡ done st′ → Done l R st k n st′
@@ -68,29 +71,37 @@ done-is l R st k n st′ e = go₁ (pick k (st .entries)) refl e
     never : {f q : ℕ} {X : Type 0} → refusal f q ≡ done st′ → X
     never e = absurd (let z : _≡_ {A = ℕ} 0 1 = cc in omega arith)
 
-    go₄ : (p : Pick Entry) → pick k (st .entries) ≡ some p → (ns : List Entry) (t : Bool)
+    go₄ : (p : Pick Entry) → pick k (st .entries) ≡ some p → T (noZero n) → (ns : List Entry) → readScript l n ≡ accepted ns → (t : Bool)
         → (if t then refusal 16 (length n) else done (record { script = replaced (st .script) (p .one) n; entries = amendedList (p .before) (p .one) (p .behind) (length n) ns })) ≡ done st′
         → Done l R st k n st′
-    go₄ p q ns true e = never e
-    go₄ p q ns false e =
-        let z : record { script = replaced (st .script) (p .one) n; entries = amendedList (p .before) (p .one) (p .behind) (length n) ns } ≡ st′ = cc in
-        record { picked = p; new = ns; is-there = q; entries-are = sym (ap (λ (x : State). x .entries) z) }
+    go₄ p q z ns r true e = never e
+    go₄ p q z ns r false e =
+        let same : record { script = replaced (st .script) (p .one) n; entries = amendedList (p .before) (p .one) (p .behind) (length n) ns } ≡ st′ = cc in
+        record {
+          picked = p;
+          new = ns;
+          is-there = q;
+          clear = z;
+          read = r;
+          script-is = sym (ap (λ (x : State). x .script) same);
+          entries-are = sym (ap (λ (x : State). x .entries) same);
+        }
 
-    go₃ : (p : Pick Entry) → pick k (st .entries) ≡ some p → (x : Outcome) (t : Bool) → put l R st p n x ≡ done st′ → endsWell n ≡ t → Done l R st k n st′
-    go₃ p q (refused f b) t e w = never e
-    go₃ p q (accepted ns) true e w =
-        go₄ p q ns (overRooms R (replaced (st .script) (p .one) n) (amendedList (p .before) (p .one) (p .behind) (length n) ns))
+    go₃ : (p : Pick Entry) → pick k (st .entries) ≡ some p → T (noZero n) → (x : Outcome) → readScript l n ≡ x → (t : Bool) → put l R st p n x ≡ done st′ → endsWell n ≡ t → Done l R st k n st′
+    go₃ p q z (refused f b) r t e w = never e
+    go₃ p q z (accepted ns) r true e w =
+        go₄ p q z ns r (overRooms R (replaced (st .script) (p .one) n) (amendedList (p .before) (p .one) (p .behind) (length n) ns))
         (ap (λ (b : Bool). if not b then refusal 18 (length n) else fittingRooms R (length n) (replaced (st .script) (p .one) n) (amendedList (p .before) (p .one) (p .behind) (length n) ns)) (sym w) ∙ e)
-    go₃ p q (accepted ns) false e w =
+    go₃ p q z (accepted ns) r false e w =
         never (ap (λ (b : Bool). if not b then refusal 18 (length n) else fittingRooms R (length n) (replaced (st .script) (p .one) n) (amendedList (p .before) (p .one) (p .behind) (length n) ns)) (sym w) ∙ e)
 
-    go₂ : (p : Pick Entry) → pick k (st .entries) ≡ some p → (t : Bool) → (if not t then refusal 19 0 else put l R st p n (readScript l n)) ≡ done st′ → Done l R st k n st′
-    go₂ p q true e = go₃ p q (readScript l n) (endsWell n) e refl
-    go₂ p q false e = never e
+    go₂ : (p : Pick Entry) → pick k (st .entries) ≡ some p → (t : Bool) → noZero n ≡ t → (if not t then refusal 19 0 else put l R st p n (readScript l n)) ≡ done st′ → Done l R st k n st′
+    go₂ p q true z e = go₃ p q (rw z tt) (readScript l n) refl (endsWell n) e refl
+    go₂ p q false z e = never e
 
     go₁ : (o : Option (Pick Entry)) → pick k (st .entries) ≡ o → amendAt l R st n o ≡ done st′ → Done l R st k n st′
     go₁ none q e = never e
-    go₁ (some p) q e = go₂ p q (noZero n) e
+    go₁ (some p) q e = go₂ p q (noZero n) refl e
 
 -- ---- the counts of a state are within
 
