@@ -3,13 +3,12 @@ use mathlib.Core.Path.{_≡_, refl, sym, ap, _∙_}
 use mathlib.Core.Bool.{Bool, true, false, _&&_, _||_, not}
 use mathlib.Core.List.{List, [], _∷_, _++_, append-assoc, map}
 use mathlib.Core.Option.{Option, none, some}
-use Prim.Native.Nat.{ℕ, zero, suc, _+_, _-_, _*_, _≤_}
+use Prim.Native.Nat.{ℕ, zero, suc, _+_, _-_, _*_}
 use native.Mathlib.Omega.{arith}
 use lib.Dec.{ltb}
 use lib.Seq.{take-at, drop-at}
 use lib.ListN.{length, take, drop, length-append, length-map}
 use borrow.Author.Tests.{le-leb, lt-ltb, eq-eqb}
-use Rattle.tokens.specs.Limits.{mostBytes, mostTokens}
 use Rattle.tokens.specs.Text.{if_then_else_}
 use Rattle.tokens.specs.Names.{Lists}
 use Rattle.grammar.specs.Sizes.{recordWidth}
@@ -18,10 +17,10 @@ use Rattle.grammar.specs.Script.{Entry, Outcome, accepted, refused, nodes, read
 use Rattle.grammar.specs.Words.{wordsOf, Row, rowOf}
 use Rattle.grammar.proofs.WordLaws.{words-length as all-words, words-before, records-length}
 use Rattle.amending.specs.Amend.{endsWell, replaced, between, amendedList}
-use Rattle.amending.specs.Amending.{State, Rooms, Pick, onto, pick, over, fitting, Answer, done, refusal, put, amendAt, amend, Good, left, after}
-use Rattle.amending.specs.Lent.{Lent, sumRecords, sumTokens, overRows, ascending, inOrder, movedRow, betweenRow, swappedRows, swapped, handed, unchanged, fittingLent, putLent, lentAt, amendLent, leftLent, afterLent, lentOf, given}
+use Rattle.amending.specs.Amending.{State, Rooms, Pick, onto, pick, over, fitting, done, refusal, put, amendAt, amend, Good}
+use Rattle.amending.specs.Lent.{sumRecords, sumTokens, overRows, ascending, inOrder, movedRow, betweenRow, swappedRows, swapped, handed, unchanged, fittingLent, putLent, lentAt, amendLent, lentOf, given}
 use Rattle.reading.proofs.RowLaws.{size-some}
-use Rattle.amending.proofs.AmendingLaws.{pick-split, words-amended, amends-good}
+use Rattle.amending.proofs.AmendingLaws.{pick-split, words-amended}
 use Rattle.amending.proofs.Directory.{InOrder, good-order}
 
 -- ---- counts
@@ -156,14 +155,3 @@ module _ (l : Lists) (R : Rooms) where
       go₁ : (o : Option (Pick Entry)) → pick k (st .entries) ≡ o → lentAt l R (lentOf st) n (pickRow o) ≡ given (amendAt l R st n o)
       go₁ none e = refl
       go₁ (some p) e = go₂ p (pick-split k (st .entries) p e) (readScript l n) (noZero n)
-
-  left-lent : (st : State) (o : Answer) → leftLent (lentOf st) (given o) ≡ lentOf (left st o)
-  left-lent st (done st′) = refl
-  left-lent st (refusal f p) = refl
-
-  -- ANY NUMBER OF CALLS on lent words: what is lent is then the words of the state that the calls leave, which reads as its statements (`amends-good`)
-  pub amends-lent : R .bytes ≤ mostBytes → R .tokens ≤ mostTokens → (cs : List (ℕ × List ℕ)) (st : State) → Good l R st → afterLent l R (lentOf st) cs ≡ lentOf (after l R st cs)
-  amends-lent cb ct [] st G = refl
-  amends-lent cb ct (c ∷ cs) st G =
-      ap (λ (x : Lent). afterLent l R x cs) (ap (leftLent (lentOf st)) (amend-lent st G (c .0) (c .1)) ∙ left-lent st (amend l R st (c .0) (c .1)))
-      ∙ amends-lent cb ct cs (left st (amend l R st (c .0) (c .1))) (amends-good l R cb ct (c ∷ []) st G)

@@ -101,18 +101,6 @@ module _ (l : Lists) (R : Rooms) where
   unfoldable pub amendLent : Lent → ℕ → List ℕ → Handed
   amendLent L k n = if not (inOrder R L) then unchanged 20 0 else lentAt L n (pick k (L .rows))
 
--- ---- any number of calls
-
--- a refused call leaves what is lent
-abbrev pub leftLent : Lent → Handed → Lent
-leftLent L (handed L′) = L′
-leftLent L (unchanged f p) = L
-
--- calls one after the other
-abbrev pub afterLent : Lists → Rooms → Lent → List (ℕ × List ℕ) → Lent
-afterLent l R L [] = L
-afterLent l R L (c ∷ cs) = afterLent l R (leftLent L (amendLent l R L (c .0) (c .1))) cs
-
 -- ---- what is said of calls
 
 -- a state in lent words
