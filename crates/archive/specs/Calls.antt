@@ -11,7 +11,7 @@ use Rattle.reading.specs.declared.parts.Place.{Place}
 use Rattle.amending.specs.Memory.{Memory, Amends}
 use Rattle.amending.specs.declared.held.Held.{Held}
 
--- the low word of a number. Places and counts in a script that is not refused by 1 are far below
+-- the low word of a number. No count of a state is lost by it (`CallLaws.reads-hold`, `CallLaws.replaces-hold`)
 abbrev pub word : ℕ → ℕ
 word n = n % 2 ^ 32
 
