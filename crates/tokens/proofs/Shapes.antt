@@ -9,8 +9,9 @@ use lib.Dec.{T, leb, ltb, eqb, leb→le}
 use lib.Seq.{length-take-le, drop-at, drop-append-add}
 use borrow.Author.Tests.{ltb-true, eqb-true, leb-true}
 use lib.ListN.{length, take, drop, length-append}
-use Rattle.tokens.specs.Text.{if_then_else_, bytes, same, begins, leading, letter, digit, nameByte, numberByte, blank, every}
-use Rattle.tokens.specs.Numbers.{numberFault}
+use Rattle.tokens.specs.Text.{if_then_else_, bytes, same, begins, leading, letter, digit, nameByte, numberByte, blank, every, count}
+use Rattle.tokens.specs.Limits.{mostDigits, mostDecimals}
+use Rattle.tokens.specs.Numbers.{digits, decimals, numberFault}
 use Rattle.tokens.specs.Tokens.{Token, Lexeme, gap, piece, fault, word, numeral, quoted, sign, signs, keywords, entry, code, cut, lexeme, Lexed, lexed, refused, before, taken, scan, tokens}
 use Rattle.tokens.proofs.Joins.{width, firm, body}
 use Rattle.tokens.proofs.Cuts.{Wide, lexeme-wide, Start, token-start}
@@ -89,11 +90,12 @@ firmKind k = eqb 48 k || (eqb 43 k || (eqb 5 k || eqb 55 k))
 abbrev notLine : ℕ → Bool
 notLine c = not (eqb c 10)
 
--- it is no longer than the text; what is no token is a blank or runs up to a line feed; no token is End; a token of a firm kind begins with a firm byte
+-- it is no longer than the text; what is no token is a blank or runs up to a line feed; no token is End; a token of a firm kind begins with a firm byte;
+-- a fault is one of 3 to 6
 abbrev pub Sound : ℕ → List ℕ → Lexeme → Type 0
 Sound b bs (gap m) = (m ≤ suc (length bs)) × (blank b ≡ false → m ≡ suc (leading (λ c. not (eqb c 10)) bs))
 Sound b bs (piece κ m) = (m ≤ suc (length bs)) × (1 ≤ κ) × (firmKind κ ≡ true → T (firm b))
-Sound b bs (fault f) = Unit {0}
+Sound b bs (fault f) = (3 ≤ f) × (f ≤ 6)
 
 abbrev plainWord : String × ℕ → Bool
 plainWord e = leb 1 (e .1) && not (firmKind (e .1))
@@ -116,12 +118,13 @@ word-sound b bs w m h = go (eqb (E .1) 99) refl
         (h, leb-true 1 (E .1) (p .0), λ q. absurd (true≢false (sym (p .1) ∙ ap not q)))
 
 numeral-sound : (b : ℕ) (bs w : List ℕ) (m : ℕ) → m ≤ suc (length bs) → Sound b bs (numeral w m)
-unfolding numeral
-numeral-sound b bs w m h = go (eqb (numberFault w) 0)
+unfolding numeral numberFault
+numeral-sound b bs w m h = go (ltb 1 (count (eqb 46) w)) (ltb mostDigits (digits 0 w) || ltb mostDecimals (decimals false w))
   where
-    go : (t : Bool) → Sound b bs (if t then piece 2 m else fault (numberFault w))
-    go true = (h, omega arith, λ q. absurd (true≢false (sym q)))
-    go false = tt
+    go : (t u : Bool) → Sound b bs (let f = if t then 5 else (if u then 6 else 0) in if eqb f 0 then piece 2 m else fault f)
+    go true u = (omega arith, omega arith)
+    go false true = (omega arith, omega arith)
+    go false false = (h, omega arith, λ q. absurd (true≢false (sym q)))
 
 quoted-sound : (b : ℕ) (bs : List ℕ) (m : ℕ) → T (firm b) → Sound b bs (quoted bs m)
 unfolding quoted
@@ -129,7 +132,7 @@ quoted-sound b bs m f = go (ltb m (length bs)) refl
   where
     go : (t : Bool) → ltb m (length bs) ≡ t → Sound b bs (if t then piece 5 (suc (suc m)) else fault 4)
     go true e = (omega (arith, ltb-true m (length bs) e), omega arith, λ q. f)
-    go false e = tt
+    go false e = (omega arith, omega arith)
 
 abbrev plainSign : String × ℕ → Bool
 plainSign e = leb 1 (e .1) && (not (firmKind (e .1)) || (same (bytes (e .0)) (59 ∷ []) || same (bytes (e .0)) (125 ∷ [])))
@@ -154,7 +157,7 @@ sign-sound b bs = go (eqb (E .1) 99) refl
     firmly e true w q false u false v h = absurd (true≢false (sym h))
 
     go : (t : Bool) → eqb (E .1) 99 ≡ t → Sound b bs (if t then fault 3 else piece (E .1) (length (bytes (E .0))))
-    go true e = tt
+    go true e = (omega arith, omega arith)
     go false e =
         let p = both (leb 1 (E .1)) (not (firmKind (E .1)) || (same (bytes (E .0)) (59 ∷ []) || same (bytes (E .0)) (125 ∷ []))) (entry-every plainSign (λ s. begins (bytes s) (b ∷ bs)) signs tt e) in (
           begins-le (bytes (E .0)) (b ∷ bs) (entry-found (λ s. begins (bytes s) (b ∷ bs)) signs e),
@@ -224,6 +227,34 @@ scan-sorted zero i (b ∷ bs) ts h = go (λ k us. scan-sorted k (suc i) bs us) (
     go ih (gap m) s w = lower ts (ih (m - 1) ts w)
     go ih (piece κ m) s w = pieced ih κ m (s .1) (scan (m - 1) (suc i) bs) refl w
     go ih (fault f) s w = absurd (let z : _≡_ {A = ℕ} 0 1 = cc in omega arith)
+
+-- a text is refused on one of the grounds 3 to 6, at one of its bytes
+pub scan-refused : (k i : ℕ) (bs : List ℕ) {f p : ℕ} → scan k i bs ≡ refused f p → (3 ≤ f) × (f ≤ 6) × (p < i + length bs)
+unfolding scan
+scan-refused k i [] h = absurd (let z : _≡_ {A = ℕ} 0 1 = cc in omega arith)
+scan-refused (suc k) i (b ∷ bs) h = let r = scan-refused k (suc i) bs h in (r .0, r .1, omega (arith, r .2))
+scan-refused zero i (b ∷ bs) {f} {p} h = go (λ k. scan-refused k (suc i) bs) (lexeme b bs) (sound b bs) h
+  where
+    Goal : Type 0
+    Goal = (3 ≤ f) × (f ≤ 6) × (p < i + suc (length bs))
+
+    IH : Type 0
+    IH = (k : ℕ) → scan k (suc i) bs ≡ refused f p → (3 ≤ f) × (f ≤ 6) × (p < suc i + length bs)
+
+    later : IH → (k : ℕ) → scan k (suc i) bs ≡ refused f p → Goal
+    later ih k e = let r = ih k e in (r .0, r .1, omega (arith, r .2))
+
+    pieced : IH → (t : Token) (k : ℕ) (o : Lexed) → scan k (suc i) bs ≡ o → before t o ≡ refused f p → Goal
+    pieced ih t k (lexed us) e w = absurd (let z : _≡_ {A = ℕ} 0 1 = cc in omega arith)
+    pieced ih t k (refused g q) e w = later ih k (e ∙ w)
+
+    go : IH → (o : Lexeme) → Sound b bs o → taken i (b ∷ bs) (λ m. scan (m - 1) (suc i) bs) o ≡ refused f p → Goal
+    go ih (gap m) s w = later ih (m - 1) w
+    go ih (piece κ m) s w = pieced ih (record { kind = κ; from = i; text = take m (b ∷ bs) }) (m - 1) (scan (m - 1) (suc i) bs) refl w
+    go ih (fault g) s w =
+        let z : g ≡ f = cc in
+        let q : i ≡ p = cc in
+        (omega (arith, s .0), omega (arith, s .1), omega arith)
 
 -- ---- a text is cut behind a token
 

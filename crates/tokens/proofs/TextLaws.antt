@@ -1,18 +1,31 @@
--- Equal bytes, one byte at a time, and where a script ends.
+-- Counts, equal bytes, one byte at a time, and where a script ends.
 use mathlib.Core.Path.{_≡_, refl, sym, ap}
 use mathlib.Core.Bool.{Bool, true, false}
 use mathlib.Core.List.{List, [], _∷_}
 use Prim.Native.Nat.{ℕ, suc, _+_, _≤_, _<_}
 use native.Mathlib.Numerals.{add-one}
+use native.Mathlib.Omega.{arith}
 use lib.Dec.{eqb}
 use lib.ListN.{length, getD, drop, drop-of-length-le}
 use lib.Seq.{drop-cons, length-take-le}
 use borrow.Author.Tests.{eq-eqb, ne-eqb, lt-ltb, le-ltb}
 use Rattle.tokens.specs.Limits.{mostBytes}
-use Rattle.tokens.specs.Text.{leading, other, same, script}
+use Rattle.tokens.specs.Text.{if_then_else_, leading, other, same, count, script}
 use Rattle.tokens.specs.Lexing.{scriptEnd}
 use Rattle.tokens.specs.declared.text.ScriptEnd.the-variants.{At, TooLong}
 use Rattle.tokens.proofs.Shapes.{leading-le}
+
+-- ---- counts
+
+-- no more pass a test than there are
+pub count-few : {A : Type 0} (f : A → Bool) (l : List A) → count f l ≤ length l
+unfolding count
+count-few f [] = omega arith
+count-few f (a ∷ l) = go (f a) (count-few f l)
+  where
+    go : (t : Bool) → count f l ≤ length l → (if t then 1 else 0) + count f l ≤ suc (length l)
+    go true h = omega arith
+    go false h = omega arith
 
 -- ---- equal bytes
 
