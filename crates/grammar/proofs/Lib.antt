@@ -13,6 +13,7 @@ pub mod AmendBytes
 pub mod Endings
 pub mod TreeLaws
 pub mod SizeLaws
+pub mod Refusals
 pub mod WordLaws
 pub mod Examples
 pub mod SignLaws

@@ -45,9 +45,9 @@ module _ {S A : Type 0} where
   follow k (ok (done a) ts) = ok a ts
   follow k (refused n p) = refused n p
 
-  -- at most n turns
+  -- at most n turns; the ground of more is never met
   unfoldable pub turns : ℕ → (S → Reader (Turn S A)) → S → Reader A
-  turns zero step s ts = refused 0 0
+  turns zero step s ts = refused 8 0
   turns (suc n) step s ts = follow (λ s′ ts′. turns n step s′ ts′) (step s ts)
 
   -- Turn after turn until one says that it is done. Each turn reads a token at least, so that the bound is not met: `loop-eq`

@@ -56,9 +56,9 @@ module _ (W : Words) where
       let vs = map (back s) ts in
       if is "End" (first ts) then accepted [] else onward k (b + s) vs (statement W mostDepth vs)
 
-  -- at most n statements
+  -- at most n statements; the ground of more is never met
   unfoldable pub upTo : ℕ → ℕ → List Token → Outcome
-  upTo zero b ts = refused 0 0
+  upTo zero b ts = refused 8 0
   upTo (suc n) b ts = turn (λ b′ ts′. upTo n b′ ts′) b (skip ts)
 
   -- each statement has a token, so that the bound is not met

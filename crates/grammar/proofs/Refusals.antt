@@ -1,0 +1,469 @@
+-- On which grounds a script is refused, and where: 1 to 15, of a reading with room 16 as well, and no further than the script's end.
+-- Each form that readers are made of has its law, so that a reader's law follows the reader's own text.
+use mathlib.Core.Path.{_≡_, refl, subst}
+use mathlib.Core.Bool.{Bool, true, false, not}
+use mathlib.Core.List.{List, [], _∷_, _++_, map}
+use mathlib.Core.Option.{Option, none, some}
+use Prim.Native.Nat.{ℕ, zero, suc, _+_, _-_, _≤_}
+use Prim.Native.String.{String}
+use native.Mathlib.Nat.{zero-add}
+use native.Mathlib.Omega.{arith}
+use lib.Dec.{T, leb, ltb, leb→le}
+use mir.Facts.{and-yes}
+use lib.ListN.{length}
+use Rattle.tokens.specs.Limits.{mostBytes, mostTokens, mostDepth}
+use Rattle.tokens.specs.Text.{if_then_else_, script, within, count}
+use Rattle.tokens.specs.Names.{Lists, goodLists}
+use Rattle.tokens.specs.Tokens.{Token, Lexed, lexed, refused as faulty, scan, final, finished, tokens, counts}
+use Rattle.tokens.proofs.Shapes.{Sorted, scan-sorted, scan-refused}
+use Rattle.grammar.specs.Trees.{Tree, Trees}
+use Rattle.grammar.specs.Readers.{Out, ok, refused, Reader, bind, _>>=_, _>>_, Turn, again, done, follow, turns, loop, first, is, skip, give, fail, failAt, ask, peek, read, the}
+use Rattle.grammar.specs.Grammar as G
+use Rattle.grammar.specs.Grammar.{deeper, optional, grouped, sum, comparison, expression, items, arguments, method, postfixes, dateOf, aDate, df, rateIndex, Words, Inner, deep, nextKind, block, ifOver, ended}
+use Rattle.grammar.specs.Script.{Entry, Outcome, accepted, refused as wrong, front, back, entryOf, onward, turn, upTo, from, statements, words, ofTokens, readScript, fitting, reading, nodes}
+
+-- the number f is one of the grounds 1 to last, and the place p no further than the byte n
+pub record Ground (last n f p : ℕ) : Type 0 where
+  pub least : 1 ≤ f
+  pub most : f ≤ last
+  pub inside : p ≤ n
+
+-- a number that computes
+ground : {last n p : ℕ} (f : ℕ) → T (within 1 last f) → p ≤ n → Ground last n f p
+ground {last} f h l = let k = and-yes (leb 1 f) (leb f last) h in record { least = leb→le 1 f (k .0); most = leb→le f last (k .1); inside = l }
+
+-- ---- readers that refuse on a ground, at a token's place
+
+-- tokens that begin no further than the byte n
+abbrev Inside : ℕ → List Token → Type 0
+Inside n [] = Unit {0}
+Inside n (t ∷ ts) = (t .from ≤ n) × Inside n ts
+
+-- what is read passes a test, and the tokens left are inside; a refusal has a ground
+abbrev Right : {A : Type 0} → ℕ → (A → Type 0) → Out A → Type 0
+Right n P (ok a r) = P a × Inside n r
+Right n P (refused f p) = Ground 15 n f p
+
+-- what is one deeper has its law
+data Each {X : Type 0} (P : X → Type 0) : Option X → Type 0 where
+  nothing : Each P none
+  just : {x : X} → P x → Each P (some x)
+
+-- what a reader tells of tokens that are inside
+record Law {A : Type 0} (n : ℕ) (P : A → Type 0) (m : Reader A) : Type 0 where
+  goes : (ts : List Token) → Inside n ts → Right n P (m ts)
+
+first-inside : (n : ℕ) (ts : List Token) → Inside n ts → first ts .from ≤ n
+first-inside n [] i = omega arith
+first-inside n (t ∷ ts) i = i .0
+
+skip-inside : (n : ℕ) (ts : List Token) → Inside n ts → Inside n (skip ts)
+unfolding skip
+skip-inside n [] i = tt
+skip-inside n (t ∷ ts) i = go (is "Newline" t) (skip-inside n ts (i .1))
+  where
+    go : (b : Bool) → Inside n (skip ts) → Inside n (elim b as (λ _. List Token) [ true ↦ skip ts | false ↦ t ∷ ts ])
+    go true h = h
+    go false h = i
+
+module _ (n : ℕ) where
+  -- a reader, whatever it reads
+  abbrev Fair : {A : Type 0} → Reader A → Type 0
+  Fair m = Law n (λ a. Unit {0}) m
+
+  -- a reader of a token that is inside
+  abbrev Placed : Reader Token → Type 0
+  Placed m = Law n (λ t. t .from ≤ n) m
+
+  -- ---- the forms that readers are made of
+
+  module _ {A B : Type 0} {m : Reader A} {f : A → Reader B} where
+    bind-law : {P : A → Type 0} {Q : B → Type 0} → Law n P m → ((a : A) → P a → Law n Q (f a)) → Law n Q (m >>= f)
+    unfolding _>>=_
+    bind-law {P} {Q} hm hf = record { goes = λ ts i. go (m ts) (hm .goes ts i) }
+      where
+        go : (o : Out A) → Right n P o → Right n Q (bind f o)
+        go (ok a r) h = hf a (h .0) .goes r (h .1)
+        go (refused x p) h = h
+
+    then-fair : Fair m → ((a : A) → Fair (f a)) → Fair (m >>= f)
+    then-fair hm hf = bind-law hm (λ a h. hf a)
+
+  module _ {B : Type 0} {m : Reader Token} {f : Token → Reader B} where
+    then-placed : Placed m → ((t : Token) → t .from ≤ n → Fair (f t)) → Fair (m >>= f)
+    then-placed hm hf = bind-law hm hf
+
+  module _ {A B : Type 0} {m : Reader A} {k : Reader B} where
+    next-fair : Fair m → Fair k → Fair (m >> k)
+    unfolding _>>_
+    next-fair hm hk = then-fair hm (λ a. hk)
+
+  module _ {A : Type 0} where
+    give-fair : (a : A) → Fair (give a)
+    unfolding give
+    give-fair a = record { goes = λ ts i. (tt, i) }
+
+    fail-law : {P : A → Type 0} → Law n P (fail 8)
+    unfolding fail
+    fail-law = record { goes = λ ts i. ground 8 tt (first-inside n ts i) }
+
+    failAt-fair : (t : Token) (f : ℕ) → t .from ≤ n → T (within 1 15 f) → Fair {A = A} (failAt t f)
+    unfolding failAt
+    failAt-fair t f h g = record { goes = λ ts i. ground f g h }
+
+    if-law : {P : A → Type 0} (b : Bool) {m k : Reader A} → Law n P m → Law n P k → Law n P (if b then m else k)
+    if-law true hm hk = hm
+    if-law false hm hk = hk
+
+    ask-fair : (test : Token → Bool) {m k : Reader A} → Fair m → Fair k → Fair (ask test m k)
+    unfolding ask
+    ask-fair test hm hk = record { goes = λ ts i. if-law (test (first ts)) hm hk .goes ts i }
+
+  peek-placed : Placed peek
+  unfolding peek
+  peek-placed = record { goes = λ ts i. (first-inside n ts i, i) }
+
+  read-placed : Placed read
+  unfolding read
+  read-placed = record { goes = go }
+    where
+      go : (ts : List Token) → Inside n ts → Right n (λ t. t .from ≤ n) (read ts)
+      go [] i = ground 8 tt (omega arith)
+      go (t ∷ ts) i = (i .0, skip-inside n ts (i .1))
+
+  the-placed : (s : String) → Placed (the s)
+  unfolding the
+  the-placed s = bind-law peek-placed (λ t h. if-law (is s t) read-placed fail-law)
+
+  placed-fair : {m : Reader Token} → Placed m → Fair m
+  placed-fair {m} h = record { goes = λ ts i. go (m ts) (h .goes ts i) }
+    where
+      go : (o : Out Token) → Right n (λ t. t .from ≤ n) o → Right n (λ t. Unit {0}) o
+      go (ok t r) k = (tt, k .1)
+      go (refused x p) k = k
+
+  read-fair : Fair read
+  read-fair = placed-fair read-placed
+
+  the-fair : (s : String) → Fair (the s)
+  the-fair s = placed-fair (the-placed s)
+
+  module _ {S A : Type 0} {step : S → Reader (Turn S A)} (steps : (s : S) → Fair (step s)) where
+    turns-right : (k : ℕ) (s : S) (ts : List Token) → Inside n ts → Right n (λ a. Unit {0}) (turns k step s ts)
+    unfolding turns
+    turns-right zero s ts i = ground 8 tt (omega arith)
+    turns-right (suc k) s ts i = go (turns-right k) (step s ts) (steps s .goes ts i)
+      where
+        go : ((s′ : S) (r : List Token) → Inside n r → Right n (λ a. Unit {0}) (turns k step s′ r)) → (o : Out (Turn S A)) → Right n (λ a. Unit {0}) o
+            → Right n (λ a. Unit {0}) (follow (λ s′ ts′. turns k step s′ ts′) o)
+        go ih (ok (again s′) r) h = ih s′ r (h .1)
+        go ih (ok (done a) r) h = h
+        go ih (refused x p) h = h
+
+    loop-fair : (s : S) → Fair (loop step s)
+    unfolding loop
+    loop-fair s = record { goes = λ ts i. turns-right (suc (length ts)) s ts i }
+
+  module _ {X A : Type 0} {P : X → Type 0} {k : X → Reader A} where
+    deeper-fair : (t : Token) (o : Option X) → t .from ≤ n → Each P o → ((x : X) → P x → Fair (k x)) → Fair (deeper t o k)
+    unfolding deeper
+    deeper-fair t none h nothing g = failAt-fair t 15 h tt
+    deeper-fair t (some x) h (just l) g = g x l
+
+  ruleset laws = (then-placed, then-fair, next-fair, if-law, give-fair, fail-law, failAt-fair, ask-fair, peek-placed, read-placed, the-placed, read-fair, the-fair, loop-fair, deeper-fair)
+
+  -- ---- the readers of the grammar
+
+  module _ {A : Type 0} where
+    optional-fair : (s : String) (a : A) (m : Reader A) → Fair m → Fair (optional s a m)
+    unfolding optional
+    optional-fair s a m h = search laws depth 9
+
+  groupTurn-fair : (op : Token → Bool) (operand : Reader Tree) → Fair operand → (l : Tree) → Fair (G.groupTurn op operand l)
+  unfolding G.groupTurn
+  groupTurn-fair op operand h l = search laws depth 9
+
+  grouped-fair : (op : Token → Bool) (operand : Reader Tree) → Fair operand → Fair (grouped op operand)
+  unfolding grouped
+  grouped-fair op operand h = then-fair h λ l. loop-fair (groupTurn-fair op operand h) l
+
+  sum-fair : (p : Reader Tree) → Fair p → Fair (sum p)
+  unfolding sum
+  sum-fair p h = search grouped-fair
+
+  comparison-fair : (p : Reader Tree) → Fair p → Fair (comparison p)
+  unfolding comparison
+  comparison-fair p h = search (laws, sum-fair) depth 12
+
+  expression-fair : (p : Reader Tree) → Fair p → Fair (expression p)
+  unfolding expression
+  expression-fair p h = search (grouped-fair, comparison-fair)
+
+  itemTurn-fair : (s : String) (p : Reader Tree) → Fair p → (es : Trees) → Fair (G.itemTurn s p es)
+  unfolding G.itemTurn
+  itemTurn-fair s p h es = search (laws, expression-fair) depth 9
+
+  items-fair : (s : String) (p : Reader Tree) → Fair p → Fair (items s p)
+  unfolding items
+  items-fair s p h = loop-fair (itemTurn-fair s p h) _
+
+  arguments-fair : (o : Option (Reader Tree)) → Each Fair o → Fair (arguments o)
+  unfolding arguments
+  arguments-fair o h = search (laws, items-fair) depth 12
+
+  method-fair : (x : Tree) (m : Token) (es : Trees) → m .from ≤ n → Fair (method x m es)
+  unfolding method
+  method-fair x m es h = search laws depth 12
+
+  postfixTurn-fair : (o : Option (Reader Tree)) → Each Fair o → (x : Tree) → Fair (G.postfixTurn o x)
+  unfolding G.postfixTurn
+  postfixTurn-fair o h x = search (laws, arguments-fair, method-fair, expression-fair) depth 12
+
+  postfixes-fair : (o : Option (Reader Tree)) → Each Fair o → (x : Tree) → Fair (postfixes o x)
+  unfolding postfixes
+  postfixes-fair o h x = loop-fair (postfixTurn-fair o h) x
+
+  dateOf-fair : (t : Token) → t .from ≤ n → Fair (dateOf t)
+  unfolding dateOf
+  dateOf-fair t h = search laws depth 12
+
+  aDate-fair : Fair aDate
+  unfolding aDate
+  aDate-fair = search (laws, dateOf-fair)
+
+  df-fair : Fair df
+  unfolding df
+  df-fair = search (laws, aDate-fair, optional-fair) depth 16
+
+  rateIndex-fair : Fair rateIndex
+  unfolding rateIndex
+  rateIndex-fair = search (laws, dateOf-fair) depth 20
+
+  blockTurn-fair : (s : Reader Tree) → Fair s → (ss : Trees) → Fair (G.blockTurn s ss)
+  unfolding G.blockTurn
+  blockTurn-fair s h ss = search laws depth 9
+
+  block-fair : (s : Reader Tree) → Fair s → Fair (block s)
+  unfolding block
+  block-fair s h = search (laws, blockTurn-fair) depth 9
+
+  record InnerFair (i : Inner) : Type 0 where
+    statement : Fair (i .statement)
+    primary : Fair (i .primary)
+
+  ifOver-fair : (i : Inner) → InnerFair i → Fair (ifOver i)
+  unfolding ifOver
+  ifOver-fair i h =
+      next-fair read-fair (then-fair (expression-fair (i .primary) (h .primary)) λ e. then-fair (block-fair (i .statement) (h .statement)) λ ss.
+      ask-fair (is "else") (next-fair read-fair (then-fair (block-fair (i .statement) (h .statement)) λ us. give-fair _)) (give-fair _))
+
+  ended-fair : (p : Reader Tree) → Fair p → Fair (ended p)
+  unfolding ended
+  ended-fair p h = search (laws, expression-fair) depth 9
+
+  each-deep : (o : Option Inner) → Each InnerFair o → Each Fair (deep o)
+  each-deep none nothing = nothing
+  each-deep (some i) (just h) = just (h .primary)
+
+  module _ (W : Words) where
+    currencyOf-fair : (t : Token) → t .from ≤ n → Fair (G.currencyOf W t)
+    unfolding G.currencyOf
+    currencyOf-fair t h = search laws depth 6
+
+    aCurrency-fair : Fair (G.aCurrency W)
+    unfolding G.aCurrency
+    aCurrency-fair = search (laws, currencyOf-fair)
+
+    equity-fair : (t : Token) → Fair (G.equity W t)
+    unfolding G.equity
+    equity-fair t = search (laws, optional-fair, aDate-fair) depth 8
+
+    pair-fair : (c : ℕ) → Fair (G.pair W c)
+    unfolding G.pair
+    pair-fair c = search (laws, optional-fair, aDate-fair, aCurrency-fair) depth 12
+
+    spot-fair : Fair (G.spot W)
+    unfolding G.spot
+    spot-fair = search (laws, equity-fair, pair-fair) depth 14
+
+    cvg-fair : (t : Token) (es : Trees) → t .from ≤ n → Fair (G.cvg W t es)
+    unfolding G.cvg
+    cvg-fair t es h = search laws depth 8
+
+    call-fair : (o : Option (Reader Tree)) → Each Fair o → (t : Token) (c : ℕ × ℕ × ℕ) → t .from ≤ n → Fair (G.call W o t c)
+    unfolding G.call
+    call-fair o h t c k = search (laws, arguments-fair, cvg-fair) depth 8
+
+    named-fair : (t : Token) → t .from ≤ n → Fair (G.named W t)
+    unfolding G.named
+    named-fair t h = search laws depth 6
+
+    name-fair : (o : Option (Reader Tree)) → Each Fair o → (t : Token) → t .from ≤ n → Fair (G.name W o t)
+    unfolding G.name
+    name-fair o h t k = search (laws, call-fair, spot-fair, df-fair, rateIndex-fair, named-fair, postfixes-fair) depth 10
+
+    payTurn-fair : (p : Reader Tree) → Fair p → (es : Trees) → Fair (G.payTurn W p es)
+    unfolding G.payTurn
+    payTurn-fair p h es = search (laws, expression-fair) depth 8
+
+    payments-fair : (p : Reader Tree) → Fair p → Fair (G.payments W p)
+    unfolding G.payments
+    payments-fair p h = loop-fair (payTurn-fair p h) _
+
+    pays-fair : (o : Option (Reader Tree)) → Each Fair o → Fair (G.pays W o)
+    unfolding G.pays
+    pays-fair o h = search (laws, payments-fair, optional-fair, aDate-fair, aCurrency-fair) depth 14
+
+    minus-fair : (o : Option (Reader Tree)) → Each Fair o → (t : Token) → t .from ≤ n → Fair (G.minus W o t)
+    unfolding G.minus
+    minus-fair o h t k = search laws depth 8
+
+    primaryOver-fair : (o : Option (Reader Tree)) → Each Fair o → Fair (G.primaryOver W o)
+    unfolding G.primaryOver
+    primaryOver-fair o h = search (laws, expression-fair, items-fair, postfixes-fair, minus-fair, pays-fair, name-fair) depth 24
+
+    primary-fair : (d : ℕ) → Fair (G.primary W d)
+    unfolding G.primary
+    primary-fair zero = primaryOver-fair none nothing
+    primary-fair (suc d) = primaryOver-fair (some (G.primary W d)) (just (primary-fair d))
+
+    target-fair : Fair (G.target W)
+    unfolding G.target
+    target-fair = search (laws, named-fair) depth 9
+
+    forOver-fair : (i : Inner) → InnerFair i → Fair (G.forOver W i)
+    unfolding G.forOver
+    forOver-fair i h =
+        next-fair read-fair (then-placed (the-placed "name") λ v k. next-fair (named-fair v k) (next-fair (the-fair "in")
+        (then-fair (expression-fair (i .primary) (h .primary)) λ e. then-fair (block-fair (i .statement) (h .statement)) λ ss. give-fair _)))
+
+    paid-fair : (o : Option (Reader Tree)) → Each Fair o → Fair (G.paid W o)
+    unfolding G.paid
+    paid-fair o h = search (laws, pays-fair, optional-fair) depth 9
+
+    assign-fair : (p : Reader Tree) → Fair p → Fair (G.assign W p)
+    unfolding G.assign
+    assign-fair p h = search (laws, target-fair, ended-fair) depth 12
+
+    compound-fair : (p : Reader Tree) → Fair p → Fair (G.compound W p)
+    unfolding G.compound
+    compound-fair p h = search (laws, target-fair, ended-fair) depth 12
+
+    assignPaid-fair : (o : Option (Reader Tree)) → Each Fair o → Fair (G.assignPaid W o)
+    unfolding G.assignPaid
+    assignPaid-fair o h = search (laws, target-fair, paid-fair) depth 12
+
+    nameFirst-fair : (p : Reader Tree) (o : Option (Reader Tree)) → Fair p → Each Fair o → (k : ℕ) → Fair (G.nameFirst W p o k)
+    unfolding G.nameFirst
+    nameFirst-fair p o h g k = search (if-law, assign-fair, compound-fair, assignPaid-fair, ended-fair)
+
+    plain-fair : (p : Reader Tree) (o : Option Inner) → Fair p → Each InnerFair o → Fair (G.plain W p o)
+    unfolding G.plain
+    plain-fair p o h g =
+        then-placed peek-placed λ t k.
+        if-law (is "if" t) (deeper-fair t o k g ifOver-fair)
+        (if-law (is "for" t) (deeper-fair t o k g forOver-fair) (if-law (is "pays" t) (paid-fair (deep o) (each-deep o g)) (ended-fair p h)))
+
+    statementOver-fair : (p : Reader Tree) (o : Option Inner) → Fair p → Each InnerFair o → Fair (G.statementOver W p o)
+    unfolding G.statementOver
+    statementOver-fair p o h g = record { goes = λ ts i. if-law (is "name" (first ts)) (nameFirst-fair p (deep o) h (each-deep o g) (nextKind ts)) (plain-fair p o h g) .goes ts i }
+
+    statement-fair : (d : ℕ) → Fair (G.statement W d)
+    unfolding G.statement
+    statement-fair zero = statementOver-fair (G.primary W zero) none (primary-fair zero) nothing
+    statement-fair (suc d) =
+        statementOver-fair (G.primary W (suc d)) (some (record { statement = G.statement W d; primary = G.primary W d })) (primary-fair (suc d))
+        (just (record { statement = statement-fair d; primary = primary-fair d }))
+
+-- ---- scripts
+
+-- a refusal has one of the grounds 1 to last, no further than the byte n
+abbrev Judged : ℕ → ℕ → Outcome → Type 0
+Judged last n (accepted es) = Unit {0}
+Judged last n (wrong f p) = Ground last n f p
+
+front-judged : (last n : ℕ) (e : Entry) (o : Outcome) → Judged last n o → Judged last n (front e o)
+front-judged last n e (accepted es) h = h
+front-judged last n e (wrong f p) h = h
+
+-- places from the byte s on
+back-inside : (m s : ℕ) (ts : List Token) → Inside m ts → Inside (m - s) (map (back s) ts)
+back-inside m s [] i = tt
+back-inside m s (t ∷ ts) i = (omega (arith, i .0), back-inside m s ts (i .1))
+
+module _ (W : Words) (n : ℕ) where
+  -- what reads on from the byte b, with tokens no further than the byte n of the script
+  abbrev Goes : (ℕ → List Token → Outcome) → Type 0
+  Goes k = (b m : ℕ) (ts : List Token) → Inside m ts → b + m ≤ n → Judged 15 n (k b ts)
+
+  turn-goes : (k : ℕ → List Token → Outcome) → Goes k → Goes (turn W k)
+  unfolding turn onward
+  turn-goes k h b m ts i l = go (is "End" (first ts)) (G.statement W mostDepth (map (back s) ts)) (statement-fair (m - s) W mostDepth .goes (map (back s) ts) (back-inside m s ts i))
+    where
+      s : ℕ
+      s = first ts .from
+
+      near : s ≤ m
+      near = first-inside m ts i
+
+      read-on : (o : Out Tree) → Right (m - s) (λ a. Unit {0}) o → Judged 15 n (onward k (b + s) (map (back s) ts) o)
+      read-on (ok t r) g = front-judged 15 n (entryOf (b + s) (map (back s) ts) t r) (k (b + s) r) (h (b + s) (m - s) r (g .1) (omega (arith, near)))
+      read-on (refused f p) g = record { least = g .least; most = g .most; inside = omega (arith, g .inside, near) }
+
+      go : (e : Bool) (o : Out Tree) → Right (m - s) (λ a. Unit {0}) o → Judged 15 n (if e then accepted [] else onward k (b + s) (map (back s) ts) o)
+      go true o g = tt
+      go false o g = read-on o g
+
+  upTo-goes : (c : ℕ) → Goes (upTo W c)
+  unfolding upTo
+  upTo-goes zero b m ts i l = ground 8 tt (omega arith)
+  upTo-goes (suc c) b m ts i l = turn-goes (λ b′ ts′. upTo W c b′ ts′) (upTo-goes c) b m (skip ts) (skip-inside m ts i) l
+
+-- a text's tokens, and its end, are inside
+sorted-inside : (i j : ℕ) (ts : List Token) → Sorted i j ts → (i ≤ j) × Inside j (ts ++ (final j ∷ []))
+sorted-inside i j [] s = (s, (omega arith, tt))
+sorted-inside i j (t ∷ ts) s = let r = sorted-inside (t .from) j ts (s .2) in (omega (arith, s .0, r .0), (r .0, r .1))
+
+ofTokens-judged : (l : Lists) (bs : List ℕ) → Judged 15 (length bs) (ofTokens l (length bs) (tokens bs))
+unfolding tokens ofTokens statements from
+ofTokens-judged l bs = go (scan 0 0 bs) refl
+  where
+    counted : (b : Bool) (ts : List Token) → Inside (length bs) ts → Judged 15 (length bs) (if b then wrong 7 (length bs) else statements (words l) ts)
+    counted true ts i = ground 7 tt (omega arith)
+    counted false ts i = upTo-goes (words l) (length bs) (suc (length ts)) 0 (length bs) ts i (omega arith)
+
+    go : (o : Lexed) → scan 0 0 bs ≡ o → Judged 15 (length bs) (ofTokens l (length bs) (finished (length bs) o))
+    go (lexed ts) e =
+        let q : Sorted 0 (length bs) ts = subst (λ (j : ℕ). Sorted 0 j ts) (zero-add (length bs)) (scan-sorted 0 0 bs ts e) in
+        counted (ltb mostTokens (count counts (ts ++ (final (length bs) ∷ [])) - 1)) (ts ++ (final (length bs) ∷ [])) (sorted-inside 0 (length bs) ts q .1)
+    go (faulty f p) e = let r = scan-refused 0 0 bs e in record { least = omega (arith, r .0); most = omega (arith, r .1); inside = omega (arith, r .2) }
+
+read-judged : (l : Lists) (bs : List ℕ) → Judged 15 (length (script bs)) (readScript l bs)
+unfolding readScript
+read-judged l bs = go (ltb mostBytes (length (script bs))) (not (goodLists l)) (ofTokens l (length (script bs)) (tokens (script bs))) (ofTokens-judged l (script bs))
+  where
+    go : (t u : Bool) (o : Outcome) → Judged 15 (length (script bs)) o → Judged 15 (length (script bs)) (if t then wrong 1 0 else if u then wrong 2 0 else o)
+    go true u o h = ground 1 tt (omega arith)
+    go false true o h = ground 2 tt (omega arith)
+    go false false o h = h
+
+fitting-judged : (n a b : ℕ) (o : Outcome) → Judged 15 n o → Judged 16 n (fitting n a b o)
+fitting-judged n a b (accepted es) h = go (ltb a (nodes es)) (ltb b (length es))
+  where
+    go : (t u : Bool) → Judged 16 n (if t then wrong 16 n else if u then wrong 16 n else accepted es)
+    go true u = ground 16 tt (omega arith)
+    go false true = ground 16 tt (omega arith)
+    go false false = tt
+fitting-judged n a b (wrong f p) h = record { least = h .least; most = omega (arith, h .most); inside = h .inside }
+
+-- ---- what a refusal is
+
+-- of a script: its number is one of 1 to 15, so never 0, which says that the script is accepted; its byte is one of the script's, or its end
+pub read-refused : (l : Lists) (bs : List ℕ) {f p : ℕ} → readScript l bs ≡ wrong f p → Ground 15 (length (script bs)) f p
+read-refused l bs e = subst (Judged 15 (length (script bs))) e (read-judged l bs)
+
+-- of a script with room for so many records and statements: 16 as well
+pub reading-refused : (l : Lists) (maxNodes maxEntries : ℕ) (bs : List ℕ) {f p : ℕ} → reading l maxNodes maxEntries bs ≡ wrong f p → Ground 16 (length (script bs)) f p
+unfolding reading
+reading-refused l maxNodes maxEntries bs e =
+    subst (Judged 16 (length (script bs))) e (fitting-judged (length (script bs)) maxNodes maxEntries (readScript l bs) (read-judged l bs))
