@@ -16,6 +16,7 @@ use Rattle.grammar.specs.Script.{Entry, Outcome, accepted, refused, nodes, word
 use Rattle.grammar.proofs.AmendBytes.{Text, Cut, cut-at, Accepted, read-accepted, append-every, script-noZero, read-script}
 use Rattle.amending.specs.Amend.{endsWell, replaced, between, amendedList}
 use Rattle.amending.specs.Amending.{State, Rooms, Good, over}
+use Rattle.amending.specs.Kept.{textsOf}
 use Rattle.amending.proofs.AmendLaw.{replaced-noZero, amend-law}
 use Rattle.amending.proofs.AmendingLaws.{Within, within}
 
@@ -62,10 +63,6 @@ good-order l R st G = read-order l (st .script) (st .entries) (G .clear) (G .rea
 
 -- ---- the bytes of the statements
 
-abbrev pub texts : List ℕ → List Entry → List (List ℕ)
-texts s [] = []
-texts s (e ∷ es) = slice (e .start) (e .end) s ∷ texts s es
-
 order-le : (i j : ℕ) (es : List Entry) → InOrder i j es → i ≤ j
 order-le i j [] h = h
 order-le i j (e ∷ es) h = omega (arith, h .0, h .1, order-le (e .end) j es (h .3))
@@ -78,7 +75,7 @@ order-behind : (i j : ℕ) (es : List Entry) (e : Entry) (es′ : List Entry) �
 order-behind i j [] e es′ h = h .3
 order-behind i j (x ∷ es) e es′ h = order-behind (x .end) j es e es′ (h .3)
 
-pub texts-append : (s : List ℕ) (x y : List Entry) → texts s (x ++ y) ≡ texts s x ++ texts s y
+pub texts-append : (s : List ℕ) (x y : List Entry) → textsOf s (x ++ y) ≡ textsOf s x ++ textsOf s y
 texts-append s [] y = refl
 texts-append s (e ∷ x) y = ap {B = List (List ℕ)} (λ l. slice (e .start) (e .end) s ∷ l) (texts-append s x y)
 
@@ -87,7 +84,7 @@ slice-before : (f t a : ℕ) (s q : List ℕ) → t ≤ a → a ≤ length s →
 slice-before f t a s q h k =
     ap (drop f) (take-append-le t (take a s) q (omega (arith, length-take-le a s k)) ∙ take-take t a s h)
 
-texts-before : (i a : ℕ) (s q : List ℕ) (es : List Entry) → a ≤ length s → InOrder i a es → texts (take a s ++ q) es ≡ texts s es
+texts-before : (i a : ℕ) (s q : List ℕ) (es : List Entry) → a ≤ length s → InOrder i a es → textsOf (take a s ++ q) es ≡ textsOf s es
 texts-before i a s q [] k h = refl
 texts-before i a s q (e ∷ es) k h =
     λ j. slice-before (e .start) (e .end) a s q (order-le (e .end) a es (h .3)) k j ∷ texts-before (e .end) a s q es k (h .3) j
@@ -99,7 +96,7 @@ slice-behind f t p z = ap (drop (length p + f)) (take-append-add p z t) ∙ drop
 slice-part : (f t : ℕ) (n z : List ℕ) → t ≤ length n → slice f t (n ++ z) ≡ slice f t n
 slice-part f t n z h = ap (drop f) (take-append-le t n z h)
 
-texts-middle : (i a : ℕ) (p n z : List ℕ) (es : List Entry) → length p ≡ a → InOrder i (length n) es → texts (p ++ (n ++ z)) (map (movedEntry a) es) ≡ texts n es
+texts-middle : (i a : ℕ) (p n z : List ℕ) (es : List Entry) → length p ≡ a → InOrder i (length n) es → textsOf (p ++ (n ++ z)) (map (movedEntry a) es) ≡ textsOf n es
 texts-middle i a p n z [] k h = refl
 texts-middle i a p n z (e ∷ es) k h =
     let x : e .start + a ≡ length p + e .start = omega arith in
@@ -114,7 +111,7 @@ slice-rest f t b s h =
     sym (ap (drop (b + f)) (take-add b t s) ∙ ap (λ (i : ℕ). drop (i + f) (take b s ++ take t (drop b s))) (sym k) ∙ drop-append-add (take b s) (take t (drop b s)) f)
 
 texts-behind : (i j a n b : ℕ) (p s : List ℕ) (es : List Entry) → length p ≡ a + n → a ≤ b → b ≤ length s → b ≤ i → InOrder i j es
-    → texts (p ++ drop b s) (map (between n (b - a)) es) ≡ texts s es
+    → textsOf (p ++ drop b s) (map (between n (b - a)) es) ≡ textsOf s es
 texts-behind i j a n b p s [] k l m o h = refl
 texts-behind i j a n b p s (e ∷ es) k l m o h =
     let x : e .start + n - (b - a) ≡ length p + (e .start - b) = omega (arith, h .0) in
@@ -127,21 +124,21 @@ texts-behind i j a n b p s (e ∷ es) k l m o h =
 
 -- the statements that are kept have the same bytes, and the new ones have those of the new text
 pub texts-amended : (W : Words) (s n : List ℕ) (es : List Entry) (e : Entry) (es′ ns : List Entry) → Text W s (es ++ (e ∷ es′)) → Text W n ns
-    → texts (replaced s e n) (amendedList es e es′ (length n) ns) ≡ texts s es ++ (texts n ns ++ texts s es′)
+    → textsOf (replaced s e n) (amendedList es e es′ (length n) ns) ≡ textsOf s es ++ (textsOf n ns ++ textsOf s es′)
 texts-amended W s n es e es′ ns X Y =
     let C : Cut W s es e es′ = cut-at W es e es′ X in
     let O : InOrder 0 (length s) (es ++ (e ∷ es′)) = text-order W s (es ++ (e ∷ es′)) X in
     let a : length (take (e .start) s) ≡ e .start = length-take-le (e .start) s (omega (arith, C .order, C .inside)) in
     let g : replaced s e n ≡ take (e .start) s ++ (n ++ drop (e .end) s) = append-assoc (take (e .start) s) n (drop (e .end) s) in
-    let b : texts (replaced s e n) es ≡ texts s es
-    = ap (λ (l : List ℕ). texts l es) g ∙ texts-before 0 (e .start) s (n ++ drop (e .end) s) es (omega (arith, C .order, C .inside)) (order-before 0 (length s) es e es′ O) in
-    let c : texts (replaced s e n) (map (movedEntry (e .start)) ns) ≡ texts n ns
-    = ap (λ (l : List ℕ). texts l (map (movedEntry (e .start)) ns)) g ∙ texts-middle 0 (e .start) (take (e .start) s) n (drop (e .end) s) ns a (text-order W n ns Y) in
-    let d : texts (replaced s e n) (map (between (length n) (e .end - e .start)) es′) ≡ texts s es′
+    let b : textsOf (replaced s e n) es ≡ textsOf s es
+    = ap (λ (l : List ℕ). textsOf l es) g ∙ texts-before 0 (e .start) s (n ++ drop (e .end) s) es (omega (arith, C .order, C .inside)) (order-before 0 (length s) es e es′ O) in
+    let c : textsOf (replaced s e n) (map (movedEntry (e .start)) ns) ≡ textsOf n ns
+    = ap (λ (l : List ℕ). textsOf l (map (movedEntry (e .start)) ns)) g ∙ texts-middle 0 (e .start) (take (e .start) s) n (drop (e .end) s) ns a (text-order W n ns Y) in
+    let d : textsOf (replaced s e n) (map (between (length n) (e .end - e .start)) es′) ≡ textsOf s es′
     = texts-behind (e .end) (length s) (e .start) (length n) (e .end) (take (e .start) s ++ n) s es′ (omega (arith, length-append (take (e .start) s) n)) (omega (arith, C .order)) (C .inside) (omega arith)
     (order-behind 0 (length s) es e es′ O) in
     texts-append (replaced s e n) es (map (movedEntry (e .start)) ns ++ map (between (length n) (e .end - e .start)) es′)
-    ∙ ap (λ (x : List (List ℕ)). texts (replaced s e n) es ++ x) (texts-append (replaced s e n) (map (movedEntry (e .start)) ns) (map (between (length n) (e .end - e .start)) es′))
+    ∙ ap (λ (x : List (List ℕ)). textsOf (replaced s e n) es ++ x) (texts-append (replaced s e n) (map (movedEntry (e .start)) ns) (map (between (length n) (e .end - e .start)) es′))
     ∙ (λ i. b i ++ (c i ++ d i))
 
 -- ---- the state that a reading leaves

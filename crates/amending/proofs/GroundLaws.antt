@@ -85,7 +85,7 @@ module _ (R : Rooms) (b : ℕ) (rs : List Row) (h : Held) (p : h .bytes ≡ b) (
       let a₄ : ltb (R .statements) (length rs) ≡ false = le-ltb (R .statements) (length rs) (omega (arith, w .statements, s)) in
       rw (a₁, a₂, a₃, a₄)
 
-  over-are : overRows R b rs ≡ false → Within R h
+  pub over-are : overRows R b rs ≡ false → Within R h
   unfolding overRows
   over-are f =
       let f₁ = neither (ltb (R .bytes) b) _ f in

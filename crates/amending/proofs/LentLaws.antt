@@ -50,7 +50,7 @@ rows-between : (a b : ℕ) (x : List Entry) → map rowOf (map (between a b) x) 
 rows-between a b [] = refl
 rows-between a b (e ∷ x) = ap {B = List Row} (λ l. rowOf (between a b e) ∷ l) (rows-between a b x)
 
-abbrev rowPick : Pick Entry → Pick Row
+abbrev pub rowPick : Pick Entry → Pick Row
 rowPick p = record { before = map rowOf (p .before); one = rowOf (p .one); behind = map rowOf (p .behind) }
 
 rows-amended : (p : Pick Entry) (n : ℕ) (ns : List Entry) → map rowOf (amendedList (p .before) (p .one) (p .behind) n ns) ≡ swappedRows (rowPick p) n (map rowOf ns)
@@ -59,11 +59,11 @@ rows-amended p n ns =
     ∙ ap (λ (x : List Row). map rowOf (p .before) ++ x) (map-rows (map (movedEntry (p .one .start)) ns) (map (between n (p .one .end - p .one .start)) (p .behind))
     ∙ (λ i. rows-moved (p .one .start) ns i ++ rows-between n (p .one .end - p .one .start) (p .behind) i))
 
-abbrev pickRow : Option (Pick Entry) → Option (Pick Row)
+abbrev pub pickRow : Option (Pick Entry) → Option (Pick Row)
 pickRow none = none
 pickRow (some p) = some (rowPick p)
 
-pick-rows : (k : ℕ) (es : List Entry) → pick k (map rowOf es) ≡ pickRow (pick k es)
+pub pick-rows : (k : ℕ) (es : List Entry) → pick k (map rowOf es) ≡ pickRow (pick k es)
 unfolding pick
 pick-rows k [] = refl
 pick-rows zero (e ∷ es) = refl

@@ -15,5 +15,9 @@ pub mod GroundLaws
 pub mod DirectoryWords
 pub mod ReplaceLaws
 pub mod StateLaws
+pub mod Rereading
+pub mod Slices
+pub mod AmendAnswers
+pub mod KeptLaws
 pub mod Certain
 pub mod WrongAmenders

@@ -7,3 +7,4 @@ pub mod Entries
 pub mod Memory
 pub mod Grounds
 pub mod States
+pub mod Kept

@@ -1,8 +1,10 @@
 -- What is said of memory that a reading or amendments left, and of any number of calls on it.
 use mathlib.Core.Path.{_≡_}
 use mathlib.Core.List.{List, [], _∷_}
-use Prim.Native.Nat.{ℕ}
+use Prim.Native.Nat.{ℕ, _*_}
+use lib.ListN.{take}
 use Rattle.tokens.specs.Names.{Lists}
+use Rattle.grammar.specs.Sizes.{recordWidth, entryWidth}
 use Rattle.reading.specs.declared.reading.Answer.{Answer}
 use Rattle.amending.specs.Amending.{State, Good}
 use Rattle.amending.specs.Lent.{lentOf}
@@ -18,6 +20,12 @@ pub record Holds (l : Lists) (M : Memory) (h : Held) (st : State) : Type 0 where
   pub good : Good l (roomsIn M) st
   pub used : usedIn M h ≡ lentOf st
   pub counts : h ≡ heldBy (lentOf st)
+
+-- N begins with the bytes and words that are used of M, of which h says how many: M lent in other slices, longer or shorter ones
+pub record Begins (h : Held) (M N : Memory) : Type 0 where
+  pub script : take (h .bytes) (N .script) ≡ take (h .bytes) (M .script)
+  pub records : take (recordWidth * h .records) (N .records) ≡ take (recordWidth * h .records) (M .records)
+  pub directory : take (entryWidth * h .statements) (N .directory) ≡ take (entryWidth * h .statements) (M .directory)
 
 -- calls one after the other, each with the counts that the one before it answered; refused ones among them
 pub data Calls (l : Lists) : Memory → Held → List (ℕ × List ℕ) → Memory → Held → Type 0 where

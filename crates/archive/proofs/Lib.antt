@@ -1,2 +1,2 @@
 -- Laws of the exported calls.
-pub mod CallLaws
+pub mod Linked

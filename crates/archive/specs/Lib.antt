@@ -1,2 +1,2 @@
 -- What the exported calls leave in the words that are lent for their answers.
-pub mod Calls
+pub mod Exports

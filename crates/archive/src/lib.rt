@@ -10,7 +10,7 @@ ghost use Prim.Native.Nat.{_%_, _^_};
 ghost use Rattle.reading.specs.Judging.{listsIn};
 ghost use Rattle.reading.specs.Parts.{partNamed, placed};
 ghost use Rattle.amending.specs.Memory.{memory};
-ghost use Rattle.archive.specs.Calls.{word, answerWords, heldIn, placeWords, Reads, Replaces};
+ghost use Rattle.archive.specs.Exports.{word, answerWords, heldIn, placeWords, Reads, Replaces};
 
 // Reads a script into records and directory.
 #[no_mangle]

@@ -13,6 +13,7 @@ pub mod BodyLaws
 pub mod WholeLaws
 pub mod JudgeLaws
 pub mod ReadLaws
+pub mod ReadAnswers
 pub mod WrongReaders
 pub mod PartLaws
 pub mod PartExamples

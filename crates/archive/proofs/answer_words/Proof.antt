@@ -1,5 +1,5 @@
 -- Each number is the low word of its field.
-use Rattle.archive.specs.Calls.{answerWords}
+use Rattle.archive.specs.Exports.{answerWords}
 use borrow.Author.Needs.{needs}
 use Rattle.archive.proofs.answer_words.Statement.{statement}
 use Rattle.archive.proofs.answer_words.Tie as tie

@@ -1,5 +1,5 @@
 -- The last four words, wide.
-use Rattle.archive.specs.Calls.{heldIn}
+use Rattle.archive.specs.Exports.{heldIn}
 use borrow.Author.Needs.{needs}
 use Rattle.archive.proofs.held_in.Statement.{statement}
 use Rattle.archive.proofs.held_in.Tie as tie

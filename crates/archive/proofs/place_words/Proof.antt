@@ -2,7 +2,7 @@
 use mathlib.Core.Path.{_≡_, refl}
 use mathlib.Core.Bool.{Bool, true, false, cond}
 use mir.Val.{boolByte}
-use Rattle.archive.specs.Calls.{placeWords}
+use Rattle.archive.specs.Exports.{placeWords}
 use borrow.Author.Needs.{needs}
 use Rattle.archive.proofs.place_words.Statement.{statement}
 use Rattle.archive.proofs.place_words.Tie as tie

@@ -1,6 +1,6 @@
 -- The place of the lookup, in words.
 use mathlib.Core.Path.{ap, _∙_}
-use Rattle.archive.specs.Calls.{placeWords}
+use Rattle.archive.specs.Exports.{placeWords}
 use borrow.Author.Needs.{needs}
 use Rattle.archive.proofs.script_part.Statement.{statement}
 use Rattle.archive.proofs.script_part.Tie as tie

@@ -1,8 +1,8 @@
--- Answers and places as words of 32 bits, and what each call leaves of all that it is lent.
+-- Answers and places as words of 32 bits, and what each exported call leaves of all that it is lent.
 use mathlib.Core.Path.{_≡_}
 use mathlib.Core.Bool.{cond}
 use mathlib.Core.List.{List, [], _∷_}
-use Prim.Native.Nat.{ℕ, _%_, _^_}
+use Prim.Native.Nat.{ℕ, _%_, _^_, _<_}
 use lib.ListN.{getD}
 use Rattle.tokens.specs.Names.{Lists}
 use Rattle.reading.specs.Reading.{Leaves}
@@ -11,7 +11,7 @@ use Rattle.reading.specs.declared.parts.Place.{Place}
 use Rattle.amending.specs.Memory.{Memory, Amends}
 use Rattle.amending.specs.declared.held.Held.{Held}
 
--- the low word of a number. No count of a state is lost by it (`CallLaws.reads-hold`, `CallLaws.replaces-hold`)
+-- the low word of a number. No number of an answer is lost by it (`Linked.read-words`, `Linked.amend-words`)
 abbrev pub word : ℕ → ℕ
 word n = n % 2 ^ 32
 
@@ -19,6 +19,10 @@ word n = n % 2 ^ 32
 unfoldable pub answerWords : Answer → List ℕ
 answerWords a =
     a .number ∷ word (a .byte) ∷ word (a .line) ∷ word (a .column) ∷ word (a .bytes) ∷ word (a .statements) ∷ word (a .records) ∷ word (a .tokens) ∷ []
+
+-- the number of an answer: 0 where the call was accepted
+abbrev pub numberIn : List ℕ → ℕ
+numberIn ws = getD ws 0 0
 
 -- how much of the memory is used: the last four words of an answer
 unfoldable pub heldIn : List ℕ → Held
@@ -39,3 +43,18 @@ pub record Replaces (l : Lists) (M : Memory) (vs : List ℕ) (k : ℕ) (n ws : L
   pub answer : Answer
   pub amends : Amends l M (heldIn vs) k n answer M′
   pub words : ws ≡ answerWords answer
+
+-- ---- what is said of calls
+
+-- words of 32 bits, as those of a lent array are
+abbrev pub AreWords : List ℕ → Type 0
+AreWords vs = (i : ℕ) → getD vs i 0 < 2 ^ 32
+
+-- the numbers of an answer, whole
+abbrev pub numbers : Answer → List ℕ
+numbers a = a .number ∷ a .byte ∷ a .line ∷ a .column ∷ a .bytes ∷ a .statements ∷ a .records ∷ a .tokens ∷ []
+
+-- calls of `script_amend` one after the other, each lent the words that the one before it answered; refused ones among them
+pub data Runs (l : Lists) : Memory → List ℕ → List (ℕ × List ℕ) → Memory → List ℕ → Type 0 where
+  none : {M : Memory} {vs : List ℕ} → Runs l M vs [] M vs
+  call : {M M₁ M₂ : Memory} {vs ws xs n : List ℕ} {k : ℕ} {cs : List (ℕ × List ℕ)} → Replaces l M vs k n ws M₁ → Runs l M₁ ws cs M₂ xs → Runs l M vs ((k, n) ∷ cs) M₂ xs

@@ -1,0 +1,161 @@
+-- What a caller sees of an amendment, on any memory: the number 0 is acceptance and nothing else; a refusal's number lies in 1 to 20, its place in the new text,
+-- and it has changed nothing; every number of an answer is small.
+use mathlib.Core.Path.{_≡_, refl, ap, _∙_, subst}
+use mathlib.Core.Bool.{Bool, true, false, not}
+use mathlib.Core.List.{List}
+use mathlib.Core.Option.{Option, none, some}
+use Prim.Native.Nat.{ℕ, suc, _≤_, min}
+use native.Mathlib.Omega.{arith}
+use lib.Dec.{T}
+use lib.ListN.{length}
+use Rattle.tokens.specs.Limits.{mostBytes, mostTokens}
+use Rattle.tokens.specs.Text.{if_then_else_}
+use Rattle.tokens.specs.Names.{Lists}
+use Rattle.tokens.proofs.PlaceLaws.{line-within, column-within}
+use Rattle.grammar.specs.Sizes.{mostRecords, mostStatements}
+use Rattle.grammar.specs.Script.{Outcome, accepted, refused, readScript, noZero}
+use Rattle.grammar.specs.Words.{Row}
+use Rattle.grammar.proofs.AmendBytes.{read-accepted, script-all}
+use Rattle.grammar.proofs.Refusals.{Ground, read-refused}
+use Rattle.reading.specs.declared.reading.Answer.{Answer}
+use Rattle.reading.proofs.ReadAnswers.{read-short}
+use Rattle.amending.specs.Amend.{endsWell}
+use Rattle.amending.specs.Amending.{State, Rooms, Pick, pick, Answer as Result, done, refusal, amend}
+use Rattle.amending.specs.Lent.{Lent, Handed, handed, unchanged, overRows, inOrder, swapped, fittingLent, putLent, lentAt, amendLent, given}
+use Rattle.amending.specs.Memory.{Memory, roomsIn, usedIn, within, amendIn, heldBy, answered, leftIn, Amends}
+use Rattle.amending.specs.States.{heldOf, Holds}
+use Rattle.amending.specs.declared.held.Held.{Held}
+use Rattle.amending.proofs.GroundLaws.{Within, over-are, bounded}
+use Rattle.amending.proofs.StateLaws.{call-is}
+
+-- ---- what a call comes to
+
+-- accepted: what is used then is within the rooms; refused: one of 1 to 20, at a byte of the new text n that is one of a script
+abbrev Told : Rooms → List ℕ → Handed → Type 0
+Told R n (handed L) = Within R (heldBy L)
+Told R n (unchanged f p) = Ground 20 (min mostBytes (length n)) f p
+
+module _ (l : Lists) (n : List ℕ) (R : Rooms) where
+  -- 17, 19 and 20 are at the text's first byte
+  at-first : (f : ℕ) → 1 ≤ f → f ≤ 20 → Told R n (unchanged f 0)
+  at-first f a b = record { least = a; most = b; inside = omega arith }
+
+  module _ (L : Lent) where
+    put-told : (p : Pick Row) → T (noZero n) → (x : Outcome) → readScript l n ≡ x → Told R n (putLent l R L p n x)
+    unfolding putLent fittingLent swapped
+    put-told p z (refused f q) e =
+        let G = read-refused l n e in
+        record { least = G .least; most = omega (arith, G .most); inside = omega (arith, G .inside, ap length (script-all n z), read-short l n e) }
+    put-told p z (accepted ns) e = go (endsWell n) (overRows R (length (S .script)) (S .rows)) refl
+      where
+        S : Lent
+        S = swapped L p n ns
+
+        -- 16 and 18 are at its end
+        at-end : (f : ℕ) → 1 ≤ f → f ≤ 20 → Told R n (unchanged f (length n))
+        at-end f a b = record { least = a; most = b; inside = omega (arith, read-accepted l n ns z e .short) }
+
+        go : (s t : Bool) → overRows R (length (S .script)) (S .rows) ≡ t → Told R n (if not s then unchanged 18 (length n) else if t then unchanged 16 (length n) else handed S)
+        go false t o = at-end 18 (omega arith) (omega arith)
+        go true true o = at-end 16 (omega arith) (omega arith)
+        go true false o = over-are R (length (S .script)) (S .rows) (heldBy S) refl refl refl refl o
+
+    lent-told : (k : ℕ) → Told R n (amendLent l R L k n)
+    unfolding amendLent lentAt
+    lent-told k = ordered (inOrder R L)
+      where
+        clear : (p : Pick Row) (t : Bool) → noZero n ≡ t → Told R n (if not t then unchanged 19 0 else putLent l R L p n (readScript l n))
+        clear p false z = at-first 19 (omega arith) (omega arith)
+        clear p true z = put-told p (rw z tt) (readScript l n) refl
+
+        there : (o : Option (Pick Row)) → Told R n (lentAt l R L n o)
+        there none = at-first 17 (omega arith) (omega arith)
+        there (some p) = clear p (noZero n) refl
+
+        ordered : (t : Bool) → Told R n (if not t then unchanged 20 0 else lentAt l R L n (pick k (L .rows)))
+        ordered false = at-first 20 (omega arith) (omega arith)
+        ordered true = there (pick k (L .rows))
+
+call-told : (l : Lists) (M : Memory) (h : Held) (k : ℕ) (n : List ℕ) → Told (roomsIn M) n (amendIn l M h k n)
+unfolding amendIn
+call-told l M h k n = go (within (roomsIn M) h)
+  where
+    go : (t : Bool) → Told (roomsIn M) n (if not t then unchanged 20 0 else amendLent l (roomsIn M) (usedIn M h) k n)
+    go false = at-first l n (roomsIn M) 20 (omega arith) (omega arith)
+    go true = lent-told l n (roomsIn M) (usedIn M h) k
+
+-- ---- what the answer tells
+
+module _ {l : Lists} {M M′ : Memory} {h : Held} {k : ℕ} {n : List ℕ} {r : Answer} (A : Amends l M h k n r M′) where
+  is : (x : Handed) → amendIn l M h k n ≡ x → (r ≡ answered h n x) × Told (roomsIn M) n x
+  is x e = (A .answer ∙ ap (answered h n) e, subst (Told (roomsIn M) n) e (call-told l M h k n))
+
+  -- the number 0 is acceptance, and nothing else
+  pub accepted-is : r .number ≡ 0 → (L : Lent) × (amendIn l M h k n ≡ handed L)
+  accepted-is z = go (amendIn l M h k n) refl
+    where
+      go : (x : Handed) → amendIn l M h k n ≡ x → (L : Lent) × (amendIn l M h k n ≡ handed L)
+      go (handed L) e = (L, e)
+      go (unchanged f p) e = let T = is (unchanged f p) e in absurd (omega (arith, ap (λ (a : Answer). a .number) (T .0), z, T .1 .least))
+
+  -- on memory that holds a state: the amendment of the state is made
+  pub done-seen : {st : State} → Holds l M h st → r .number ≡ 0 → (st′ : State) × (amend l (roomsIn M) st k n ≡ done st′)
+  done-seen {st} H z = go (amend l (roomsIn M) st k n) refl
+    where
+      go : (o : Result) → amend l (roomsIn M) st k n ≡ o → (st′ : State) × (amend l (roomsIn M) st k n ≡ done st′)
+      go (done st′) e = (st′, e)
+      go (refusal f p) e =
+          let T = is (unchanged f p) (call-is l M h st H k n ∙ ap given e) in
+          absurd (omega (arith, ap (λ (a : Answer). a .number) (T .0), z, T .1 .least))
+
+  -- a refusal has one of the numbers 1 to 20
+  pub number-known : r .number ≤ 20
+  number-known = go (amendIn l M h k n) refl
+    where
+      go : (x : Handed) → amendIn l M h k n ≡ x → r .number ≤ 20
+      go (handed L) e = omega (arith, ap (λ (a : Answer). a .number) (is (handed L) e .0))
+      go (unchanged f p) e = let T = is (unchanged f p) e in omega (arith, ap (λ (a : Answer). a .number) (T .0), T .1 .most)
+
+  -- its byte is inside the new text, and it, its line and its column are small
+  pub byte-inside : r .byte ≤ length n
+  byte-inside = go (amendIn l M h k n) refl
+    where
+      go : (x : Handed) → amendIn l M h k n ≡ x → r .byte ≤ length n
+      go (handed L) e = omega (arith, ap (λ (a : Answer). a .byte) (is (handed L) e .0))
+      go (unchanged f p) e = let T = is (unchanged f p) e in omega (arith, ap (λ (a : Answer). a .byte) (T .0), T .1 .inside)
+
+  pub place-small : (r .byte ≤ mostBytes) × (r .line ≤ suc mostBytes) × (r .column ≤ suc mostBytes)
+  place-small = go (amendIn l M h k n) refl
+    where
+      go : (x : Handed) → amendIn l M h k n ≡ x → (r .byte ≤ mostBytes) × (r .line ≤ suc mostBytes) × (r .column ≤ suc mostBytes)
+      go (handed L) e =
+          let a = is (handed L) e .0 in
+          (omega (arith, ap (λ (a : Answer). a .byte) a), omega (arith, ap (λ (a : Answer). a .line) a), omega (arith, ap (λ (a : Answer). a .column) a))
+      go (unchanged f p) e =
+          let a = is (unchanged f p) e .0 in
+          let s : p ≤ mostBytes = omega (arith, is (unchanged f p) e .1 .inside) in (
+            omega (arith, ap (λ (a : Answer). a .byte) a),
+            omega (arith, ap (λ (a : Answer). a .line) a, line-within n p),
+            omega (arith, ap (λ (a : Answer). a .column) a, column-within n p),
+          )
+
+  -- the counts of an acceptance are within the capacities
+  pub counts-small : r .number ≡ 0 → (r .bytes ≤ mostBytes) × (r .statements ≤ mostStatements) × (r .records ≤ mostRecords) × (r .tokens ≤ mostTokens)
+  counts-small z =
+      let L = accepted-is z in
+      let T = is (handed (L .0)) (L .1) in
+      let b = bounded M (heldBy (L .0)) (T .1) in
+      let c : heldOf r ≡ heldBy (L .0) = ap heldOf (T .0) in (
+        omega (arith, b .0, ap (λ (x : Held). x .bytes) c),
+        omega (arith, b .1, ap (λ (x : Held). x .statements) c),
+        omega (arith, b .2, ap (λ (x : Held). x .records) c),
+        omega (arith, b .3, ap (λ (x : Held). x .tokens) c),
+      )
+
+  -- a refusal changes no lent memory, every byte and word of it, and its counts are the old ones
+  pub refused-keeps : (r .number ≡ 0 → ⊥) → (M′ ≡ M) × (heldOf r ≡ h)
+  refused-keeps z = go (amendIn l M h k n) refl
+    where
+      go : (x : Handed) → amendIn l M h k n ≡ x → (M′ ≡ M) × (heldOf r ≡ h)
+      go (handed L) e = absurd (z (ap (λ (a : Answer). a .number) (is (handed L) e .0)))
+      go (unchanged f p) e = (A .memory ∙ ap (leftIn M h) e, ap heldOf (is (unchanged f p) e .0))

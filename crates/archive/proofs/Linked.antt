@@ -1,0 +1,208 @@
+-- WHAT IS CERTAIN OF THE CALLS THAT C AND RUST LINK, on one page: what `Certain` says, of the words that a caller lends and sees. `Reads` is the contract of `script_read`,
+-- `Replaces` that of `script_amend`; both hold of the code, for all input. Of eight words ws, `numberIn ws` is the first, 0 where a call was accepted, and `heldIn ws` are the
+-- last four: how much of the memory is used. What is assumed is what `Certain` assumes, where `Holds` is named, and nothing else; that lent words are words is `AreWords`.
+use mathlib.Core.Path.{_≡_, refl, sym, ap, _∙_, subst}
+use mathlib.Core.Bool.{Bool, true, false, cond}
+use mathlib.Core.List.{List, [], _∷_}
+use Prim.Native.Nat.{ℕ, zero, suc, _+_, _*_, _<_, _≤_}
+use native.Mathlib.Omega.{arith}
+use lib.ListN.{length, take}
+use Rattle.tokens.specs.Limits.{mostBytes}
+use Rattle.tokens.specs.Text.{script}
+use Rattle.tokens.specs.Names.{Lists}
+use Rattle.grammar.specs.Sizes.{recordWidth, entryWidth}
+use Rattle.grammar.specs.Script.{Entry, accepted}
+use Rattle.reading.specs.Reading.{readInto}
+use Rattle.reading.specs.Parts.{partNamed, placed}
+use Rattle.reading.specs.declared.reading.Answer.{Answer}
+use Rattle.reading.specs.declared.parts.Place.{Place}
+use Rattle.reading.proofs.ReadLaws.{leaves-same}
+use Rattle.reading.proofs.PartLaws.{ends-in-script, ends-in-list}
+use Rattle.reading.proofs.ReadAnswers as read
+use Rattle.amending.specs.Amending.{State, Rooms, amend, left, after}
+use Rattle.amending.specs.Lent.{given}
+use Rattle.amending.specs.Memory.{Memory, memory, roomsIn, answered}
+use Rattle.amending.specs.States.{heldOf, Holds, Begins}
+use Rattle.amending.specs.Kept.{KeepsRecords, KeepsTexts, KeepsBytes}
+use Rattle.amending.specs.declared.held.Held.{Held}
+use Rattle.amending.proofs.AmendAnswers as amended
+use Rattle.amending.proofs.GroundLaws.{bounded}
+use Rattle.amending.proofs.StateLaws.{held-within, call-holds}
+use Rattle.amending.proofs.Certain as certain
+use Rattle.archive.specs.Exports.{word, answerWords, numberIn, heldIn, placeWords, Reads, Replaces, AreWords, numbers, Runs, none as no-calls, call}
+
+-- ---- two outcomes of one call coincide
+
+pub reads-same : {l : Lists} {bs o d w₁ w₂ o₁ o₂ d₁ d₂ : List ℕ} → Reads l bs o d w₁ o₁ d₁ → Reads l bs o d w₂ o₂ d₂ → (w₁ ≡ w₂) × (o₁ ≡ o₂) × (d₁ ≡ d₂)
+reads-same x y =
+    let same = leaves-same (x .leaves) (y .leaves) in
+    (x .words ∙ ap answerWords (same .0) ∙ sym (y .words), same .1, same .2)
+
+pub replaces-same : {l : Lists} {M M₁ M₂ : Memory} {vs n w₁ w₂ : List ℕ} {k : ℕ} → Replaces l M vs k n w₁ M₁ → Replaces l M vs k n w₂ M₂ → (w₁ ≡ w₂) × (M₁ ≡ M₂)
+replaces-same {l} x y =
+    let same = certain.amends-same l (x .amends) (y .amends) in
+    (x .words ∙ ap answerWords (same .0) ∙ sym (y .words), same .1)
+
+-- ---- no number is lost in the words of an answer
+
+low : (n : ℕ) → n < 4294967296 → word n ≡ n
+low n h = omega (arith, h)
+
+-- counts, and all numbers of an answer, that are words
+record Few (h : Held) : Type 0 where
+  bytes : h .bytes < 4294967296
+  statements : h .statements < 4294967296
+  records : h .records < 4294967296
+  tokens : h .tokens < 4294967296
+
+placed-small : (a : Answer) → (a .byte ≤ mostBytes) × (a .line ≤ suc mostBytes) × (a .column ≤ suc mostBytes) → Few (heldOf a) → answerWords a ≡ numbers a
+unfolding answerWords
+placed-small a p f =
+    λ i. a .number ∷ low (a .byte) (omega (arith, p .0)) i ∷ low (a .line) (omega (arith, p .1)) i ∷ low (a .column) (omega (arith, p .2)) i
+    ∷ low (a .bytes) (f .bytes) i ∷ low (a .statements) (f .statements) i ∷ low (a .records) (f .records) i ∷ low (a .tokens) (f .tokens) i ∷ []
+
+held-numbers : (a : Answer) → heldIn (numbers a) ≡ heldOf a
+unfolding heldIn
+held-numbers a = refl
+
+words-few : (vs : List ℕ) → AreWords vs → Few (heldIn vs)
+unfolding heldIn
+words-few vs W = record { bytes = omega (arith, W 4); statements = omega (arith, W 5); records = omega (arith, W 6); tokens = omega (arith, W 7) }
+
+module _ (l : Lists) where
+  holds-few : {M : Memory} {h : Held} {st : State} → Holds l M h st → Few h
+  holds-few {M} {h} {st} H =
+      let b = bounded M h (held-within l M h st H) in
+      record { bytes = omega (arith, b .0); statements = omega (arith, b .1); records = omega (arith, b .2); tokens = omega (arith, b .3) }
+
+  -- ---- `script_read`
+
+  module _ {bs o d ws o′ d′ : List ℕ} (X : Reads l bs o d ws o′ d′) where
+    read-few : Few (heldOf (X .answer))
+    read-few = go (X .answer .number) refl
+      where
+        go : (f : ℕ) → X .answer .number ≡ f → Few (heldOf (X .answer))
+        go zero e = holds-few (certain.read-holds l (X .leaves) e .2)
+        go (suc f) e =
+            let c = read.refused-keeps (X .leaves) (λ z. omega (arith, e, z)) .2 in
+            record { bytes = omega (arith, c .0); statements = omega (arith, c .1); records = omega (arith, c .2); tokens = omega (arith, c .3) }
+
+    -- the eight words are the numbers of the answer
+    pub read-words : ws ≡ numbers (X .answer)
+    read-words = X .words ∙ placed-small (X .answer) (read.place-small (X .leaves)) read-few
+
+    -- the first is one of 0 to 16
+    pub read-known : numberIn ws ≤ 16
+    read-known = omega (arith, ap numberIn read-words, read.number-known (X .leaves))
+
+    -- a refused one leaves every word as it was
+    pub read-refused : (numberIn ws ≡ 0 → ⊥) → (o′ ≡ o) × (d′ ≡ d)
+    read-refused f = let R = read.refused-keeps (X .leaves) (λ z. f (ap numberIn read-words ∙ z)) in (R .0, R .1)
+
+    -- an accepted one leaves memory that holds a state, of which its last four words say how much is used
+    pub reads-hold : numberIn ws ≡ 0 → (es : List Entry) × (readInto l bs o d ≡ accepted es) × Holds l (memory bs o′ d′) (heldIn ws) (record { script = script bs; entries = es })
+    reads-hold z =
+        let H = certain.read-holds l (X .leaves) (sym (ap numberIn read-words) ∙ z) in
+        (H .0, H .1, subst (λ (h : Held). Holds l (memory bs o′ d′) h (record { script = script bs; entries = H .0 })) (sym (ap heldIn read-words ∙ held-numbers (X .answer))) (H .2))
+
+  -- ---- `script_amend`, on any memory
+
+  module _ {M M′ : Memory} {vs n ws : List ℕ} {k : ℕ} (X : Replaces l M vs k n ws M′) where
+    amend-few : Few (heldIn vs) → Few (heldOf (X .answer))
+    amend-few F = go (X .answer .number) refl
+      where
+        go : (f : ℕ) → X .answer .number ≡ f → Few (heldOf (X .answer))
+        go zero e =
+            let c = amended.counts-small (X .amends) e in
+            record { bytes = omega (arith, c .0); statements = omega (arith, c .1); records = omega (arith, c .2); tokens = omega (arith, c .3) }
+        go (suc f) e = subst Few (sym (certain.refused-keeps l (X .amends) (λ z. omega (arith, e, z)) .1)) F
+
+    words-by : Few (heldIn vs) → ws ≡ numbers (X .answer)
+    words-by F = X .words ∙ placed-small (X .answer) (amended.place-small (X .amends)) (amend-few F)
+
+    held-by : Few (heldIn vs) → heldIn ws ≡ heldOf (X .answer)
+    held-by F = ap heldIn (words-by F) ∙ held-numbers (X .answer)
+
+    module _ (W : AreWords vs) where
+      -- the eight words are the numbers of the answer
+      pub amend-words : ws ≡ numbers (X .answer)
+      amend-words = words-by (words-few vs W)
+
+      -- the first is one of 0 to 20
+      pub amend-known : numberIn ws ≤ 20
+      amend-known = omega (arith, ap numberIn amend-words, certain.number-known l (X .amends))
+
+      -- a refused one leaves every byte and word of the memory as it was, and its last four words too
+      pub amend-refused : (numberIn ws ≡ 0 → ⊥) → (M′ ≡ M) × (heldIn ws ≡ heldIn vs)
+      amend-refused f =
+          let R = certain.refused-keeps l (X .amends) (λ z. f (ap numberIn amend-words ∙ z)) in
+          (R .0, held-by (words-few vs W) ∙ R .1)
+
+  -- ---- memory that holds a state
+
+  module _ {M : Memory} (vs : List ℕ) {st : State} (H : Holds l M (heldIn vs) st) where
+    F : Few (heldIn vs)
+    F = holds-few H
+
+    -- it goes on holding it in other slices that begin with what is used of it
+    pub re-lent : {N : Memory} → Begins (heldIn vs) M N → Holds l N (heldIn vs) st
+    re-lent B = certain.re-lent l H B
+
+    -- it is what reading its script from the start gives: the same counts, every word of the records, every word of the directory
+    pub as-read : {o d o′ d′ ws : List ℕ} → length o ≡ length (M .records) → length d ≡ length (M .directory)
+        → Reads l (take (heldIn vs .bytes) (M .script)) o d ws o′ d′
+        → (numberIn ws ≡ 0) × (heldIn ws ≡ heldIn vs) × (take (recordWidth * heldIn vs .records) o′ ≡ take (recordWidth * heldIn vs .records) (M .records))
+        × (take (entryWidth * heldIn vs .statements) d′ ≡ take (entryWidth * heldIn vs .statements) (M .directory))
+    as-read lo ld X =
+        let R = certain.as-read l H lo ld (X .leaves) in
+        (ap numberIn (read-words X) ∙ R .0, ap heldIn (read-words X) ∙ held-numbers (X .answer) ∙ R .1, R .2, R .3)
+
+    module _ {k : ℕ} {n ws : List ℕ} {M′ : Memory} (X : Replaces l M vs k n ws M′) where
+      accepted-by : numberIn ws ≡ 0 → X .answer .number ≡ 0
+      accepted-by z = sym (ap numberIn (words-by X F)) ∙ z
+
+      after-it : heldOf (X .answer) ≡ heldIn ws
+      after-it = sym (held-by X F)
+
+      -- the grounds are exact: its words are the numbers that the definition answers of the state
+      pub answers : ws ≡ numbers (answered (heldIn vs) n (given (amend l (roomsIn M) st k n)))
+      answers = words-by X F ∙ ap numbers (certain.answers l H (X .amends))
+
+      -- it leaves memory that holds a state again: that of the whole new script, or the old one
+      pub replaces-hold : Holds l M′ (heldIn ws) (left st (amend l (roomsIn M) st k n))
+      replaces-hold = subst (λ (h : Held). Holds l M′ h (left st (amend l (roomsIn M) st k n))) after-it (certain.call-leaves l H (X .amends))
+
+      -- an accepted one replaces exactly the bytes of statement k, as the directory has them, by the new text
+      pub kept-bytes : numberIn ws ≡ 0 → KeepsBytes M (heldIn vs) k n M′ (heldIn ws)
+      kept-bytes z = subst (KeepsBytes M (heldIn vs) k n M′) after-it (certain.kept-bytes l H (X .amends) (accepted-by z))
+
+      -- and keeps every other statement: the same words of records, the same text, in the same order
+      pub kept : numberIn ws ≡ 0 → KeepsRecords l M (heldIn vs) k n M′ (heldIn ws)
+      kept z = subst (KeepsRecords l M (heldIn vs) k n M′) after-it (certain.kept l H (X .amends) (accepted-by z))
+
+      pub kept-texts : numberIn ws ≡ 0 → KeepsTexts l M (heldIn vs) k n M′ (heldIn ws)
+      kept-texts z = subst (KeepsTexts l M (heldIn vs) k n M′) after-it (certain.kept-texts l H (X .amends) (accepted-by z))
+
+  -- ---- any number of calls, refused ones among them
+
+  pub runs-hold : {M M′ : Memory} {vs ws : List ℕ} {st : State} {cs : List (ℕ × List ℕ)} → Holds l M (heldIn vs) st → Runs l M vs cs M′ ws → Holds l M′ (heldIn ws) (after l (roomsIn M) st cs)
+  runs-hold H no-calls = H
+  runs-hold {M} {M′} {vs} {ws} {st} H (call {n = n} {k = k} {cs = cs} X C) =
+      subst (λ (R : Rooms). Holds l M′ (heldIn ws) (after l R (left st (amend l (roomsIn M) st k n)) cs)) (call-holds l M (heldIn vs) st H k n (X .amends) .0)
+      (runs-hold (replaces-hold vs H X) C)
+
+-- ---- `script_part`: of slices below 4 GiB, its words are the place itself
+
+module _ (s c ws : List ℕ) (start : ℕ) (second : Bool) (short : length s < 4294967296) (few : length c < 4294967296) where
+  abbrev p : Place
+  p = placed (partNamed s c ws start second)
+
+  ends : (t : Bool) → p .in_list ≡ t → p .from + p .size < 4294967296
+  ends true e = omega (arith, ends-in-list s c ws start second p refl e)
+  ends false e = omega (arith, ends-in-script s c ws start second p refl e)
+
+  pub part-words : placeWords p ≡ cond (p .in_list) 1 0 ∷ p .from ∷ p .size ∷ []
+  unfolding placeWords
+  part-words =
+      let e = ends (p .in_list) refl in
+      λ i. cond (p .in_list) 1 0 ∷ low (p .from) (omega (arith, e)) i ∷ low (p .size) (omega (arith, e)) i ∷ []
