@@ -18,13 +18,13 @@ use Rattle.grammar.specs.Computing.{computing}
 -- ---- trees as the paper writes them
 
 -- the names of the 39 kinds
-abbrev kindNames : List String
+abbrev pub kindNames : List String
 kindNames =
     "" ∷ "Variable" ∷ "Constant" ∷ "True" ∷ "False" ∷ "String" ∷ "List" ∷ "UnaryMinus" ∷ "Add" ∷ "Subtract" ∷ "Multiply" ∷ "Divide" ∷ "Pow" ∷ "Equal" ∷ "NotEqual"
     ∷ "Superior" ∷ "Inferior" ∷ "SuperiorOrEqual" ∷ "InferiorOrEqual" ∷ "And" ∷ "Or" ∷ "Ln" ∷ "Exp" ∷ "Min" ∷ "Max" ∷ "Cvg" ∷ "Fif" ∷ "Range" ∷ "Index" ∷ "Append"
     ∷ "Mean" ∷ "Std" ∷ "Spot" ∷ "EquitySpot" ∷ "Df" ∷ "RateIndex" ∷ "Pays" ∷ "Assign" ∷ "If" ∷ "ForEach" ∷ []
 
-nth : List String → ℕ → String
+unfoldable pub nth : List String → ℕ → String
 nth [] n = ""
 nth (s ∷ ss) zero = s
 nth (s ∷ ss) (suc n) = nth ss n
@@ -246,7 +246,7 @@ ruled-out : T (never wrong)
 unfolding never
 ruled-out = tt
 
-entries : Outcome → List Entry
+unfoldable pub entries : Outcome → List Entry
 entries (accepted es) = es
 entries (refused n p) = []
 
@@ -256,15 +256,6 @@ own-places : (wordsOf (entries (readScript own (bytes "a; bc;"))) ≡ 1 ∷ 1 �
     × (wordsOf (entries (readScript own (bytes " if a { b; }"))) ≡ 1 ∷ 1 ∷ 0 ∷ 3 ∷ 1 ∷ 0 ∷ 0 ∷ 1 ∷ 1 ∷ 0 ∷ 7 ∷ 1 ∷ 0 ∷ 0 ∷ 38 ∷ 3 ∷ 2 ∷ 0 ∷ 0 ∷ 0 ∷ 0 ∷ [])
 unfolding computing own entries
 own-places = (refl, refl, refl)
-
--- 32: two currencies, date. 33: start, length, date. 34: date, curve start, length. 35: start, length, two dates. 36: date, currency
-own-fields : (wordsOf (entries (readScript own (bytes "Spot(\"EUR\");Spot(\"USD\",\"EUR\",\"2024-02-29\");"))) ≡ 32 ∷ 1 ∷ 0 ∷ 2 ∷ 1 ∷ 0 ∷ 0 ∷ 32 ∷ 1 ∷ 0 ∷ 1 ∷ 2 ∷ 20240229 ∷ 0 ∷ [])
-    × (wordsOf (entries (readScript own (bytes "Spot(\"AA\",\"2024-02-29\");"))) ≡ 33 ∷ 1 ∷ 0 ∷ 6 ∷ 2 ∷ 20240229 ∷ 0 ∷ [])
-    × (wordsOf (entries (readScript own (bytes "Df(\"2024-02-29\");Df(\"2024-02-29\",\"c\");"))) ≡ 34 ∷ 1 ∷ 0 ∷ 20240229 ∷ 0 ∷ 0 ∷ 0 ∷ 34 ∷ 1 ∷ 0 ∷ 20240229 ∷ 17 ∷ 1 ∷ 0 ∷ [])
-    × (wordsOf (entries (readScript own (bytes "RateIndex(\"ab\",\"2024-02-29\",\"2024-03-01\");"))) ≡ 35 ∷ 1 ∷ 0 ∷ 11 ∷ 2 ∷ 20240229 ∷ 20240301 ∷ [])
-    × (wordsOf (entries (readScript own (bytes "pays on \"2024-02-29\" in \"EUR\""))) ≡ 36 ∷ 1 ∷ 0 ∷ 20240229 ∷ 2 ∷ 0 ∷ 0 ∷ [])
-unfolding computing own entries
-own-fields = (refl, refl, refl, refl, refl)
 
 -- ---- the paper's listing
 
@@ -305,7 +296,7 @@ unfolding holds computing
 checkWith l [] = true
 checkWith l (r ∷ rs) = let bs = bytes (r .0) in elim (holds bs (readScript l bs) (r .1)) [ true ↦ checkWith l rs | false ↦ false ]
 
-lists : String → String → String → Lists
+unfoldable pub lists : String → String → String → Lists
 lists a b c = record { reserved = bytes a; currencies = bytes b; counters = bytes c }
 
 judged : T (checkWith (lists "foo\nmin\n" "USD\nEUR\n" "ACT/365\n")

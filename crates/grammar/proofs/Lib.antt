@@ -16,4 +16,5 @@ pub mod SizeLaws
 pub mod Refusals
 pub mod WordLaws
 pub mod Examples
+pub mod KindExamples
 pub mod SignLaws

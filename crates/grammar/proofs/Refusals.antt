@@ -10,6 +10,7 @@ use native.Mathlib.Nat.{zero-add}
 use native.Mathlib.Omega.{arith}
 use lib.Dec.{T, leb, ltb, leb→le}
 use mir.Facts.{and-yes}
+use borrow.Author.Tests.{ltb-false}
 use lib.ListN.{length}
 use Rattle.tokens.specs.Limits.{mostBytes, mostTokens, mostDepth}
 use Rattle.tokens.specs.Text.{if_then_else_, script, within, count}
@@ -438,32 +439,59 @@ ofTokens-judged l bs = go (scan 0 0 bs) refl
         counted (ltb mostTokens (count counts (ts ++ (final (length bs) ∷ [])) - 1)) (ts ++ (final (length bs) ∷ [])) (sorted-inside 0 (length bs) ts q .1)
     go (faulty f p) e = let r = scan-refused 0 0 bs e in record { least = omega (arith, r .0); most = omega (arith, r .1); inside = omega (arith, r .2) }
 
-read-judged : (l : Lists) (bs : List ℕ) → Judged 15 (length (script bs)) (readScript l bs)
+-- grounds 1 and 2, and what is read of a script that is short enough
+by-order : (P : Outcome → Type 0) (l : Lists) (bs : List ℕ) → P (wrong 1 0) → P (wrong 2 0)
+    → (length (script bs) ≤ mostBytes → P (ofTokens l (length (script bs)) (tokens (script bs)))) → P (readScript l bs)
 unfolding readScript
-read-judged l bs = go (ltb mostBytes (length (script bs))) (not (goodLists l)) (ofTokens l (length (script bs)) (tokens (script bs))) (ofTokens-judged l (script bs))
+by-order P l bs long lists short = go (ltb mostBytes (length (script bs))) refl (not (goodLists l))
   where
-    go : (t u : Bool) (o : Outcome) → Judged 15 (length (script bs)) o → Judged 15 (length (script bs)) (if t then wrong 1 0 else if u then wrong 2 0 else o)
-    go true u o h = ground 1 tt (omega arith)
-    go false true o h = ground 2 tt (omega arith)
-    go false false o h = h
+    go : (t : Bool) → ltb mostBytes (length (script bs)) ≡ t → (u : Bool) → P (if t then wrong 1 0 else if u then wrong 2 0 else ofTokens l (length (script bs)) (tokens (script bs)))
+    go true e u = long
+    go false e true = lists
+    go false e false = short (ltb-false mostBytes (length (script bs)) e)
 
-fitting-judged : (n a b : ℕ) (o : Outcome) → Judged 15 n o → Judged 16 n (fitting n a b o)
-fitting-judged n a b (accepted es) h = go (ltb a (nodes es)) (ltb b (length es))
+further : (k n : ℕ) → k ≤ n → (o : Outcome) → Judged 15 k o → Judged 15 n o
+further k n l (accepted es) h = h
+further k n l (wrong f p) h = record { least = h .least; most = h .most; inside = omega (arith, h .inside) }
+
+fitting-judged : (n a b : ℕ) (o : Outcome) → Judged 15 n o → (k : ℕ) → k ≤ n → Judged 16 n (fitting k a b o)
+fitting-judged n a b (accepted es) h k l = go (ltb a (nodes es)) (ltb b (length es))
   where
-    go : (t u : Bool) → Judged 16 n (if t then wrong 16 n else if u then wrong 16 n else accepted es)
-    go true u = ground 16 tt (omega arith)
-    go false true = ground 16 tt (omega arith)
+    go : (t u : Bool) → Judged 16 n (if t then wrong 16 k else if u then wrong 16 k else accepted es)
+    go true u = ground 16 tt l
+    go false true = ground 16 tt l
     go false false = tt
-fitting-judged n a b (wrong f p) h = record { least = h .least; most = omega (arith, h .most); inside = h .inside }
+fitting-judged n a b (wrong f p) h k l = record { least = h .least; most = omega (arith, h .most); inside = h .inside }
+
+-- n is a bound of a script that is short enough
+module _ (l : Lists) (bs : List ℕ) (n : ℕ) (bound : length (script bs) ≤ mostBytes → length (script bs) ≤ n) where
+  text-judged : length (script bs) ≤ mostBytes → Judged 15 n (ofTokens l (length (script bs)) (tokens (script bs)))
+  text-judged h = further (length (script bs)) n (bound h) (ofTokens l (length (script bs)) (tokens (script bs))) (ofTokens-judged l (script bs))
+
+  read-judged : Judged 15 n (readScript l bs)
+  read-judged = by-order (Judged 15 n) l bs (ground 1 tt (omega arith)) (ground 2 tt (omega arith)) text-judged
+
+  reading-judged : (a b : ℕ) → Judged 16 n (reading l a b bs)
+  unfolding reading
+  reading-judged a b =
+      by-order (λ o. Judged 16 n (fitting (length (script bs)) a b o)) l bs (ground 1 tt (omega arith)) (ground 2 tt (omega arith)) λ h.
+      fitting-judged n a b (ofTokens l (length (script bs)) (tokens (script bs))) (text-judged h) (length (script bs)) (bound h)
 
 -- ---- what a refusal is
 
--- of a script: its number is one of 1 to 15, so never 0, which says that the script is accepted; its byte is one of the script's, or its end
-pub read-refused : (l : Lists) (bs : List ℕ) {f p : ℕ} → readScript l bs ≡ wrong f p → Ground 15 (length (script bs)) f p
-read-refused l bs e = subst (Judged 15 (length (script bs))) e (read-judged l bs)
+module _ (l : Lists) (bs : List ℕ) {f p : ℕ} where
+  -- of a script: its number is one of 1 to 15, so never 0, which says that the script is accepted; its byte is one of the script's, or its end
+  pub read-refused : readScript l bs ≡ wrong f p → Ground 15 (length (script bs)) f p
+  read-refused e = subst (Judged 15 (length (script bs))) e (read-judged l bs (length (script bs)) (λ h. omega arith))
 
--- of a script with room for so many records and statements: 16 as well
-pub reading-refused : (l : Lists) (maxNodes maxEntries : ℕ) (bs : List ℕ) {f p : ℕ} → reading l maxNodes maxEntries bs ≡ wrong f p → Ground 16 (length (script bs)) f p
-unfolding reading
-reading-refused l maxNodes maxEntries bs e =
-    subst (Judged 16 (length (script bs))) e (fitting-judged (length (script bs)) maxNodes maxEntries (readScript l bs) (read-judged l bs))
+  -- however long the text is: 1 is at byte 0
+  pub read-small : readScript l bs ≡ wrong f p → p ≤ mostBytes
+  read-small e = subst (Judged 15 mostBytes) e (read-judged l bs mostBytes (λ h. h)) .inside
+
+  module _ (maxNodes maxEntries : ℕ) where
+    -- of a script with room for so many records and statements: 16 as well
+    pub reading-refused : reading l maxNodes maxEntries bs ≡ wrong f p → Ground 16 (length (script bs)) f p
+    reading-refused e = subst (Judged 16 (length (script bs))) e (reading-judged l bs (length (script bs)) (λ h. omega arith) maxNodes maxEntries)
+
+    pub reading-small : reading l maxNodes maxEntries bs ≡ wrong f p → p ≤ mostBytes
+    reading-small e = subst (Judged 16 mostBytes) e (reading-judged l bs mostBytes (λ h. h) maxNodes maxEntries) .inside

@@ -17,6 +17,7 @@ use Rattle.tokens.specs.Lexing.{marked, markFrom, markAt, tokenOf, settleFrom, 
 use Rattle.tokens.specs.declared.lexing.Mark.{Mark}
 use Rattle.tokens.specs.declared.cursor.Cursor.{Cursor}
 use Rattle.tokens.proofs.Cuts.{forth, further, scan-further}
+use Rattle.tokens.proofs.TextLaws.{count-few}
 use Rattle.tokens.proofs.Shapes.{Sound, sound}
 use Rattle.tokens.proofs.MarkLaws.{start-at, start-within, skip-at}
 use Rattle.tokens.proofs.ScanLaws.{Stands, over as past, token, faulty as bad, stands, scan-end, scan-fault, scan-token, token-within, newline-is}
@@ -61,15 +62,6 @@ toks-few t at = go (scan 0 at (drop at t)) refl
     go : (o : Lexed) → scan 0 at (drop at t) ≡ o → length (listed o ++ (final (length t) ∷ [])) ≤ length t + 1
     go (lexed ts) e = omega (arith, length-append ts (final (length t) ∷ []), scan-few 0 at (drop at t) ts e, length-drop at t)
     go (faulty f p) e = omega arith
-
-count-few : (ts : List Token) → count counts ts ≤ length ts
-unfolding count
-count-few [] = omega arith
-count-few (t ∷ ts) = go (counts t) (count-few ts)
-  where
-    go : (b : Bool) → count counts ts ≤ length ts → (if b then 1 else 0) + count counts ts ≤ suc (length ts)
-    go true h = omega arith
-    go false h = omega arith
 
 -- ---- what stands at a place of a text without fault: the end, or a token and those behind it
 
@@ -303,7 +295,7 @@ module _ {t : List ℕ} {c : Cursor} (h : Holds t c) (some : c .code ≡ 0 → �
   token-counts = ap not (line-not (tokenAt t c) (h .no-line))
 
   few : c .taken < 65535
-  few = omega (arith, h .taken-is, count-few (h .past), length-append (h .past) (h .left), scan-few 0 0 t (h .past ++ h .left) (h .whole), h .short)
+  few = omega (arith, h .taken-is, count-few counts (h .past), length-append (h .past) (h .left), scan-few 0 0 t (h .past ++ h .left) (h .whole), h .short)
 
   taken-more : oneMore (c .taken) ≡ count counts (h .past ++ (tokenAt t c ∷ S .lines))
   unfolding count
