@@ -6,9 +6,15 @@
  *
  * - All memory is the caller's. A call keeps no pointer once it has returned, allocates nothing, and has no state of its
  *   own, so calls on different memory may run at the same time.
- * - A slice is a pointer and a length, in bytes for uint8_t and in words for uint32_t. No pointer may be NULL, even where
- *   the length is 0; a slice of length 0 may point anywhere else. What a call writes may overlap none of its other slices.
- * - Nothing else is asked. Any bytes, any words and any lengths are answered, none is trusted to be in order.
+ * - A slice is a pointer and a length, in bytes for uint8_t and in words for uint32_t. No pointer may be NULL, and one to
+ *   words is aligned as a uint32_t is, even where the length is 0; a slice of length 0 may point anywhere else. `answer`,
+ *   `record` and `place` are such pointers too, each to as many words as its declaration says.
+ * - What a call writes, `answer` and `place` among it, may overlap nothing else that the same call is lent, be it read or
+ *   written, `record` and the lists included. What is only read may overlap.
+ * - Nothing else is asked. Any bytes, any words and any lengths are answered, none is trusted to be in order. Slices of
+ *   4 GiB and more are answered too, and no word of an answer is cut: a script or text without a zero byte among its first
+ *   16,385 bytes is too long, whatever follows, and no refusal is at a byte past 16,384. Only the words of `place` are the
+ *   low 32 bits of a place, which is the place itself in slices below 4 GiB; a script that was read has no others.
  * - A refusal changes nothing but the answer.
  *
  * The three lists hold names, each ended by a line feed, the last one too: at most 256 names a list, no name twice, a name

@@ -8,7 +8,8 @@ use crate::{BYTES, ENTRY_WORDS, RECORDS, RECORD_WORDS, STATEMENTS};
 
 /// A script that was read, and all that the library keeps of it. Its memory has room for every script, and no one else
 /// writes there; and it keeps its lists, since a note is amended with those that it was read with. So what is proved of
-/// amendments holds of each one made here.
+/// amendments holds of each one made here. The script is read from the caller's slice and amended in one of the note's own
+/// that begins with the same bytes: it is the same state there, which is proved too (`Linked.re-lent`).
 #[derive(Clone, Debug)]
 pub struct Note<'l> {
     lists: Lists<'l>,

@@ -16,9 +16,8 @@ use Rattle.grammar.specs.Sizes.{mostRecords, mostStatements}
 use Rattle.grammar.specs.Script.{Outcome, accepted, refused, readScript, noZero}
 use Rattle.grammar.specs.Words.{Row}
 use Rattle.grammar.proofs.AmendBytes.{read-accepted, script-all}
-use Rattle.grammar.proofs.Refusals.{Ground, read-refused}
+use Rattle.grammar.proofs.Refusals.{Ground, read-refused, read-small}
 use Rattle.reading.specs.declared.reading.Answer.{Answer}
-use Rattle.reading.proofs.ReadAnswers.{read-short}
 use Rattle.amending.specs.Amend.{endsWell}
 use Rattle.amending.specs.Amending.{State, Rooms, Pick, pick, Answer as Result, done, refusal, amend}
 use Rattle.amending.specs.Lent.{Lent, Handed, handed, unchanged, overRows, inOrder, swapped, fittingLent, putLent, lentAt, amendLent, given}
@@ -45,7 +44,7 @@ module _ (l : Lists) (n : List ℕ) (R : Rooms) where
     unfolding putLent fittingLent swapped
     put-told p z (refused f q) e =
         let G = read-refused l n e in
-        record { least = G .least; most = omega (arith, G .most); inside = omega (arith, G .inside, ap length (script-all n z), read-short l n e) }
+        record { least = G .least; most = omega (arith, G .most); inside = omega (arith, G .inside, ap length (script-all n z), read-small l n e) }
     put-told p z (accepted ns) e = go (endsWell n) (overRows R (length (S .script)) (S .rows)) refl
       where
         S : Lent

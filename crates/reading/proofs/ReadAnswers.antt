@@ -1,53 +1,27 @@
 -- What a caller sees of a reading: the number 0 is acceptance and nothing else; a refusal's number lies in 1 to 16, its place in the script, and it has changed nothing.
-use mathlib.Core.Path.{_≡_, refl, sym, ap, _∙_}
-use mathlib.Core.Bool.{Bool, true, false, not}
-use mathlib.Core.List.{List, []}
+use mathlib.Core.Path.{_≡_, refl, ap, _∙_}
+use mathlib.Core.List.{List}
 use Prim.Native.Nat.{ℕ, suc, _≤_}
 use native.Mathlib.Omega.{arith}
-use lib.Dec.{ltb}
 use lib.ListN.{length}
-use borrow.Author.Tests.{ltb-false}
 use Rattle.tokens.specs.Limits.{mostBytes}
-use Rattle.tokens.specs.Text.{if_then_else_, script}
-use Rattle.tokens.specs.Names.{Lists, goodLists}
-use Rattle.tokens.specs.Tokens.{tokens}
+use Rattle.tokens.specs.Text.{script}
+use Rattle.tokens.specs.Names.{Lists}
 use Rattle.tokens.proofs.PlaceLaws.{line-within, column-within}
 use Rattle.grammar.specs.Sizes.{recordRoom, statementRoom}
-use Rattle.grammar.specs.Script.{Entry, Outcome, accepted, refused, ofTokens, readScript, reading, fitting}
+use Rattle.grammar.specs.Script.{Entry, Outcome, accepted, refused}
 use Rattle.grammar.specs.Words.{wordsOf, directoryOf}
-use Rattle.grammar.proofs.Refusals.{Ground, read-refused, reading-refused}
+use Rattle.grammar.proofs.Refusals.{Ground, reading-refused, reading-small}
 use Rattle.reading.specs.Judging.{judgedOf, lastEnd}
 use Rattle.reading.specs.Reading.{answerOf, leftBy, readInto, Leaves}
 use Rattle.reading.specs.declared.reading.Answer.{Answer}
-
--- ---- a refusal's byte is one of a script, since one that is too long is refused at its first byte
-
-short : (n p : ℕ) → p ≤ n → (x : Outcome) → (t : Bool) → ltb mostBytes n ≡ t → (t ≡ true → x ≡ refused 1 0) → (f : ℕ) → x ≡ refused f p → p ≤ mostBytes
-short n p i x true q h f e = let z : refused 1 0 ≡ refused f p = sym (h refl) ∙ e in let y : 0 ≡ p = cc in omega arith
-short n p i x false q h f e = omega (arith, ltb-false mostBytes n q)
-
-module _ (l : Lists) (bs : List ℕ) where
-  too-long : ltb mostBytes (length (script bs)) ≡ true → readScript l bs ≡ refused 1 0
-  unfolding readScript
-  too-long q = rw q
-
-  pub read-short : {f p : ℕ} → readScript l bs ≡ refused f p → p ≤ mostBytes
-  read-short {f} {p} e = short (length (script bs)) p (read-refused l bs e .inside) (readScript l bs) (ltb mostBytes (length (script bs))) refl too-long f e
-
-  pub reading-short : (a b : ℕ) {f p : ℕ} → reading l a b bs ≡ refused f p → p ≤ mostBytes
-  unfolding reading
-  reading-short a b {f} {p} e =
-      short (length (script bs)) p (reading-refused l a b bs e .inside) (reading l a b bs) (ltb mostBytes (length (script bs))) refl
-      (λ q. ap (fitting (length (script bs)) a b) (too-long q)) f e
-
--- ---- what the answer tells
 
 module _ {l : Lists} {bs o d o′ d′ : List ℕ} {r : Answer} (X : Leaves l bs o d r o′ d′) where
   is : (x : Outcome) → readInto l bs o d ≡ x → r ≡ answerOf bs (judgedOf (length (script bs)) (lastEnd (script bs)) x)
   is x e = X .answer ∙ ap (λ (y : Outcome). answerOf bs (judgedOf (length (script bs)) (lastEnd (script bs)) y)) e
 
   ground : {f p : ℕ} → readInto l bs o d ≡ refused f p → Ground 16 (length (script bs)) f p
-  ground e = reading-refused l (recordRoom (length o)) (statementRoom (length d)) bs e
+  ground e = reading-refused l bs (recordRoom (length o)) (statementRoom (length d)) e
 
   -- the number 0 is acceptance, and nothing else
   pub accepted-is : r .number ≡ 0 → (es : List Entry) × (readInto l bs o d ≡ accepted es)
@@ -82,7 +56,7 @@ module _ {l : Lists} {bs o d o′ d′ : List ℕ} {r : Answer} (X : Leaves l bs
           (omega (arith, ap (λ (a : Answer). a .byte) a), omega (arith, ap (λ (a : Answer). a .line) a), omega (arith, ap (λ (a : Answer). a .column) a))
       go (refused f p) e =
           let a = is (refused f p) e in
-          let s : p ≤ mostBytes = reading-short l bs (recordRoom (length o)) (statementRoom (length d)) e in (
+          let s : p ≤ mostBytes = reading-small l bs (recordRoom (length o)) (statementRoom (length d)) e in (
             omega (arith, ap (λ (a : Answer). a .byte) a),
             omega (arith, ap (λ (a : Answer). a .line) a, line-within bs p),
             omega (arith, ap (λ (a : Answer). a .column) a, column-within bs p),
