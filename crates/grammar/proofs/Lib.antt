@@ -15,4 +15,3 @@ pub mod TreeLaws
 pub mod SizeLaws
 pub mod WordLaws
 pub mod Examples
-pub mod SignLaws
