@@ -3,13 +3,14 @@
 -- What is assumed below, and no more: the lists l are the same throughout; the script is the first bytes of its slice, as many as the counts say; and the memory
 -- was left by a reading (`read-holds`) or by calls on such memory (`calls-hold`), in the same slices or in others (`re-lent`). That is what `Holds` says. No ground
 -- checks it, so the theorems name it. Where `Holds` is not named, a theorem holds of any memory.
-use mathlib.Core.Path.{_≡_, sym, ap, _∙_, subst}
+use mathlib.Core.Path.{_≡_, ap, _∙_, subst}
 use mathlib.Core.Bool.{true}
 use mathlib.Core.List.{List}
 use Prim.Native.Nat.{ℕ, _*_, _≤_}
 use lib.ListN.{length, take}
 use Rattle.tokens.specs.Text.{script}
 use Rattle.tokens.specs.Names.{Lists}
+use Rattle.tokens.proofs.Outcomes.{one-outcome}
 use Rattle.grammar.specs.Sizes.{recordWidth, entryWidth}
 use Rattle.grammar.specs.Script.{Entry, accepted}
 use Rattle.reading.specs.Reading.{readInto, Leaves}
@@ -35,7 +36,7 @@ module _ (l : Lists) where
   module _ {M : Memory} {h : Held} {k : ℕ} {n : List ℕ} where
     -- two outcomes of it coincide
     pub amends-same : {r₁ r₂ : Answer} {M₁ M₂ : Memory} → Amends l M h k n r₁ M₁ → Amends l M h k n r₂ M₂ → (r₁ ≡ r₂) × (M₁ ≡ M₂)
-    amends-same x y = (x .answer ∙ sym (y .answer), x .memory ∙ sym (y .memory))
+    amends-same x y = (one-outcome (x .answer) (y .answer), one-outcome (x .memory) (y .memory))
 
     module _ {r : Answer} {M′ : Memory} (A : Amends l M h k n r M′) where
       -- its number is one of 0 to 20, and its byte is inside the new text

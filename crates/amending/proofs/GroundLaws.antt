@@ -3,15 +3,14 @@ use mathlib.Core.Path.{_≡_, refl, sym, ap, _∙_, subst}
 use mathlib.Core.Bool.{Bool, true, false, _&&_, _||_, not, false≢true}
 use mathlib.Core.List.{List, [], _∷_, _++_, map}
 use mathlib.Core.Option.{some}
-use Prim.Native.Nat.{ℕ, suc, _+_, _-_, _*_, _/_, _≤_, _<_}
+use Prim.Native.Nat.{ℕ, _+_, _-_, _*_, _/_, _≤_, _<_}
 use native.Mathlib.Omega.{arith}
 use lib.Dec.{T, leb, ltb, eqb}
 use lib.ListN.{length, take, drop, getD, length-append, length-drop, length-map}
 use lib.Seq.{length-take-le}
 use borrow.Author.Tests.{le-leb, leb-true, le-ltb, ltb-false, eq-eqb, ne-eqb, eqb-true}
 use Rattle.tokens.specs.Limits.{mostBytes, mostTokens}
-use Rattle.tokens.specs.Text.{script, count, leading, every, other}
-use Rattle.tokens.proofs.Shapes.{leading-le}
+use Rattle.tokens.specs.Text.{count}
 use Rattle.tokens.specs.Names.{Lists}
 use Rattle.tokens.specs.Tokens.{Lexed, counts, endOf}
 use Rattle.grammar.specs.Sizes.{recordWidth, entryWidth, mostRecords, mostStatements}
@@ -148,30 +147,6 @@ module _ (M : Memory) (h : Held) (w : Within (roomsIn M) h) where
           let o : overRows (roomsIn M) (length (take (h .bytes) (M .script))) rows ≡ false =
           over-no (roomsIn M) (length (take (h .bytes) (M .script))) rows h (sym bytes-used) (O .tokenSum) (O .recordSum) (sym (rows-count (h .statements) (M .directory))) w in
           yes (ap (λ (n : ℕ). ascending 0 n rows) bytes-used ∙ O .order) (yes (eq-eqb _ _ e) (yes (eq-eqb _ _ (O .tokenSum)) (ap not o)))
-
--- ---- 19
-
--- a zero byte is found before the end, or there is none
-pub clear-not : (n : List ℕ) → 0 + leading (other 0) (drop 0 n) < length n → noZero n ≡ false
-unfolding script
-clear-not n h =
-    no (noZero n)
-    (λ e.
-    let z : length (take (leading (other 0) n) n) ≡ length n = ap length (script-all n (subst T (sym e) tt)) in
-    omega (arith, z, length-take-le (leading (other 0) n) n (leading-le (other 0) n)))
-
-all-clear : (n : List ℕ) → leading (other 0) n ≡ length n → noZero n ≡ true
-unfolding leading every
-all-clear [] e = refl
-all-clear (b ∷ n) e = step (other 0 b) (all-clear n) e
-  where
-    step : (t : Bool) → (leading (other 0) n ≡ length n → noZero n ≡ true) → (elim t as (λ _. ℕ) [ true ↦ suc (leading (other 0) n) | false ↦ 0 ]) ≡ suc (length n)
-        → elim t as (λ _. Bool) [ true ↦ noZero n | false ↦ false ] ≡ true
-    step true f e = f (omega arith)
-    step false f e = absurd (omega arith)
-
-pub clear-is : (n : List ℕ) → length n ≤ 0 + leading (other 0) (drop 0 n) → noZero n ≡ true
-clear-is n h = all-clear n (omega (arith, leading-le (other 0) n))
 
 -- ---- 18
 

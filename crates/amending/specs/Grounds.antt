@@ -11,9 +11,10 @@ use Rattle.tokens.specs.Names.{Lists}
 use Rattle.grammar.specs.Sizes.{recordWidth, entryWidth, mostRecords, mostStatements}
 use Rattle.grammar.specs.Script.{Entry, accepted, readScript, noZero, nodes}
 use Rattle.reading.specs.declared.judging.Counts.{Counts}
+use Rattle.reading.specs.declared.reading.Answer.{Answer}
 use Rattle.amending.specs.Amending.{Rooms}
 use Rattle.amending.specs.Lent.{handed, unchanged, ascending, sumRecords, sumTokens, swapped}
-use Rattle.amending.specs.Memory.{Memory, roomsIn, usedIn, within, amendIn, heldBy}
+use Rattle.amending.specs.Memory.{Memory, roomsIn, usedIn, within, amendIn, heldBy, acceptedWith, refusedAt}
 use Rattle.amending.specs.Entries.{rowsFrom, pickAt}
 use Rattle.amending.specs.declared.held.Held.{Held}
 use Rattle.amending.specs.declared.grounds.Row.{Row}
@@ -105,6 +106,12 @@ pub record Ready (s o d : List ℕ) (h : Held) (k : ℕ) (n : List ℕ) (c : Cou
   pub record-room : recordWidth * (sumRecords (rowsFrom k d) + c .records + (h .records - (sumRecords (rowsFrom k d) + getD d (entryWidth * k + 2) 0))) ≤ length o
   pub entry-room : entryWidth * (k + c .statements + (h .statements - (k + 1))) ≤ length d
 
+-- the answer that a verdict stands for: 0 and what is used then; or its number, at its byte of the new text, and the old counts
+abbrev pub answerBy : Held → List ℕ → Verdict → Answer
+answerBy h n (verdict.Fits c w) = acceptedWith w
+answerBy h n (verdict.Refused f p) = refusedAt h n f p
+
+-- what each case says of the call
 abbrev pub MeetsVerdict : Lists → Memory → Held → ℕ → List ℕ → Verdict → Type 0
 MeetsVerdict l M h k n (verdict.Fits c w) = Fits l M h k n c w
 MeetsVerdict l M h k n (verdict.Refused f p) = amendIn l M h k n ≡ unchanged f p

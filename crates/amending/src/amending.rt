@@ -10,9 +10,9 @@ use crate::shifts::shift_entries;
 use reading::judging::Counts;
 use reading::reading::Answer;
 use reading::reading::read;
+use reading::reading::refusal;
 use reading::rooms::ENTRY_WIDTH;
 use reading::rooms::RECORD_WIDTH;
-use tokens::places::place_of;
 ghost use mathlib.Core.Path.{_≡_};
 ghost use Rattle.reading.specs.Judging.{listsIn};
 ghost use Rattle.amending.specs.Memory.{memory, amendIn, leftIn, acceptedWith, refusedAt, Amends};
@@ -44,7 +44,7 @@ pub fn amend(
         currencies,
         counters,
     ) {
-        Verdict::Refused(k, b) => refusal(held, text, k, b),
+        Verdict::Refused(k, b) => unchanged(held, text, k, b),
         Verdict::Fits(c, whole) => {
             replace(
                 script,
@@ -135,15 +135,16 @@ fn acceptance(whole: Held) -> Answer
     }
 }
 
-fn refusal(held: Held, text: &[u8], number: u32, byte: usize) -> Answer
+// A refusal: its place is in the new text, and the counts are the old ones.
+fn unchanged(held: Held, text: &[u8], number: u32, byte: usize) -> Answer
     ensures { λ r. ⌜ r ≡ refusedAt held (now (text .entry)) number byte ⌝ }
 {
-    let place = place_of(text, byte);
+    let r = refusal(text, number, byte);
     Answer {
-        number,
-        byte,
-        line: place.line,
-        column: place.column,
+        number: r.number,
+        byte: r.byte,
+        line: r.line,
+        column: r.column,
         bytes: held.bytes,
         statements: held.statements,
         records: held.records,

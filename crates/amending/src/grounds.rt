@@ -4,16 +4,16 @@ use crate::orders::in_order;
 use crate::orders::wide;
 use reading::judging::Counts;
 use reading::judging::Judged;
+use reading::judging::is_clear;
 use reading::judging::judge;
 use reading::rooms::ENTRY_WIDTH;
+use reading::rooms::MOST_TOKENS;
+use reading::rooms::byte_room;
 use reading::rooms::record_room;
 use reading::rooms::statement_room;
-use tokens::cursor::Cursor;
-use tokens::text::find;
 ghost use mathlib.Core.Path.{_≡_};
 ghost use Prim.Native.Nat.{_+_, _*_, _≤_};
 ghost use lib.ListN.{length};
-ghost use Rattle.grammar.specs.Script.{noZero};
 ghost use Rattle.reading.specs.Judging.{listsIn};
 ghost use Rattle.amending.specs.Memory.{memory, roomsOf, within};
 ghost use Rattle.amending.specs.Grounds.{endsWhole, endsShut, Ends, wordsAt, Stands, Few, alone, totals, fittingBy, MeetsVerdict};
@@ -128,29 +128,16 @@ fn alone(c: Counts) -> Held
 fn is_within(script: usize, records: usize, directory: usize, held: Held) -> bool
     ensures { λ r. ⌜ r ≡ within (roomsOf script records directory) held ⌝ }
 {
-    if held.bytes > Cursor::BYTES {
+    if held.bytes > byte_room(script) {
         return false;
     }
-    if held.bytes > script {
-        return false;
-    }
-    if held.tokens > Cursor::TOKENS {
+    if held.tokens > MOST_TOKENS {
         return false;
     }
     if held.records > record_room(records) {
         return false;
     }
     if held.statements > statement_room(directory) {
-        return false;
-    }
-    true
-}
-
-// Whether a text has no zero byte, however long it is.
-fn is_clear(text: &[u8]) -> bool
-    ensures { λ r. ⌜ r ≡ noZero (now (text .entry)) ⌝ }
-{
-    if find(text, 0, 0) < text.len() {
         return false;
     }
     true

@@ -46,7 +46,7 @@ fn clear_bytes(s: &mut [u8], at: usize, n: usize)
 // Makes the part [from, to) of the first `used` bytes k bytes long: the bytes from `to` on move to
 // from + k, and the room that they leave is zeroed. A part that keeps its length moves nothing. Returns how many bytes are
 // then in use.
-pub fn resize_bytes(s: &mut [u8], used: usize, from: usize, to: usize, k: usize) -> usize
+fn resize_bytes(s: &mut [u8], used: usize, from: usize, to: usize, k: usize) -> usize
     requires { ⌜ (from ≤ to) × (to ≤ used) × (used ≤ length (now s)) × (usedAfter used from to k ≤ length (now s)) ⌝ }
     ensures { λ r. ⌜ (r ≡ usedAfter used from to k) × (now (s .exit) ≡ resized (now (s .entry)) used from to k) ⌝ }
 {

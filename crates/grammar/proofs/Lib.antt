@@ -17,4 +17,3 @@ pub mod Refusals
 pub mod WordLaws
 pub mod Examples
 pub mod KindExamples
-pub mod SignLaws

@@ -3,7 +3,6 @@ pub mod Sizes
 pub mod Trees
 pub mod Readers
 pub mod Grammar
-pub mod Signs
 pub mod Script
 pub mod Words
 pub mod Computing

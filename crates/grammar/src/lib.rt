@@ -1,2 +1,1 @@
-// The language of scripts: its definition stands in specs/, with its laws in proofs/. Here, which signs its levels take.
-pub mod signs;
+// The language of scripts is a definition: it stands in specs/, with its laws in proofs/. There is no code.

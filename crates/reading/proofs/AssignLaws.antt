@@ -27,7 +27,7 @@ use Rattle.reading.proofs.HoldLaws.{start-in, end-in, ask-yes, ask-no, 
 use Rattle.reading.proofs.RowLaws.{size-leaf, size-two, after-leaf, after-two, put-rows-same}
 use Rattle.reading.proofs.ChainLaws.{reads-within, binary-plain}
 use Rattle.reading.proofs.AtomLaws.{named-not}
-use Rattle.grammar.proofs.SignLaws.{is-it, is-other}
+use Rattle.reading.proofs.SignLaws.{is-it, is-other}
 use Rattle.reading.proofs.StepLaws.{bind-refused}
 
 -- ---- the head of a loop

@@ -15,7 +15,7 @@ use Rattle.reading.specs.Rows.{rows, putRow, putRows}
 use Rattle.reading.specs.Meets.{toksAt, tokenAt, Holds, Room, Ready, Follows, stringAt, Quoted, Reads}
 use Rattle.reading.specs.Joins.{Joins}
 use Rattle.reading.specs.declared.records.Joined.{Joined}
-use Rattle.grammar.specs.Signs.{jointSign, sumSign, productSign, powerSign}
+use Rattle.reading.specs.Signs.{jointSign, sumSign, productSign, powerSign}
 use Rattle.grammar.proofs.Laws.{loop-eq}
 use Rattle.grammar.proofs.GrammarLaws.{Moves, groupTurn-law, grouped-law, comparison-law, primary-law}
 use Rattle.grammar.proofs.SizeLaws.{Sized, moves-less, primary-size, power-size, product-size, comparison-size}

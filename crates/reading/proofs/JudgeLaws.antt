@@ -1,16 +1,15 @@
 -- Laws of judging: what the scan and the reader of all statements answer is the judgement.
-use mathlib.Core.Path.{_≡_, refl, sym, ap, _∙_}
+use mathlib.Core.Path.{_≡_, refl, sym, ap, _∙_, subst}
 use mathlib.Core.Bool.{Bool, true, false, _&&_}
 use mathlib.Core.List.{List, [], _∷_, _++_}
-use Prim.Native.Nat.{ℕ, _-_, _≤_}
+use Prim.Native.Nat.{ℕ, suc, _+_, _-_, _≤_, _<_}
 use native.Mathlib.Omega.{arith}
 use native.Mathlib.Nat.{zero-add}
-use lib.Dec.{ltb}
-use lib.ListN.{length, take}
-use lib.Seq.{length-take-le}
+use lib.Dec.{T, ltb}
+use lib.ListN.{length, take, drop}
 use borrow.Author.Tests.{ltb-false}
 use Rattle.tokens.specs.Limits.{mostBytes, mostTokens}
-use Rattle.tokens.specs.Text.{if_then_else_, script, leading, other, count}
+use Rattle.tokens.specs.Text.{if_then_else_, script, leading, every, other, count}
 use Rattle.tokens.specs.Names.{Lists, goodList, goodLists}
 use Rattle.tokens.specs.Tokens.{Token, Lexed, lexed, refused as faulty, scan, final, code, counts, endOf, tokens}
 use Rattle.tokens.specs.Lexing.{scriptEnd, summary, scanOf}
@@ -19,8 +18,9 @@ use Rattle.tokens.specs.declared.text.ScriptEnd.the-variants as ends
 use Rattle.tokens.specs.declared.scanning.Scanned.{Scanned}
 use Rattle.tokens.specs.declared.scanning.Scanned.the-variants as scanned
 use Rattle.tokens.proofs.Shapes.{leading-le}
+use Rattle.tokens.proofs.TextLaws.{script-length}
 use Rattle.tokens.proofs.NameLaws.{good-few}
-use Rattle.grammar.specs.Script.{Outcome, refused, ofTokens, readScript, statements, from, words, tokensOf}
+use Rattle.grammar.specs.Script.{Outcome, refused, noZero, ofTokens, readScript, statements, from, words, tokensOf}
 use Rattle.reading.specs.Meets.{listed, toksAt, Few}
 use Rattle.reading.specs.Scripts.{Clean, ReadsAll, MeetsAll}
 use Rattle.reading.specs.declared.answers.All.{All}
@@ -28,28 +28,24 @@ use Rattle.reading.specs.declared.answers.All.the-variants as all
 use Rattle.reading.specs.Judging.{judgedOf, lastEnd, judgement, textJudgement}
 use Rattle.reading.specs.declared.judging.Judged.the-variants as judged
 use Rattle.grammar.proofs.ScriptLaws.{count-append}
-use Rattle.grammar.proofs.AmendBytes.{Text, text-tokens}
+use Rattle.grammar.proofs.AmendBytes.{Text, script-all, text-tokens}
 
 -- ---- the end of a script
 
 module _ (bs : List ℕ) where
-  script-length : length (script bs) ≡ leading (other 0) bs
-  unfolding script
-  script-length = length-take-le _ bs (leading-le (other 0) bs)
-
   pub script-in : length (script bs) ≤ length bs
-  script-in = omega (arith, script-length, leading-le (other 0) bs)
+  script-in = omega (arith, script-length bs, leading-le (other 0) bs)
 
   pub script-take : take (length (script bs)) bs ≡ script bs
   unfolding script
-  script-take = ap (λ (n : ℕ). take n bs) script-length
+  script-take = ap (λ (n : ℕ). take n bs) (script-length bs)
 
   -- where the end is found, and how long the script then is
   pub end-found : {n : ℕ} → scriptEnd bs ≡ ends.At n → (n ≡ length (script bs)) × (ltb mostBytes (length (script bs)) ≡ false)
   unfolding scriptEnd
   end-found {n} e = go (ltb mostBytes (length (script bs))) refl e
     where
-      go : (b : Bool) → ltb mostBytes (length (script bs)) ≡ b → _≡_ {A = ScriptEnd} (if b then ends.TooLong else ends.At (length (script bs))) (ends.At n)
+      go : (b : Bool) → ltb mostBytes (length (script bs)) ≡ b → _≡_ {A = ScriptEnd} (if b then ends.Refused 1 0 else ends.At (length (script bs))) (ends.At n)
           → (n ≡ length (script bs)) × (ltb mostBytes (length (script bs)) ≡ false)
       go true p q = absurd (let z : _≡_ {A = ℕ} 0 1 = cc in omega arith)
       go false p q = (cc, p)
@@ -57,19 +53,18 @@ module _ (bs : List ℕ) where
   pub end-short : {n : ℕ} → scriptEnd bs ≡ ends.At n → (n ≤ 16384) × (n ≤ length bs)
   end-short e = let F = end-found e in (omega (arith, ltb-false mostBytes (length (script bs)) (F .1), F .0), omega (arith, F .0, script-in))
 
-  end-long : scriptEnd bs ≡ ends.TooLong → ltb mostBytes (length (script bs)) ≡ true
-  unfolding scriptEnd
-  end-long e = go (ltb mostBytes (length (script bs))) refl e
-    where
-      go : (b : Bool) → ltb mostBytes (length (script bs)) ≡ b → _≡_ {A = ScriptEnd} (if b then ends.TooLong else ends.At (length (script bs))) ends.TooLong
-          → ltb mostBytes (length (script bs)) ≡ true
-      go true p q = p
-      go false p q = absurd (let z : _≡_ {A = ℕ} 0 1 = cc in omega arith)
-
   module _ (l : Lists) where
-    pub judge-long : scriptEnd bs ≡ ends.TooLong → judgement l bs ≡ judged.Refused 1 0
-    unfolding judgement readScript
-    judge-long e = rw (end-long e)
+    pub judge-long : {k p : ℕ} → scriptEnd bs ≡ ends.Refused k p → judgement l bs ≡ judged.Refused k p
+    unfolding scriptEnd judgement readScript
+    judge-long {k} {p} e = go (ltb mostBytes (length (script bs))) refl e
+      where
+        go : (b : Bool) → ltb mostBytes (length (script bs)) ≡ b → _≡_ {A = ScriptEnd} (if b then ends.Refused 1 0 else ends.At (length (script bs))) (ends.Refused k p)
+            → judgedOf (length (script bs)) (lastEnd (script bs)) (readScript l bs) ≡ judged.Refused k p
+        go true t q =
+            let x : _≡_ {A = ℕ} 1 k = cc in
+            let y : _≡_ {A = ℕ} 0 p = cc in
+            rw t (λ i. judged.Refused (x i) (y i))
+        go false t q = absurd (let z : _≡_ {A = ℕ} 0 1 = cc in omega arith)
 
     pub judge-lists : {n : ℕ} → scriptEnd bs ≡ ends.At n → goodLists l ≡ false → judgement l bs ≡ judged.Refused 2 0
     unfolding judgement readScript
@@ -80,6 +75,29 @@ module _ (bs : List ℕ) where
     judge-rest {n} e g =
         let p : take n bs ≡ script bs = ap (λ (i : ℕ). take i bs) (end-found e .0) ∙ script-take in
         rw (p, end-found e .1, g)
+
+-- ---- zero bytes
+
+-- a zero byte is found before the end, or there is none
+pub clear-not : (n : List ℕ) → 0 + leading (other 0) (drop 0 n) < length n → noZero n ≡ false
+clear-not n h = go (noZero n) refl
+  where
+    go : (b : Bool) → noZero n ≡ b → b ≡ false
+    go true e = absurd (omega (arith, script-length n, ap length (script-all n (subst T (sym e) tt))))
+    go false e = refl
+
+all-clear : (n : List ℕ) → leading (other 0) n ≡ length n → noZero n ≡ true
+unfolding leading every
+all-clear [] e = refl
+all-clear (b ∷ n) e = step (other 0 b) (all-clear n) e
+  where
+    step : (t : Bool) → (leading (other 0) n ≡ length n → noZero n ≡ true) → (elim t as (λ _. ℕ) [ true ↦ suc (leading (other 0) n) | false ↦ 0 ]) ≡ suc (length n)
+        → elim t as (λ _. Bool) [ true ↦ noZero n | false ↦ false ] ≡ true
+    step true f e = f (omega arith)
+    step false f e = absurd (omega arith)
+
+pub clear-is : (n : List ℕ) → length n ≤ 0 + leading (other 0) (drop 0 n) → noZero n ≡ true
+clear-is n h = all-clear n (omega (arith, leading-le (other 0) n))
 
 -- ---- a text
 

@@ -12,6 +12,7 @@ use borrow.Author.Tests.{eqb-true, leb-true, ltb-true, ne-eqb, le-leb, lt-leb, l
 use denote.Ref.{RefT, ptr, now}
 use Rattle.tokens.specs.Text.{same, every, capital}
 use Rattle.tokens.specs.Names.{push, names, ended, place, goodName, goodNames, goodList, usdFirst, distinct}
+use Rattle.tokens.proofs.Outcomes.{one-outcome}
 use Rattle.tokens.proofs.NameLaws.{and-true-both, names-feed, names-other}
 use Rattle.tokens.proofs.Shapes.{same-eq}
 use Rattle.reading.specs.Parts.{Span, span, Part, ofScript, ofList, empty, textAt, lines, nameAt, currencyAt, partAt, partNamed, nameIn, placed, PartOf, HandsBack}
@@ -36,12 +37,12 @@ cut-part lent r a n e q h p d =
 -- two slices that are the same part begin at the same place and hold the same bytes. What else the logic has of a slice, the
 -- name under which it tracks the bytes, no code sees
 same-part : (lent : RefT (List ℕ)) (p : Span) (r q : RefT (List ℕ)) → PartOf lent p r → PartOf lent p q → (ptr r ≡ ptr q) × (now r ≡ now q)
-same-part lent p r q x y = (x .begins ∙ sym (y .begins), x .holds ∙ sym (y .holds))
+same-part lent p r q x y = (one-outcome (x .begins) (y .begins), one-outcome (x .holds) (y .holds))
 
-pub one-outcome : (script list : RefT (List ℕ)) (p : Part) (r q : RefT (List ℕ)) → HandsBack script list p r → HandsBack script list p q
+pub parts-same : (script list : RefT (List ℕ)) (p : Part) (r q : RefT (List ℕ)) → HandsBack script list p r → HandsBack script list p q
     → (ptr r ≡ ptr q) × (now r ≡ now q)
-one-outcome script list (ofScript p) r q x y = same-part script p r q x y
-one-outcome script list (ofList p) r q x y = same-part list p r q x y
+parts-same script list (ofScript p) r q x y = same-part script p r q x y
+parts-same script list (ofList p) r q x y = same-part list p r q x y
 
 -- a slice cut by the numbers of a part is that part
 module _ (script list r : RefT (List ℕ)) (n : Place) where

@@ -18,7 +18,7 @@ use Rattle.grammar.specs.Grammar.{Words, binary, deeper, expression, arguments,
 use Rattle.reading.specs.Rows.{putRow}
 use Rattle.reading.specs.Calls.{callKind, methodKind}
 use Rattle.reading.specs.Meets.{wordsIn, toksAt, tokenAt, Holds, Room, Ready, Follows, theBy, Takes, stringAt, Quoted, Reads, Meets, Before}
-use Rattle.grammar.specs.Signs.{postfixSign}
+use Rattle.reading.specs.Signs.{postfixSign}
 use Rattle.reading.specs.Turns.{inner, ReadsItems, MeetsItems, refusalOf, specialOf, Unquoted, Tops, ReadsTurn, MeetsTurn, Onward, MeetsTurns}
 use Rattle.reading.specs.declared.answers.Read.{Read}
 use Rattle.reading.specs.declared.answers.Read.the-variants.{Done, Refused}

@@ -9,6 +9,7 @@ use lib.ListN.{length, length-map, take}
 use borrow.Author.Tests.{lt-ltb, le-ltb, ltb-true, ltb-false}
 use Rattle.tokens.specs.Text.{if_then_else_, script}
 use Rattle.tokens.specs.Names.{Lists}
+use Rattle.tokens.proofs.Outcomes.{one-outcome}
 use Rattle.grammar.specs.Sizes.{recordWidth, entryWidth, mostRecords, mostStatements, recordRoom, statementRoom}
 use Rattle.grammar.specs.Script.{Entry, Outcome, accepted, refused, fitting, readScript, reading, statements, words, nodes, tokensOf}
 use Rattle.grammar.specs.Words.{wordsOf, rowOf, rowWords, directoryOf}
@@ -32,7 +33,7 @@ use Rattle.reading.proofs.JudgeLaws.{script-in, script-take, toks-all, 
 
 pub leaves-same : {l : Lists} {bs o d : List ℕ} {r₁ r₂ : Answer} {o₁ o₂ d₁ d₂ : List ℕ} → Leaves l bs o d r₁ o₁ d₁ → Leaves l bs o d r₂ o₂ d₂
     → (r₁ ≡ r₂) × (o₁ ≡ o₂) × (d₁ ≡ d₂)
-leaves-same x y = (x .answer ∙ sym (y .answer), x .records ∙ sym (y .records), x .directory ∙ sym (y .directory))
+leaves-same x y = (one-outcome (x .answer) (y .answer), one-outcome (x .records) (y .records), one-outcome (x .directory) (y .directory))
 
 -- ---- rows as words
 

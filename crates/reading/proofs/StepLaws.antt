@@ -22,7 +22,7 @@ use Rattle.reading.specs.declared.records.Node.{Node}
 use Rattle.reading.specs.declared.records.Joined.{Joined}
 use Rattle.reading.specs.Atoms.{literal, atom}
 use Rattle.reading.specs.Meets.{toksAt, tokenAt, Holds, Room, Ready, Follows, Takes, Reads, Meets}
-use Rattle.grammar.specs.Signs.{comparator}
+use Rattle.reading.specs.Signs.{comparator}
 use Rattle.reading.specs.Turns.{inner, parenthesised, listPostfixed}
 use Rattle.reading.specs.declared.answers.Read.{Read}
 use Rattle.reading.specs.declared.answers.Read.the-variants.{Done, Refused}

@@ -4,6 +4,7 @@ pub mod Rows
 pub mod Joins
 pub mod Meets
 pub mod Calls
+pub mod Signs
 pub mod Turns
 pub mod Bodies
 pub mod Scripts

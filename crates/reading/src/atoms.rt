@@ -59,7 +59,7 @@ pub fn constant_at(s: &[u8], c: Cursor, minus: bool, out: &mut [u32], n: u32) ->
 }
 
 // The string at c.
-pub fn string_at(s: &[u8], c: Cursor, out: &mut [u32], n: u32) -> Read
+fn string_at(s: &[u8], c: Cursor, out: &mut [u32], n: u32) -> Read
     requires { ⌜ Ready (now s) c n × (c .code ≡ 5) ⌝ }
     ensures { λ r. ⌜ Meets (now (s .entry)) (atom (toksAt (now (s .entry)) (c .start))) n (now (out .entry)) r (now (out .exit)) ⌝ }
 {

@@ -93,7 +93,7 @@ pub fn method_of(w: &[u8], count: u32) -> u8
 }
 
 // A string token that must be a date.
-pub fn date(s: &[u8], c: Cursor) -> Number
+fn date(s: &[u8], c: Cursor) -> Number
     requires { ⌜ Holds (now s) c ⌝ }
     ensures { λ r. ⌜ MeetsNumber (now (s .entry)) (aDate (toksAt (now (s .entry)) (c .start))) r ⌝ }
 {
@@ -112,7 +112,7 @@ pub fn date(s: &[u8], c: Cursor) -> Number
 }
 
 // A string token that must be a currency.
-pub fn currency(s: &[u8], currencies: &[u8], c: Cursor) -> Number
+fn currency(s: &[u8], currencies: &[u8], c: Cursor) -> Number
     requires { ⌜ Holds (now s) c × Few (now currencies) ⌝ }
     ensures { λ r. ⌜ MeetsNumber (now (s .entry)) (aCurrency (wordsIn [] (now (currencies .entry)) []) (toksAt (now (s .entry)) (c .start))) r ⌝ }
 {

@@ -22,12 +22,12 @@ use crate::calls::method_of;
 use crate::records::join;
 use crate::records::plain;
 use crate::records::put;
-use grammar::signs::is_comparator;
-use grammar::signs::is_joint;
-use grammar::signs::is_postfix;
-use grammar::signs::is_power;
-use grammar::signs::is_product;
-use grammar::signs::is_sum;
+use crate::signs::is_comparator;
+use crate::signs::is_joint;
+use crate::signs::is_postfix;
+use crate::signs::is_power;
+use crate::signs::is_product;
+use crate::signs::is_sum;
 use tokens::codes::CLOSE_BRACKET;
 use tokens::codes::CLOSE_PAREN;
 use tokens::codes::DOT;
@@ -47,7 +47,7 @@ ghost use Rattle.grammar.specs.Trees.{Tree};
 ghost use Rattle.grammar.specs.Grammar.{power, product, sum, comparison, expression, arguments, methodOf, indexOf, postfixTurn, postfixes, calls, callOf, call, name, pays, primary};
 ghost use Rattle.reading.specs.Calls.{callKind};
 ghost use Rattle.reading.specs.Meets.{wordsIn, toksAt, tokenAt, Holds, Ready, Few, Follows, Meets};
-ghost use Rattle.grammar.specs.Signs.{postfixSign};
+ghost use Rattle.reading.specs.Signs.{postfixSign};
 ghost use Rattle.reading.specs.Turns.{inner, parenthesised, listPostfixed, itemsBy, Closing, Closed, MeetsItems, Tops, MeetsTurns};
 
 // Comparisons joined by `and` and `or`, one level, left to right.

@@ -5,11 +5,13 @@ use tokens::names::is_well_formed;
 use tokens::scanning::Scanned;
 use tokens::scanning::scan;
 use tokens::text::ScriptEnd;
+use tokens::text::find;
 use tokens::text::script_end;
 ghost use mathlib.Core.Path.{_≡_};
 ghost use Prim.Native.Nat.{_≤_};
 ghost use lib.ListN.{length};
 ghost use Rattle.tokens.specs.Names.{goodLists};
+ghost use Rattle.grammar.specs.Script.{noZero};
 ghost use Rattle.reading.specs.Meets.{Few};
 ghost use Rattle.reading.specs.Judging.{listsIn, judgement, textJudgement};
 
@@ -32,13 +34,25 @@ pub enum Judged {
 pub fn judge(script: &[u8], reserved: &[u8], currencies: &[u8], counters: &[u8]) -> Judged
     ensures { λ r. ⌜ r ≡ judgement (listsIn (now (reserved .entry)) (now (currencies .entry)) (now (counters .entry))) (now (script .entry)) ⌝ }
 {
-    let ScriptEnd::At(n) = script_end(script) else {
-        return Judged::Refused(1, 0);
-    };
-    if !are_well_formed(reserved, currencies, counters) {
-        return Judged::Refused(2, 0);
+    match script_end(script) {
+        ScriptEnd::Refused(k, b) => Judged::Refused(k, b),
+        ScriptEnd::At(n) => {
+            if !are_well_formed(reserved, currencies, counters) {
+                return Judged::Refused(2, 0);
+            }
+            judge_text(&script[..n], reserved, currencies, counters)
+        }
     }
-    judge_text(&script[..n], reserved, currencies, counters)
+}
+
+// Whether a text has no zero byte, however long it is.
+pub fn is_clear(text: &[u8]) -> bool
+    ensures { λ r. ⌜ r ≡ noZero (now (text .entry)) ⌝ }
+{
+    if find(text, 0, 0) < text.len() {
+        return false;
+    }
+    true
 }
 
 fn are_well_formed(reserved: &[u8], currencies: &[u8], counters: &[u8]) -> bool

@@ -12,4 +12,5 @@ pub mod reading;
 mod records;
 pub mod rooms;
 mod scripts;
+mod signs;
 mod statements;

@@ -70,7 +70,8 @@ fn acceptance(c: Counts) -> Answer
     }
 }
 
-fn refusal(script: &[u8], number: u32, byte: usize) -> Answer
+// A refusal, with the line and the column of its byte; the counts are 0.
+pub fn refusal(script: &[u8], number: u32, byte: usize) -> Answer
     ensures { λ r. ⌜ r ≡ refusedAt (now (script .entry)) number byte ⌝ }
 {
     let place = place_of(script, byte);

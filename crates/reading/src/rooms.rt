@@ -1,8 +1,11 @@
-// How many records and statements lent memory has room for.
+// How many bytes, records and statements lent memory has room for, and the most tokens.
 use crate::records::Entry;
 use crate::records::Node;
+use tokens::cursor::Cursor;
 ghost use mathlib.Core.Path.{_≡_};
+ghost use Prim.Native.Nat.{min};
 ghost use lib.Dec.{ltb};
+ghost use Rattle.tokens.specs.Limits.{mostBytes};
 ghost use Rattle.tokens.specs.Text.{if_then_else_};
 ghost use Rattle.grammar.specs.Sizes.{recordRoom, statementRoom};
 
@@ -11,10 +14,18 @@ pub const RECORD_WIDTH: usize = Node::WIDTH;
 
 pub const ENTRY_WIDTH: usize = Entry::WIDTH;
 
+pub const MOST_TOKENS: usize = Cursor::TOKENS;
+
 fn capped(most: usize, n: usize) -> usize
     ensures { λ r. ⌜ r ≡ (if ltb most n then most else n) ⌝ }
 {
     if most < n { most } else { n }
+}
+
+pub fn byte_room(bytes: usize) -> usize
+    ensures { λ r. ⌜ r ≡ min mostBytes bytes ⌝ }
+{
+    capped(Cursor::BYTES, bytes)
 }
 
 pub fn record_room(words: usize) -> usize

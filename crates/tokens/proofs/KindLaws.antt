@@ -1,23 +1,17 @@
--- The numbers of the kinds: the table that the token step reads and the numbers that the kinds have are the same.
+-- The numbers of the kinds are those that the definition of tokens gives.
 use mathlib.Core.Path.{_≡_, refl}
 use mathlib.Core.Bool.{Bool, true}
-use mathlib.Core.List.{List, [], _∷_}
+use mathlib.Core.List.{List}
 use Prim.Native.Nat.{ℕ}
 use Prim.Native.String.{String}
 use lib.Dec.{eqb}
 use Rattle.tokens.specs.Text.{every}
 use Rattle.tokens.specs.Tokens.{signs, keywords, code}
 use Rattle.tokens.specs.Keys.{lookup}
-use Rattle.tokens.specs.Kinds.{codeOf, kinds, kindBy, kindOf}
-use Rattle.tokens.specs.declared.kinds.Kind.{Kind}
+use Rattle.tokens.specs.Kinds.{codeOf, kindBy, kindOf}
 use Rattle.tokens.specs.declared.kinds.Kind.the-variants.{Identifier, String as Text, Newline, Eof}
 
--- each entry of the table has its kind's own number
-pub kinds-numbered : every (λ (e : ℕ × Kind). eqb (codeOf (e .1)) (e .0)) kinds ≡ true
-unfolding every
-kinds-numbered = refl
-
--- each sign and each keyword of the definition is a kind of the table, with the number that the definition gives it
+-- each sign and each keyword is a kind, with the number that the definition gives it
 abbrev numbered : String × ℕ → Bool
 numbered e = eqb (codeOf (kindBy (e .1))) (e .1)
 

@@ -1,4 +1,5 @@
 -- Laws of the definitions, for the layers above and for the proofs of this one.
+pub mod Outcomes
 pub mod Joins
 pub mod Cuts
 pub mod Shapes

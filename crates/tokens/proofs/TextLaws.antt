@@ -12,7 +12,7 @@ use borrow.Author.Tests.{eq-eqb, ne-eqb, lt-ltb, le-ltb}
 use Rattle.tokens.specs.Limits.{mostBytes}
 use Rattle.tokens.specs.Text.{if_then_else_, leading, other, same, count, script}
 use Rattle.tokens.specs.Lexing.{scriptEnd}
-use Rattle.tokens.specs.declared.text.ScriptEnd.the-variants.{At, TooLong}
+use Rattle.tokens.specs.declared.text.ScriptEnd.the-variants as ends
 use Rattle.tokens.proofs.Shapes.{leading-le}
 
 -- ---- counts
@@ -62,14 +62,14 @@ module _ (a b : List ℕ) (i : ℕ) where
 -- ---- where a script ends
 
 module _ (s : List ℕ) where
-  script-length : length (script s) ≡ leading (other 0) s
+  pub script-length : length (script s) ≡ leading (other 0) s
   unfolding script
   script-length = length-take-le _ s (leading-le (other 0) s)
 
-  pub script-at : (n : ℕ) → n ≡ leading (other 0) s → n ≤ mostBytes → At n ≡ scriptEnd s
+  pub script-at : (n : ℕ) → n ≡ leading (other 0) s → n ≤ mostBytes → ends.At n ≡ scriptEnd s
   unfolding scriptEnd
   script-at n e h = rw (script-length, ← e, le-ltb mostBytes n h)
 
-  pub script-long : mostBytes < leading (other 0) s → TooLong ≡ scriptEnd s
+  pub script-long : mostBytes < leading (other 0) s → ends.Refused 1 0 ≡ scriptEnd s
   unfolding scriptEnd
   script-long h = rw (script-length, lt-ltb mostBytes _ h)

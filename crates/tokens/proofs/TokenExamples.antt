@@ -16,7 +16,7 @@ use Rattle.tokens.specs.Views.{tokenAfter}
 use Rattle.tokens.specs.Computing.{computing}
 use Rattle.tokens.specs.declared.kinds.Literal.the-variants.{Number, Truth}
 use Rattle.tokens.specs.declared.kinds.Kind.the-variants as kind
-use Rattle.tokens.specs.declared.text.ScriptEnd.the-variants.{At, TooLong}
+use Rattle.tokens.specs.declared.text.ScriptEnd.the-variants as ends
 use Rattle.tokens.specs.declared.scanning.Found.the-variants as found
 use Rattle.tokens.specs.declared.scanning.Scanned.the-variants as scanned
 use Rattle.tokens.specs.declared.cursor.Cursor.{Cursor}
@@ -361,15 +361,15 @@ end-stays = refl
 -- ---- where a script ends
 
 -- the first zero byte, or else the slice's end
-ends-at-zero : scriptEnd (bytes "x;\0y;\0") ≡ At 2
+ends-at-zero : scriptEnd (bytes "x;\0y;\0") ≡ ends.At 2
 unfolding computing
 ends-at-zero = refl
 
-ends-at-end : scriptEnd (bytes "x;y;") ≡ At 4
+ends-at-end : scriptEnd (bytes "x;y;") ≡ ends.At 4
 unfolding computing
 ends-at-end = refl
 
-ends-at-start : scriptEnd [] ≡ At 0
+ends-at-start : scriptEnd [] ≡ ends.At 0
 unfolding computing
 ends-at-start = refl
 
@@ -377,19 +377,19 @@ ends-at-start = refl
 abbrev long : ℕ → List ℕ → List ℕ
 long n l = replicate n 32 ++ l
 
-longest : scriptEnd (long 16384 []) ≡ At 16384
+longest : scriptEnd (long 16384 []) ≡ ends.At 16384
 unfolding computing
 longest = refl
 
-longest-with-zero : scriptEnd (long 16384 (0 ∷ 32 ∷ [])) ≡ At 16384
+longest-with-zero : scriptEnd (long 16384 (0 ∷ 32 ∷ [])) ≡ ends.At 16384
 unfolding computing
 longest-with-zero = refl
 
-too-long : scriptEnd (long 16385 (0 ∷ [])) ≡ TooLong
+too-long : scriptEnd (long 16385 (0 ∷ [])) ≡ ends.Refused 1 0
 unfolding computing
 too-long = refl
 
-zero-early : scriptEnd (bytes "x;\0" ++ replicate 20000 120) ≡ At 2
+zero-early : scriptEnd (bytes "x;\0" ++ replicate 20000 120) ≡ ends.At 2
 unfolding computing
 zero-early = refl
 

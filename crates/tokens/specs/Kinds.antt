@@ -1,6 +1,6 @@
 -- The kinds of tokens as the code names them, and the number of each.
 use mathlib.Core.Bool.{true, false}
-use mathlib.Core.List.{List, [], _∷_}
+use mathlib.Core.List.{List, [], _∷_, map}
 use Prim.Native.Nat.{ℕ}
 use lib.Dec.{eqb}
 use Rattle.tokens.specs.Text.{if_then_else_}
@@ -64,48 +64,12 @@ codeOf Eof = 0
 -- every kind but those of a number literal and of the end, with its number
 abbrev pub kinds : List (ℕ × Kind)
 kinds =
-    (1, Identifier)
-    ∷ (3, Value (Truth true))
-    ∷ (4, Value (Truth false))
-    ∷ (5, String)
-    ∷ (8, Plus)
-    ∷ (9, Minus)
-    ∷ (10, Multiply)
-    ∷ (11, Divide)
-    ∷ (12, Power)
-    ∷ (13, Equal)
-    ∷ (14, NotEqual)
-    ∷ (15, Superior)
-    ∷ (16, Inferior)
-    ∷ (17, SuperiorOrEqual)
-    ∷ (18, InferiorOrEqual)
-    ∷ (19, And)
-    ∷ (20, Or)
-    ∷ (28, PlusAssign)
-    ∷ (29, MinusAssign)
-    ∷ (30, MultiplyAssign)
-    ∷ (31, DivideAssign)
-    ∷ (36, Pays)
-    ∷ (37, Assign)
-    ∷ (38, If)
-    ∷ (39, For)
-    ∷ (40, OpenParen)
-    ∷ (41, CloseParen)
-    ∷ (42, OpenCurlyParen)
-    ∷ (43, CloseCurlyParen)
-    ∷ (44, OpenBracket)
-    ∷ (45, CloseBracket)
-    ∷ (46, Comma)
-    ∷ (47, Dot)
-    ∷ (48, Semicolon)
-    ∷ (49, Else)
-    ∷ (50, On)
-    ∷ (51, In)
-    ∷ (52, Then)
-    ∷ (53, End)
-    ∷ (54, Not)
-    ∷ (55, Newline)
-    ∷ []
+    map (λ (k : Kind). (codeOf k, k))
+    (Identifier ∷ Value (Truth true) ∷ Value (Truth false) ∷ String ∷ Plus ∷ Minus ∷ Multiply
+    ∷ Divide ∷ Power ∷ Equal ∷ NotEqual ∷ Superior ∷ Inferior ∷ SuperiorOrEqual ∷ InferiorOrEqual
+    ∷ And ∷ Or ∷ PlusAssign ∷ MinusAssign ∷ MultiplyAssign ∷ DivideAssign ∷ Pays ∷ Assign ∷ If
+    ∷ For ∷ OpenParen ∷ CloseParen ∷ OpenCurlyParen ∷ CloseCurlyParen ∷ OpenBracket ∷ CloseBracket
+    ∷ Comma ∷ Dot ∷ Semicolon ∷ Else ∷ On ∷ In ∷ Then ∷ End ∷ Not ∷ Newline ∷ [])
 
 unfoldable pub kindBy : ℕ → Kind
 kindBy c = lookup Eof c kinds

@@ -9,7 +9,7 @@ use Rattle.tokens.specs.Text.{if_then_else_, leading, nameByte, numberBy
 use Rattle.tokens.specs.Tokens.{Token, Lexeme, gap, piece, fault, word, numeral, quoted, cut, code, lexeme, Lexed, lexed, refused, scan, counts, endOf}
 use Rattle.tokens.specs.Kinds.{kindOf}
 use Rattle.tokens.specs.declared.text.ScriptEnd.{ScriptEnd}
-use Rattle.tokens.specs.declared.text.ScriptEnd.the-variants.{At, TooLong}
+use Rattle.tokens.specs.declared.text.ScriptEnd.the-variants as ends
 use Rattle.tokens.specs.declared.lexing.Mark.{Mark}
 use Rattle.tokens.specs.declared.scanning.Found.{Found}
 use Rattle.tokens.specs.declared.scanning.Found.the-variants as found
@@ -19,8 +19,9 @@ use Rattle.tokens.specs.declared.cursor.Cursor.{Cursor}
 
 -- ---- the script's end
 
+-- a script that is too long is refused (1) at byte 0
 unfoldable pub scriptEnd : List ℕ → ScriptEnd
-scriptEnd bs = let n = length (script bs) in if ltb mostBytes n then TooLong else At n
+scriptEnd bs = let n = length (script bs) in if ltb mostBytes n then ends.Refused 1 0 else ends.At n
 
 -- ---- what stands at a place of a text
 

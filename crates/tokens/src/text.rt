@@ -6,10 +6,10 @@ ghost use lib.ListN.{drop};
 ghost use Rattle.tokens.specs.Text.{within, digit, capital, letter, nameByte, numberByte, blank, leading, other, same};
 ghost use Rattle.tokens.specs.Lexing.{scriptEnd};
 
-// Where a script ends, or that it is too long.
+// Where a script ends, or a refusal: its number and its byte.
 pub enum ScriptEnd {
     At(usize),
-    TooLong,
+    Refused(u32, usize),
 }
 
 fn is_within(low: u8, high: u8, b: u8) -> bool
@@ -97,7 +97,7 @@ pub fn script_end(bytes: &[u8]) -> ScriptEnd
             return ScriptEnd::At(i);
         }
         if i == Cursor::BYTES {
-            return ScriptEnd::TooLong;
+            return ScriptEnd::Refused(1, 0);
         }
         i += 1;
     }

@@ -17,8 +17,8 @@ enum-known-k : tie.Need-enum-known-k
 enum-known-k c = search needs
 
 -- src/amending.rt:47:35
-refusal-requires : tie.Need-refusal-requires
-refusal-requires c κs = search needs
+unchanged-requires : tie.Need-unchanged-requires
+unchanged-requires c κs = search needs
 
 -- src/amending.rt:48:23
 enum-known-c : tie.Need-enum-known-c
@@ -46,7 +46,7 @@ same-length-3 c = search needs
 
 -- src/amending.rt:23:1
 returns : tie.Need-returns
-returns c = refuses (listsIn (c .before .before .before .before .before .before .before .before .before .before .before .before .before .before .before .args .reserved .now) (c .before .before .before .before .before .before .before .before .before .before .before .before .before .before .before .args .currencies .now) (c .before .before .before .before .before .before .before .before .before .before .before .before .before .before .before .args .counters .now)) (memory (c .before .before .before .before .before .before .before .before .before .before .before .before .before .before .before .args .script .now) (c .before .before .before .before .before .before .before .before .before .before .before .before .before .before .before .args .records .now) (c .before .before .before .before .before .before .before .before .before .before .before .before .before .before .before .args .directory .now)) (c .before .before .before .before .before .before .before .before .before .before .before .before .before .before .before .args .held) (c .before .before .before .before .before .before .before .before .before .before .before .before .before .before .before .args .statement) (c .before .before .before .before .before .before .before .before .before .before .before .before .before .before .before .args .text .now) (c .refusal .ensures) (verdict-refused (listsIn (c .before .before .before .before .before .before .before .before .before .before .before .before .before .before .before .args .reserved .now) (c .before .before .before .before .before .before .before .before .before .before .before .before .before .before .before .args .currencies .now) (c .before .before .before .before .before .before .before .before .before .before .before .before .before .before .before .args .counters .now)) (memory (c .before .before .before .before .before .before .before .before .before .before .before .before .before .before .before .args .script .now) (c .before .before .before .before .before .before .before .before .before .before .before .before .before .before .before .args .records .now) (c .before .before .before .before .before .before .before .before .before .before .before .before .before .before .before .args .directory .now)) (c .before .before .before .before .before .before .before .before .before .before .before .before .before .before .before .args .held) (c .before .before .before .before .before .before .before .before .before .before .before .before .before .before .before .args .statement) (c .before .before .before .before .before .before .before .before .before .before .before .before .before .before .before .args .text .now) _ _ (c .before .before .k .given .1) (c .before .before .before .before .verdict-on .ensures))
+returns c = refuses (listsIn (c .before .before .before .before .before .before .before .before .before .before .before .before .before .before .before .args .reserved .now) (c .before .before .before .before .before .before .before .before .before .before .before .before .before .before .before .args .currencies .now) (c .before .before .before .before .before .before .before .before .before .before .before .before .before .before .before .args .counters .now)) (memory (c .before .before .before .before .before .before .before .before .before .before .before .before .before .before .before .args .script .now) (c .before .before .before .before .before .before .before .before .before .before .before .before .before .before .before .args .records .now) (c .before .before .before .before .before .before .before .before .before .before .before .before .before .before .before .args .directory .now)) (c .before .before .before .before .before .before .before .before .before .before .before .before .before .before .before .args .held) (c .before .before .before .before .before .before .before .before .before .before .before .before .before .before .before .args .statement) (c .before .before .before .before .before .before .before .before .before .before .before .before .before .before .before .args .text .now) (c .unchanged .ensures) (verdict-refused (listsIn (c .before .before .before .before .before .before .before .before .before .before .before .before .before .before .before .args .reserved .now) (c .before .before .before .before .before .before .before .before .before .before .before .before .before .before .before .args .currencies .now) (c .before .before .before .before .before .before .before .before .before .before .before .before .before .before .before .args .counters .now)) (memory (c .before .before .before .before .before .before .before .before .before .before .before .before .before .before .before .args .script .now) (c .before .before .before .before .before .before .before .before .before .before .before .before .before .before .before .args .records .now) (c .before .before .before .before .before .before .before .before .before .before .before .before .before .before .before .args .directory .now)) (c .before .before .before .before .before .before .before .before .before .before .before .before .before .before .before .args .held) (c .before .before .before .before .before .before .before .before .before .before .before .before .before .before .before .args .statement) (c .before .before .before .before .before .before .before .before .before .before .before .before .before .before .before .args .text .now) _ _ (c .before .before .k .given .1) (c .before .before .before .before .verdict-on .ensures))
 
 -- src/amending.rt:23:1
 same-length-4 : tie.Need-same-length-4
@@ -70,7 +70,7 @@ amend-spec =
     (tie.spec
     verdict-on-requires
     enum-known-k
-    refusal-requires
+    unchanged-requires
     enum-known-c
     replace-requires
     acceptance-requires

@@ -1,6 +1,6 @@
 -- `stops_pays` tells what ends the parts of a pays.
 use borrow.Author.Tests.{eq-eqb}
-use Rattle.grammar.proofs.SignLaws.{is-it, is-other, turned}
+use Rattle.reading.proofs.SignLaws.{is-it, is-other, turned}
 use Rattle.reading.proofs.calling.stops_pays.Statement.{statement}
 use Rattle.reading.proofs.calling.stops_pays.Tie as tie
 

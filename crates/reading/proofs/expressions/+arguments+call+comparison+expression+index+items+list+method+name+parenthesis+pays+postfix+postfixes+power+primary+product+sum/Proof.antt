@@ -69,12 +69,12 @@ use Rattle.reading.proofs.calls.method_of.Reads as method-of-reads
 use Rattle.reading.proofs.records.join.Reads as join-reads
 use Rattle.reading.proofs.records.plain.Reads as plain-reads
 use Rattle.reading.proofs.records.put.Reads as put-reads
-use Rattle.grammar.proofs.signs.is_comparator.Reads as is-comparator-reads
-use Rattle.grammar.proofs.signs.is_joint.Reads as is-joint-reads
-use Rattle.grammar.proofs.signs.is_postfix.Reads as is-postfix-reads
-use Rattle.grammar.proofs.signs.is_power.Reads as is-power-reads
-use Rattle.grammar.proofs.signs.is_product.Reads as is-product-reads
-use Rattle.grammar.proofs.signs.is_sum.Reads as is-sum-reads
+use Rattle.reading.proofs.signs.is_comparator.Reads as is-comparator-reads
+use Rattle.reading.proofs.signs.is_joint.Reads as is-joint-reads
+use Rattle.reading.proofs.signs.is_postfix.Reads as is-postfix-reads
+use Rattle.reading.proofs.signs.is_power.Reads as is-power-reads
+use Rattle.reading.proofs.signs.is_product.Reads as is-product-reads
+use Rattle.reading.proofs.signs.is_sum.Reads as is-sum-reads
 use Rattle.reading.proofs.calling.stops_pays.Reads as stops-pays-reads
 use Rattle.reading.proofs.expressions.+arguments+call+comparison+expression+index+items+list+method+name+parenthesis+pays+postfix+postfixes+power+primary+product+sum.{statement}
 use Rattle.reading.proofs.expressions.+arguments+call+comparison+expression+index+items+list+method+name+parenthesis+pays+postfix+postfixes+power+primary+product+sum.Tie.{close}
@@ -93,7 +93,7 @@ use Rattle.reading.proofs.StepLaws.{done-reads, refused-on, meets-as, f
 use Rattle.reading.proofs.ChainLaws.{power-level, product-level, sum-level, joint-level, chain-exit, Pending, pend-first, pend-next, pend-ready, pend-refused, pend-numbers, pend-chain, pend-less}
 use Rattle.grammar.proofs.SizeLaws.{primary-size, sum-size}
 use mathlib.Core.Logic.{inl, inr}
-use Rattle.grammar.specs.Signs.{jointSign, sumSign, productSign, powerSign}
+use Rattle.reading.specs.Signs.{jointSign, sumSign, productSign, powerSign}
 use Rattle.reading.specs.Turns.{itemsBy, inner}
 use Rattle.grammar.proofs.GrammarLaws.{primary-law}
 use Rattle.reading.proofs.ItemLaws.{ItemChain, items-start, items-exit, items-ready, items-refused, items-numbers, items-wrong, items-less, items-next, done-items, items-refused-on, refusal-on, closed-code, parts-refusal, follows-as, shown-inside, arguments-no, arguments-0, arguments-ready, arguments-refused, arguments-done, arguments-within, call-refused, call-faulty, call-done, list-0, list-ready, list-refused, list-numbers, list-after, list-done, list-tops, PayChain, pay-start, pay-ready, pay-refused, pay-numbers, pay-less, pay-next, pays-0, pays-ready, pays-refused, pays-done}

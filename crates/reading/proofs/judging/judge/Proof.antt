@@ -12,26 +12,26 @@ use lib.Seq.{length-take-le}
 script-end-requires : tie.Need-script-end-requires
 script-end-requires c κs = search needs
 
+enum-known-k : tie.Need-enum-known-k
+enum-known-k c = search needs
+
 enum-known-n : tie.Need-enum-known-n
 enum-known-n c = search needs
-
-enum-told : tie.Need-enum-told
-enum-told c = search needs
-
-returns : tie.Need-returns
-returns c = sym (judge-long (c .before .before .before .before .before .before .before .args .script .now) (listsIn (c .before .before .before .before .before .before .before .args .reserved .now) (c .before .before .before .before .before .before .before .args .currencies .now) (c .before .before .before .before .before .before .before .args .counters .now)) (sym (c .before .before .script-end .ensures) ∙ c .enum-told .given .1))
 
 are-well-formed-requires : tie.Need-are-well-formed-requires
 are-well-formed-requires c κs = search needs
 
-returns-2 : tie.Need-returns-2
-returns-2 c = sym (judge-lists (c .before .before .before .before .before .before .before .before .before .before .args .script .now) (listsIn (c .before .before .before .before .before .before .before .before .before .before .args .reserved .now) (c .before .before .before .before .before .before .before .before .before .before .args .currencies .now) (c .before .before .before .before .before .before .before .before .before .before .args .counters .now)) (sym (c .before .before .before .before .before .script-end .ensures) ∙ c .before .before .before .n .given .1) (sym (c .before .are-well-formed .ensures) ∙ not-true _ (c .if1 .taken)))
+returns : tie.Need-returns
+returns c = sym (judge-lists (c .before .before .before .before .before .before .before .before .before .before .args .script .now) (listsIn (c .before .before .before .before .before .before .before .before .before .before .args .reserved .now) (c .before .before .before .before .before .before .before .before .before .before .args .currencies .now) (c .before .before .before .before .before .before .before .before .before .before .args .counters .now)) (sym (c .before .before .before .before .before .script-end .ensures) ∙ c .before .before .before .n .given .1) (sym (c .before .are-well-formed .ensures) ∙ not-true _ (c .if1 .taken)))
 
 slice-aggregate-judge-text : tie.Need-slice-aggregate-judge-text
 slice-aggregate-judge-text c = sym (length-take-le _ (c .before .before .before .before .before .before .before .before .before .before .before .args .script .now) (end-short (c .before .before .before .before .before .before .before .before .before .before .before .args .script .now) (sym (c .before .before .before .before .before .before .script-end .ensures) ∙ c .before .before .before .before .n .given .1) .1))
 
 judge-text-requires : tie.Need-judge-text-requires
 judge-text-requires c κs = (omega (arith, length-take-le _ (c .before .before .before .before .before .before .before .before .before .before .before .args .script .now) (end-short (c .before .before .before .before .before .before .before .before .before .before .before .args .script .now) (sym (c .before .before .before .before .before .before .script-end .ensures) ∙ c .before .before .before .before .n .given .1) .1), end-short (c .before .before .before .before .before .before .before .before .before .before .before .args .script .now) (sym (c .before .before .before .before .before .before .script-end .ensures) ∙ c .before .before .before .before .n .given .1) .0), lists-few (listsIn (c .before .before .before .before .before .before .before .before .before .before .before .args .reserved .now) (c .before .before .before .before .before .before .before .before .before .before .before .args .currencies .now) (c .before .before .before .before .before .before .before .before .before .before .before .args .counters .now)) (sym (c .before .before .are-well-formed .ensures) ∙ not-false _ (c .before .if1 .left)))
+
+returns-2 : tie.Need-returns-2
+returns-2 c = sym (judge-long (c .before .before .before .before .before .before .before .before .args .script .now) (listsIn (c .before .before .before .before .before .before .before .before .args .reserved .now) (c .before .before .before .before .before .before .before .before .args .currencies .now) (c .before .before .before .before .before .before .before .before .args .counters .now)) (sym (c .before .before .before .script-end .ensures) ∙ c .before .k .given .1))
 
 returns-3 : tie.Need-returns-3
 returns-3 c = c .judge-text .ensures ∙ sym (judge-rest (c .before .before .before .before .before .before .before .before .before .before .before .before .args .script .now) (listsIn (c .before .before .before .before .before .before .before .before .before .before .before .before .args .reserved .now) (c .before .before .before .before .before .before .before .before .before .before .before .before .args .currencies .now) (c .before .before .before .before .before .before .before .before .before .before .before .before .args .counters .now)) (sym (c .before .before .before .before .before .before .before .script-end .ensures) ∙ c .before .before .before .before .before .n .given .1) (sym (c .before .before .before .are-well-formed .ensures) ∙ not-false _ (c .before .before .if1 .left)))
@@ -41,11 +41,11 @@ judge-spec =
     tie.close
     (tie.spec
     script-end-requires
+    enum-known-k
     enum-known-n
-    enum-told
-    returns
     are-well-formed-requires
-    returns-2
+    returns
     slice-aggregate-judge-text
     judge-text-requires
+    returns-2
     returns-3)

@@ -1,7 +1,7 @@
 -- `is_comparator` compares a code with two others.
 use borrow.Author.Tests.{le-leb, lt-leb}
-use Rattle.grammar.proofs.signs.is_comparator.Statement.{statement}
-use Rattle.grammar.proofs.signs.is_comparator.Tie as tie
+use Rattle.reading.proofs.signs.is_comparator.Statement.{statement}
+use Rattle.reading.proofs.signs.is_comparator.Tie as tie
 
 returns : tie.Need-returns
 returns c = simp (le-leb _ _ (c .if1 .taken))

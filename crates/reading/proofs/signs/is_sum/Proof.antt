@@ -1,8 +1,8 @@
 -- `is_sum` tells `+` and `-`.
 use borrow.Author.Tests.{eq-eqb}
-use Rattle.grammar.proofs.SignLaws.{is-it, is-other, turned}
-use Rattle.grammar.proofs.signs.is_sum.Statement.{statement}
-use Rattle.grammar.proofs.signs.is_sum.Tie as tie
+use Rattle.reading.proofs.SignLaws.{is-it, is-other, turned}
+use Rattle.reading.proofs.signs.is_sum.Statement.{statement}
+use Rattle.reading.proofs.signs.is_sum.Tie as tie
 
 returns : tie.Need-returns
 returns c = simp (eq-eqb _ 8 (c .if1 .taken), is-it 8 _ (c .if1 .taken))

@@ -11,7 +11,7 @@ use tokens::codes::OR;
 use tokens::codes::PLUS;
 use tokens::codes::POWER;
 ghost use mathlib.Core.Path.{_≡_};
-ghost use Rattle.grammar.specs.Signs.{jointSign, comparator, sumSign, productSign, powerSign, postfixSign};
+ghost use Rattle.reading.specs.Signs.{jointSign, comparator, sumSign, productSign, powerSign, postfixSign};
 
 // `and` and `or`.
 pub fn is_joint(code: u8) -> bool

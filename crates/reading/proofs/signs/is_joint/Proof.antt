@@ -1,8 +1,8 @@
 -- `is_joint` tells `and` and `or`.
 use borrow.Author.Tests.{eq-eqb}
-use Rattle.grammar.proofs.SignLaws.{is-it, is-other, turned}
-use Rattle.grammar.proofs.signs.is_joint.Statement.{statement}
-use Rattle.grammar.proofs.signs.is_joint.Tie as tie
+use Rattle.reading.proofs.SignLaws.{is-it, is-other, turned}
+use Rattle.reading.proofs.signs.is_joint.Statement.{statement}
+use Rattle.reading.proofs.signs.is_joint.Tie as tie
 
 returns : tie.Need-returns
 returns c = simp (eq-eqb _ 19 (c .if1 .taken), is-it 19 _ (c .if1 .taken))

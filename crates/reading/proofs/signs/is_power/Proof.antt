@@ -1,7 +1,7 @@
 -- `is_power` tells `**`.
-use Rattle.grammar.proofs.SignLaws.{turned}
-use Rattle.grammar.proofs.signs.is_power.Statement.{statement}
-use Rattle.grammar.proofs.signs.is_power.Tie as tie
+use Rattle.reading.proofs.SignLaws.{turned}
+use Rattle.reading.proofs.signs.is_power.Statement.{statement}
+use Rattle.reading.proofs.signs.is_power.Tie as tie
 
 returns : tie.Need-returns
 returns c = turned (c .args .code) 12

@@ -1,9 +1,9 @@
 use borrow.Author.Needs.{needs}
 use native.Mathlib.Omega.{arith}
 use mathlib.Core.Path.{sym}
-use Rattle.amending.proofs.GroundLaws.{clear-not, clear-is}
-use Rattle.amending.proofs.grounds.is_clear.Statement.{statement}
-use Rattle.amending.proofs.grounds.is_clear.Tie as tie
+use Rattle.reading.proofs.JudgeLaws.{clear-not, clear-is}
+use Rattle.reading.proofs.judging.is_clear.Statement.{statement}
+use Rattle.reading.proofs.judging.is_clear.Tie as tie
 
 find-requires : tie.Need-find-requires
 find-requires c κs = search needs
