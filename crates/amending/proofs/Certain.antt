@@ -15,7 +15,7 @@ use Rattle.grammar.specs.Sizes.{recordWidth, entryWidth}
 use Rattle.grammar.specs.Script.{Entry, accepted}
 use Rattle.reading.specs.Reading.{readInto, Leaves}
 use Rattle.reading.specs.declared.reading.Answer.{Answer}
-use Rattle.reading.proofs.ReadAnswers.{accepted-is}
+use Rattle.reading.proofs.ReadAnswers as reads
 use Rattle.amending.specs.Amending.{State, Rooms, amend, left, after}
 use Rattle.amending.specs.Lent.{inOrder, given}
 use Rattle.amending.specs.Memory.{Memory, memory, roomsIn, usedIn, within, answered, Amends}
@@ -33,8 +33,19 @@ use Rattle.amending.proofs.KeptLaws.{call-records, call-texts, call-byt
 module _ (l : Lists) where
   -- ---- one call, on any memory
 
+  -- of `read`: its number is one of 0 to 16, its byte is inside the script, and a refused one leaves every word of records and directory as it was
+  module _ {bs o d o′ d′ : List ℕ} {r : Answer} (X : Leaves l bs o d r o′ d′) where
+    pub read-known : r .number ≤ 16
+    read-known = reads.number-known X
+
+    pub read-inside : r .byte ≤ length (script bs)
+    read-inside = reads.byte-inside X
+
+    pub read-refused : (r .number ≡ 0 → ⊥) → (o′ ≡ o) × (d′ ≡ d)
+    read-refused f = let R = reads.refused-keeps X f in (R .0, R .1)
+
   module _ {M : Memory} {h : Held} {k : ℕ} {n : List ℕ} where
-    -- two outcomes of it coincide
+    -- of `amend`: two outcomes of it coincide
     pub amends-same : {r₁ r₂ : Answer} {M₁ M₂ : Memory} → Amends l M h k n r₁ M₁ → Amends l M h k n r₂ M₂ → (r₁ ≡ r₂) × (M₁ ≡ M₂)
     amends-same x y = (one-outcome (x .answer) (y .answer), one-outcome (x .memory) (y .memory))
 
@@ -55,7 +66,7 @@ module _ (l : Lists) where
   -- what `read` accepts leaves such memory
   pub read-holds : {bs o d o′ d′ : List ℕ} {r : Answer} → Leaves l bs o d r o′ d′ → r .number ≡ 0
       → (es : List Entry) × (readInto l bs o d ≡ accepted es) × Holds l (memory bs o′ d′) (heldOf r) (record { script = script bs; entries = es })
-  read-holds X z = let A = accepted-is X z in (A .0, A .1, leaves-holds l (A .1) X)
+  read-holds X z = let A = reads.accepted-is X z in (A .0, A .1, leaves-holds l (A .1) X)
 
   module _ {M : Memory} {h : Held} {st : State} (H : Holds l M h st) where
     -- it goes on holding its state when it is lent in other slices that begin with what is used of it
