@@ -7,7 +7,10 @@ use crate::listing::list;
 use libc::STDIN_FILENO;
 use libc::STDOUT_FILENO;
 use tokens::text::equal;
-ghost use Rattle.listing.specs.Inputs.{Within};
+ghost use mathlib.Core.Path.{_≡_};
+ghost use Prim.Native.Nat.{_+_, _*_, _≤_};
+ghost use lib.ListN.{length};
+ghost use Rattle.listing.specs.Inputs.{Within, ListsInput};
 
 // One byte more than a script may have: enough to tell that it is too long.
 const SCRIPT_ROOM: usize = 16385;
@@ -18,6 +21,12 @@ const TEXT_ROOM: usize = 129051;
 // What came of an input: so many bytes, or a failed read.
 enum Input {
     Got(usize),
+    Failed,
+}
+
+// What an input comes to: so many bytes of it, and of its listing; or a failed read.
+enum Listed {
+    Lines(usize, usize),
     Failed,
 }
 
@@ -40,21 +49,33 @@ fn take_input(fd: i32, out: &mut [u8]) -> Input
     Input::Got(n)
 }
 
-fn list_input(fd: i32, name: &[u8]) {
+// Takes an input into `script`, and puts its listing at the start of `text`.
+fn list_input(fd: i32, script: &mut [u8], text: &mut [u8]) -> Listed
+    requires { ⌜ (length (now script) ≡ 16385) × (27 + 63 * 2048 ≤ length (now text)) ⌝ }
+    ensures { λ r. ⌜ ListsInput r (now (script .exit)) (now (text .exit)) ⌝ }
+{
+    let Input::Got(n) = take_input(fd, script) else {
+        return Listed::Failed;
+    };
+    let k = list(&script[..n], text);
+    Listed::Lines(n, k)
+}
+
+// Writes the listing of an input.
+fn write_listing(fd: i32, name: &[u8]) {
     let mut script = [0u8; SCRIPT_ROOM];
-    let Input::Got(n) = take_input(fd, &mut script) else {
+    let mut text = [0u8; TEXT_ROOM];
+    let Listed::Lines(_, k) = list_input(fd, &mut script, &mut text) else {
         os::fail(name);
         return;
     };
-    let mut text = [0u8; TEXT_ROOM];
-    let k = list(&script[..n], &mut text);
     if !io::write_all(STDOUT_FILENO, &text[..k]) {
         os::fail(b"standard output");
     }
 }
 
 fn list_standard_input() {
-    list_input(STDIN_FILENO, b"standard input");
+    write_listing(STDIN_FILENO, b"standard input");
 }
 
 fn list_file(path: &[u8]) {
@@ -67,7 +88,7 @@ fn list_file(path: &[u8]) {
         os::fail(path);
         return;
     }
-    list_input(fd, path);
+    write_listing(fd, path);
     libc::close(fd);
 }
 

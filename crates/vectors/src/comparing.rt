@@ -18,20 +18,28 @@ use crate::state::SCRIPT_SIZE;
 use crate::state::State;
 use reading::reading::Answer;
 use tokens::text::equal;
+ghost use mathlib.Core.Bool.{not};
+ghost use mathlib.Core.Path.{_≡_};
 ghost use Prim.Native.Nat.{_≤_};
-ghost use lib.ListN.{length};
+ghost use lib.ListN.{length, take};
+ghost use Rattle.tokens.specs.Text.{same};
+ghost use Rattle.vectors.specs.Comparing.{groundStored, countsStored, answerStored, common};
 
 // What a line comes to where the call gave or left something else, beside the sizes above the room.
 pub const DIFFERS: usize = 32770;
 
-fn has_ground(answer: &[usize; 8], a: Answer) -> bool {
+fn has_ground(answer: &[usize; 8], a: Answer) -> bool
+    ensures { λ r. ⌜ r ≡ groundStored (now (answer .entry)) a ⌝ }
+{
     if a.number as usize != answer[0] {
         return false;
     }
     a.byte == answer[1] && (a.line == answer[2] && a.column == answer[3])
 }
 
-fn has_counts(answer: &[usize; 8], a: Answer) -> bool {
+fn has_counts(answer: &[usize; 8], a: Answer) -> bool
+    ensures { λ r. ⌜ r ≡ countsStored (now (answer .entry)) a ⌝ }
+{
     if a.bytes != answer[4] {
         return false;
     }
@@ -39,14 +47,16 @@ fn has_counts(answer: &[usize; 8], a: Answer) -> bool {
 }
 
 // Whether an answer is the stored one, in all its eight numbers.
-pub fn agrees(answer: &[usize; 8], a: Answer) -> bool {
+pub fn agrees(answer: &[usize; 8], a: Answer) -> bool
+    ensures { λ r. ⌜ r ≡ answerStored (now (answer .entry)) a ⌝ }
+{
     has_ground(answer, a) && has_counts(answer, a)
 }
 
-// The first of the first `n` places where two memories differ, or else `n`.
-fn first_difference(a: &Words, b: &Words, n: usize) -> usize
-    requires { ⌜ n ≤ 32768 ⌝ }
-    ensures { λ r. ⌜ r ≤ n ⌝ }
+// The first of the first `n` places where two slices differ, or else `n`.
+fn first_unlike(a: &[u32], b: &[u32], n: usize) -> usize
+    requires { ⌜ (n ≤ length (now a)) × (n ≤ length (now b)) ⌝ }
+    ensures { λ r. ⌜ r ≡ common (take n (now (a .entry))) (take n (now (b .entry))) ⌝ }
 {
     let mut i: usize = 0;
     while i < n {
@@ -58,13 +68,24 @@ fn first_difference(a: &Words, b: &Words, n: usize) -> usize
     n
 }
 
-pub fn is_changed(before: &Words, after: &Words, n: usize) -> bool
+// The same of two memories.
+fn first_difference(a: &Words, b: &Words, n: usize) -> usize
     requires { ⌜ n ≤ 32768 ⌝ }
+    ensures { λ r. ⌜ r ≡ common (take n (now (a .entry))) (take n (now (b .entry))) ⌝ }
 {
-    first_difference(before, after, n) < n
+    first_unlike(a, b, n)
 }
 
-pub fn is_same(a: &Bytes, b: &Bytes, n: usize) -> bool {
+pub fn is_changed(before: &Words, after: &Words, n: usize) -> bool
+    requires { ⌜ n ≤ 32768 ⌝ }
+    ensures { λ r. ⌜ r ≡ not (same (take n (now (before .entry))) (take n (now (after .entry)))) ⌝ }
+{
+    first_unlike(before, after, n) < n
+}
+
+pub fn is_same(a: &Bytes, b: &Bytes, n: usize) -> bool
+    ensures { λ r. ⌜ r ≡ same (take n (now (a .entry))) (take n (now (b .entry))) ⌝ }
+{
     equal(front(a, n), front(b, n))
 }
 

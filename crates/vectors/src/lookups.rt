@@ -11,19 +11,35 @@ use crate::memory::Words;
 use crate::memory::front;
 use crate::memory::load_words;
 use crate::report::say_part;
+use crate::report::say_place;
 use crate::state::CURRENCIES_SIZE;
 use crate::state::SCRIPT_SIZE;
 use crate::state::State;
 use crate::state::held;
+use reading::parts::Place;
 use reading::parts::part;
+use reading::parts::place_of;
 use reading::rooms::RECORD_WIDTH;
 use tokens::text::equal;
+ghost use mathlib.Core.Path.{_≡_};
 ghost use Prim.Native.Nat.{_≤_};
 ghost use lib.ListN.{length};
+ghost use Rattle.vectors.specs.Comparing.{placeStored, partStored};
 
-// Whether a part has the length and the bytes of the one of `size` bytes at `place` of a source. That it begins at this
-// place, in the same memory, no run can tell, since the language compares no addresses: the contract of `part` says it.
-fn is_part(given: &[u8], source: &[u8], place: usize, size: usize) -> bool {
+// Whether a part begins at this place of this source, and is so long.
+fn is_placed(found: Place, in_list: bool, place: usize, size: usize) -> bool
+    ensures { λ r. ⌜ r ≡ placeStored found in_list place size ⌝ }
+{
+    if found.in_list != in_list {
+        return false;
+    }
+    found.from == place && found.size == size
+}
+
+// Whether a part has the length and the bytes of the one of `size` bytes at `place` of a source.
+fn is_part(given: &[u8], source: &[u8], place: usize, size: usize) -> bool
+    ensures { λ r. ⌜ r ≡ partStored (now (given .entry)) (now (source .entry)) place size ⌝ }
+{
     if given.len() != size {
         return false;
     }
@@ -33,7 +49,28 @@ fn is_part(given: &[u8], source: &[u8], place: usize, size: usize) -> bool {
     equal(given, front(&source[place..], size))
 }
 
-// Runs the lookup on a record, which is lent its seven words and none behind them.
+// Runs the lookup by numbers, on a record that is lent its seven words and none behind them, and compares.
+fn is_found(
+    script: &[u8],
+    currencies: &[u8],
+    words: &[u32],
+    start: u32,
+    second: bool,
+    in_list: bool,
+    place: usize,
+    size: usize,
+) -> bool
+    requires { ⌜ 7 ≤ length (now words) ⌝ }
+{
+    let found = place_of(script, currencies, &words[..RECORD_WIDTH], start, second);
+    if is_placed(found, in_list, place, size) {
+        return true;
+    }
+    say_place(found);
+    false
+}
+
+// Runs the lookup that hands back a slice, on the same record.
 fn part_of_words<'a>(
     script: &'a [u8],
     currencies: &'a [u8],
@@ -46,12 +83,38 @@ fn part_of_words<'a>(
     part(script, currencies, &words[..RECORD_WIDTH], start, second)
 }
 
+// Runs that lookup and compares the bytes. Where they begin no run can tell, since the language compares no addresses: the
+// contract of `part` ties that to the lookup by numbers.
+fn is_handed_back<'a>(
+    script: &'a [u8],
+    currencies: &'a [u8],
+    words: &[u32],
+    start: u32,
+    second: bool,
+    in_list: bool,
+    place: usize,
+    size: usize,
+) -> bool
+    requires { ⌜ 7 ≤ length (now words) ⌝ }
+{
+    let given = part_of_words(script, currencies, words, start, second);
+    let same = if in_list {
+        is_part(given, currencies, place, size)
+    } else {
+        is_part(given, script, place, size)
+    };
+    if !same {
+        say_part(given);
+    }
+    same
+}
+
 // Whether fields name a first or second name, and a source that there is. A source is taken with the space behind it.
 fn is_asked(which: usize, source: &[u8]) -> bool {
     (which == 1 || which == 2) && (equal(source, b"c ") || equal(source, b"s "))
 }
 
-// Runs the lookup, asked for the name `which`, and compares.
+// Runs both lookups, asked for the name `which`.
 fn look_up<'a>(
     script: &'a [u8],
     currencies: &'a [u8],
@@ -68,17 +131,30 @@ fn look_up<'a>(
     if !is_asked(which, source) {
         return MALFORMED;
     }
-    let given = part_of_words(script, currencies, words, start as u32, which == 2);
-    let same = if equal(source, b"c ") {
-        is_part(given, currencies, place, size)
-    } else {
-        is_part(given, script, place, size)
-    };
-    if same {
-        return 0;
-    }
-    say_part(given);
-    DIFFERS
+    let first = start as u32;
+    let second = which == 2;
+    let in_list = equal(source, b"c ");
+    let found = is_found(
+        script,
+        currencies,
+        words,
+        first,
+        second,
+        in_list,
+        place,
+        size,
+    );
+    let handed_back = is_handed_back(
+        script,
+        currencies,
+        words,
+        first,
+        second,
+        in_list,
+        place,
+        size,
+    );
+    if found && handed_back { 0 } else { DIFFERS }
 }
 
 // Takes a line that asks for a part: the words of a record, its statement's start, which name, and the part that is expected.

@@ -5,8 +5,9 @@ use crate::fields::number;
 use crate::fields::seek;
 use crate::fields::worth;
 use tokens::text::equal;
+ghost use mathlib.Core.Path.{_≡_};
 ghost use Prim.Native.Nat.{_≤_};
-ghost use lib.ListN.{length};
+ghost use lib.ListN.{length, take};
 
 // The room for the bytes of a script or a list, and for the words of the records or the directory: more than any case uses.
 pub const ROOM: usize = 32768;
@@ -224,7 +225,9 @@ pub fn load_words(s: &[u8], at: usize, end: usize, out: &mut Words) -> usize
 }
 
 // The first `n` bytes, or all where there are fewer.
-pub fn front(s: &[u8], n: usize) -> &[u8] {
+pub fn front(s: &[u8], n: usize) -> &[u8]
+    ensures { λ r. ⌜ now r ≡ take n (now (s .entry)) ⌝ }
+{
     if n < s.len() {
         return &s[..n];
     }

@@ -13,6 +13,7 @@ use crate::tally::LINES;
 use crate::tally::REFUSED;
 use crate::tally::Tallies;
 use libc::STDOUT_FILENO;
+use reading::parts::Place;
 use reading::reading::Answer;
 
 pub fn say(text: &[u8]) {
@@ -62,6 +63,19 @@ fn say_bytes(bytes: &[u8]) {
         say_byte(bytes[i]);
         i += 1;
     }
+}
+
+// Where a lookup found a part, if not at the stored place: its source, place and length.
+pub fn say_place(p: Place) {
+    if p.in_list {
+        say(b"found c ");
+    } else {
+        say(b"found s ");
+    }
+    say_number(p.from);
+    say(b" ");
+    say_number(p.size);
+    say(b" for ");
 }
 
 // A part that a lookup handed back and that differs.
@@ -149,4 +163,11 @@ pub fn say_tally(tally: &Tallies) {
     say_count(b"lines of memory compared", tally[COMPARED]);
     say_count(b"differences", tally[DIFFERENCES]);
     say_count(b"lines not taken", tally[REFUSED]);
+}
+
+// The counts of the cases that are wrong on purpose: each must differ.
+pub fn say_wrong(tally: &Tallies) {
+    say_count(b"cases wrong on purpose", tally[LINES + CASE]);
+    say_count(b"differences of these", tally[DIFFERENCES]);
+    say_count(b"lines of these not taken", tally[REFUSED]);
 }

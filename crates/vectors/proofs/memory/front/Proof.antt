@@ -1,6 +1,6 @@
--- The part is as long as it was asked to be, since that is less than the whole.
+-- The part is as long as it was asked to be, where that is less than the whole.
 use mathlib.Core.Path.{sym}
-use lib.Seq.{length-take-le}
+use lib.Seq.{length-take-le, take-all}
 use borrow.Author.Needs.{needs}
 use Rattle.vectors.proofs.memory.front.Statement.{statement}
 use Rattle.vectors.proofs.memory.front.Tie as tie
@@ -12,7 +12,7 @@ returns : tie.Need-returns
 returns c = search needs
 
 returns-2 : tie.Need-returns-2
-returns-2 c = search needs
+returns-2 c = sym (take-all _ _ (c .if1 .left))
 
 pub front-spec : {M : Type 1} → statement M
 front-spec = tie.close (tie.spec slice-aggregate-result returns returns-2)

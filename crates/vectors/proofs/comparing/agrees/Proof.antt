@@ -1,0 +1,20 @@
+-- Both halves of the answer are the stored ones.
+use mathlib.Core.Path.{sym, _∙_}
+use borrow.Author.Needs.{needs}
+use Rattle.vectors.proofs.comparing.agrees.Statement.{statement}
+use Rattle.vectors.proofs.comparing.agrees.Tie as tie
+
+has-ground-requires : tie.Need-has-ground-requires
+has-ground-requires c κs = search needs
+
+has-counts-requires : tie.Need-has-counts-requires
+has-counts-requires c κs = search needs
+
+returns : tie.Need-returns
+returns c = rw (← c .before .before .has-ground .ensures, c .before .if1 .taken) (c .has-counts .ensures)
+
+returns-2 : tie.Need-returns-2
+returns-2 c = rw (← c .before .has-ground .ensures, c .if1 .left)
+
+pub agrees-spec : {M : Type 1} → statement M
+agrees-spec = tie.close (tie.spec has-ground-requires has-counts-requires returns returns-2)

@@ -1,0 +1,42 @@
+-- When a call gave and left what is stored.
+use mathlib.Core.Bool.{Bool, true, false, _&&_, Bool·beq}
+use mathlib.Core.List.{List, [], _∷_}
+use Prim.Native.Nat.{ℕ, suc}
+use lib.Dec.{eqb, leb}
+use lib.ListN.{length, getD, take, drop}
+use Rattle.tokens.specs.Text.{same}
+use Rattle.reading.specs.declared.reading.Answer.{Answer}
+use Rattle.reading.specs.declared.parts.Place.{Place}
+
+-- ---- answers: the eight stored numbers are l
+
+-- number, byte, line, column
+unfoldable pub groundStored : List ℕ → Answer → Bool
+groundStored l a =
+    eqb (a .number) (getD l 0 0) && (eqb (a .byte) (getD l 1 0) && (eqb (a .line) (getD l 2 0) && eqb (a .column) (getD l 3 0)))
+
+-- bytes, statements, records, tokens
+unfoldable pub countsStored : List ℕ → Answer → Bool
+countsStored l a =
+    eqb (a .bytes) (getD l 4 0) && (eqb (a .statements) (getD l 5 0) && (eqb (a .records) (getD l 6 0) && eqb (a .tokens) (getD l 7 0)))
+
+abbrev pub answerStored : List ℕ → Answer → Bool
+answerStored l a = groundStored l a && countsStored l a
+
+-- ---- memory
+
+-- how many elements at the start of two lists are equal: the place of the first that differ
+unfoldable pub common : List ℕ → List ℕ → ℕ
+common [] bs = 0
+common (a ∷ xs) [] = 0
+common (a ∷ xs) (b ∷ bs) = elim (eqb a b) [ true ↦ suc (common xs bs) | false ↦ 0 ]
+
+-- ---- lookups
+
+-- a place is the stored one: source (in the list or not), first byte, length
+unfoldable pub placeStored : Place → Bool → ℕ → ℕ → Bool
+placeStored p l from n = Bool·beq (p .in_list) l && (eqb (p .from) from && eqb (p .size) n)
+
+-- bytes are those of the stored part: n bytes at the place p of the source s
+unfoldable pub partStored : List ℕ → List ℕ → ℕ → ℕ → Bool
+partStored g s p n = eqb (length g) n && (leb p (length s) && same g (take n (drop p s)))

@@ -1,0 +1,2 @@
+-- What the program compares, and how.
+pub mod Comparing
