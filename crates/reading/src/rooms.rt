@@ -1,4 +1,4 @@
-// How many bytes, records and statements lent memory has room for, and the most tokens.
+// How many bytes, records and statements lent memory has room for, and how many tokens there may be.
 use crate::records::Entry;
 use crate::records::Node;
 use tokens::cursor::Cursor;
@@ -14,6 +14,7 @@ pub const RECORD_WIDTH: usize = Node::WIDTH;
 
 pub const ENTRY_WIDTH: usize = Entry::WIDTH;
 
+// The capacity for tokens, Newlines aside.
 pub const MOST_TOKENS: usize = Cursor::TOKENS;
 
 fn capped(most: usize, n: usize) -> usize
