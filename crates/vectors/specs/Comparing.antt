@@ -1,12 +1,23 @@
--- When a call gave and left what is stored.
+-- What the lines of a case lend, and when a call gave and left what is stored.
 use mathlib.Core.Bool.{Bool, true, false, _&&_, Bool·beq}
 use mathlib.Core.List.{List, [], _∷_}
 use Prim.Native.Nat.{ℕ, suc}
 use lib.Dec.{eqb, leb}
 use lib.ListN.{length, getD, take, drop}
-use Rattle.tokens.specs.Text.{same}
+use Rattle.tokens.specs.Text.{same, within}
 use Rattle.reading.specs.declared.reading.Answer.{Answer}
 use Rattle.reading.specs.declared.parts.Place.{Place}
+use Rattle.amending.specs.declared.held.Held.{Held}
+
+-- ---- lines
+
+-- the kinds that say what a call must have left: script, records, directory, same
+abbrev pub leftKind : ℕ → Bool
+leftKind k = within 4 7 k
+
+-- the counts that are lent to the next call stand at 6 to 9 of what is known of a case
+abbrev pub heldIn : List ℕ → Held
+heldIn l = record { bytes = getD l 6 0; statements = getD l 7 0; records = getD l 8 0; tokens = getD l 9 0 }
 
 -- ---- answers: the eight stored numbers are l
 

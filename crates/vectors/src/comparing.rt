@@ -23,7 +23,7 @@ ghost use mathlib.Core.Path.{_≡_};
 ghost use Prim.Native.Nat.{_≤_};
 ghost use lib.ListN.{length, take};
 ghost use Rattle.tokens.specs.Text.{same};
-ghost use Rattle.vectors.specs.Comparing.{groundStored, countsStored, answerStored, common};
+ghost use Rattle.vectors.specs.Comparing.{groundStored, countsStored, answerStored, common, leftKind};
 
 // What a line comes to where the call gave or left something else, beside the sizes above the room.
 pub const DIFFERS: usize = 32770;
@@ -129,11 +129,10 @@ fn compare_words(s: &[u8], at: usize, end: usize, left: &Words, size: usize) -> 
 }
 
 // The kinds of lines that say what a call must have left.
-pub fn is_left(kind: usize) -> bool {
-    match kind {
-        SCRIPT | RECORDS | DIRECTORY | SAME => true,
-        _ => false,
-    }
+pub fn is_left(kind: usize) -> bool
+    ensures { λ r. ⌜ r ≡ leftKind kind ⌝ }
+{
+    SCRIPT <= kind && kind <= SAME
 }
 
 // Compares memory with what a line says that the call before, which was run, must have left.

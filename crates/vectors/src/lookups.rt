@@ -109,12 +109,48 @@ fn is_handed_back<'a>(
     same
 }
 
+// Runs both, and each tells of what differs.
+fn is_stored<'a>(
+    script: &'a [u8],
+    currencies: &'a [u8],
+    words: &[u32],
+    start: u32,
+    second: bool,
+    in_list: bool,
+    place: usize,
+    size: usize,
+) -> bool
+    requires { ⌜ 7 ≤ length (now words) ⌝ }
+{
+    let found = is_found(
+        script,
+        currencies,
+        words,
+        start,
+        second,
+        in_list,
+        place,
+        size,
+    );
+    let same = is_handed_back(
+        script,
+        currencies,
+        words,
+        start,
+        second,
+        in_list,
+        place,
+        size,
+    );
+    found && same
+}
+
 // Whether fields name a first or second name, and a source that there is. A source is taken with the space behind it.
 fn is_asked(which: usize, source: &[u8]) -> bool {
     (which == 1 || which == 2) && (equal(source, b"c ") || equal(source, b"s "))
 }
 
-// Runs both lookups, asked for the name `which`.
+// Looks up the name `which` of a record, and compares.
 fn look_up<'a>(
     script: &'a [u8],
     currencies: &'a [u8],
@@ -131,30 +167,20 @@ fn look_up<'a>(
     if !is_asked(which, source) {
         return MALFORMED;
     }
-    let first = start as u32;
-    let second = which == 2;
     let in_list = equal(source, b"c ");
-    let found = is_found(
+    if is_stored(
         script,
         currencies,
         words,
-        first,
-        second,
+        start as u32,
+        which == 2,
         in_list,
         place,
         size,
-    );
-    let handed_back = is_handed_back(
-        script,
-        currencies,
-        words,
-        first,
-        second,
-        in_list,
-        place,
-        size,
-    );
-    if found && handed_back { 0 } else { DIFFERS }
+    ) {
+        return 0;
+    }
+    DIFFERS
 }
 
 // Takes a line that asks for a part: the words of a record, its statement's start, which name, and the part that is expected.

@@ -1,6 +1,8 @@
 // What is known of a case between its lines, in one array: how much is used of each memory, the four counts, where the case's
 // text begins, whether a call was run, whether the last one changed memory, and what the fields that it was asked with came to.
 use amending::held::Held;
+ghost use mathlib.Core.Path.{_≡_};
+ghost use Rattle.vectors.specs.Comparing.{heldIn};
 
 pub type State = [usize; 14];
 
@@ -66,7 +68,9 @@ pub fn note_call(state: &mut State, changed: bool) {
     state[CHANGED] = if changed { 1 } else { 0 };
 }
 
-pub fn held(state: &State) -> Held {
+pub fn held(state: &State) -> Held
+    ensures { λ r. ⌜ r ≡ heldIn (now (state .entry)) ⌝ }
+{
     Held {
         bytes: state[BYTES_HELD],
         statements: state[STATEMENTS_HELD],
