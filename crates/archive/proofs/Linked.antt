@@ -48,16 +48,16 @@ replaces-same {l} x y =
 low : (n : ℕ) → n < 4294967296 → word n ≡ n
 low n h = omega (arith, h)
 
--- counts, and all numbers of an answer, that are words
+-- counts that are words
 record Few (h : Held) : Type 0 where
   bytes : h .bytes < 4294967296
   statements : h .statements < 4294967296
   records : h .records < 4294967296
   tokens : h .tokens < 4294967296
 
-placed-small : (a : Answer) → (a .byte ≤ mostBytes) × (a .line ≤ suc mostBytes) × (a .column ≤ suc mostBytes) → Few (heldOf a) → answerWords a ≡ numbers a
+whole-words : (a : Answer) → (a .byte ≤ mostBytes) × (a .line ≤ suc mostBytes) × (a .column ≤ suc mostBytes) → Few (heldOf a) → answerWords a ≡ numbers a
 unfolding answerWords
-placed-small a p f =
+whole-words a p f =
     λ i. a .number ∷ low (a .byte) (omega (arith, p .0)) i ∷ low (a .line) (omega (arith, p .1)) i ∷ low (a .column) (omega (arith, p .2)) i
     ∷ low (a .bytes) (f .bytes) i ∷ low (a .statements) (f .statements) i ∷ low (a .records) (f .records) i ∷ low (a .tokens) (f .tokens) i ∷ []
 
@@ -89,7 +89,7 @@ module _ (l : Lists) where
 
     -- the eight words are the numbers of the answer
     pub read-words : ws ≡ numbers (X .answer)
-    read-words = X .words ∙ placed-small (X .answer) (read.place-small (X .leaves)) read-few
+    read-words = X .words ∙ whole-words (X .answer) (read.place-small (X .leaves)) read-few
 
     -- the first is one of 0 to 16
     pub read-known : numberIn ws ≤ 16
@@ -118,7 +118,7 @@ module _ (l : Lists) where
         go (suc f) e = subst Few (sym (certain.refused-keeps l (X .amends) (λ z. omega (arith, e, z)) .1)) F
 
     words-by : Few (heldIn vs) → ws ≡ numbers (X .answer)
-    words-by F = X .words ∙ placed-small (X .answer) (amended.place-small (X .amends)) (amend-few F)
+    words-by F = X .words ∙ whole-words (X .answer) (amended.place-small (X .amends)) (amend-few F)
 
     held-by : Few (heldIn vs) → heldIn ws ≡ heldOf (X .answer)
     held-by F = ap heldIn (words-by F) ∙ held-numbers (X .answer)
