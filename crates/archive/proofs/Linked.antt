@@ -108,6 +108,14 @@ module _ (l : Lists) where
   -- ---- `script_amend`, on any memory
 
   module _ {M M′ : Memory} {vs n ws : List ℕ} {k : ℕ} (X : Replaces l M vs k n ws M′) where
+    number-is : numberIn ws ≡ X .answer .number
+    unfolding answerWords
+    number-is = ap numberIn (X .words)
+
+    -- the first word is one of 0 to 20
+    pub amend-known : numberIn ws ≤ 20
+    amend-known = omega (arith, number-is, certain.number-known l (X .amends))
+
     amend-few : Few (heldIn vs) → Few (heldOf (X .answer))
     amend-few F = go (X .answer .number) refl
       where
@@ -128,14 +136,10 @@ module _ (l : Lists) where
       pub amend-words : ws ≡ numbers (X .answer)
       amend-words = words-by (words-few vs W)
 
-      -- the first is one of 0 to 20
-      pub amend-known : numberIn ws ≤ 20
-      amend-known = omega (arith, ap numberIn amend-words, certain.number-known l (X .amends))
-
       -- a refused one leaves every byte and word of the memory as it was, and its last four words too
       pub amend-refused : (numberIn ws ≡ 0 → ⊥) → (M′ ≡ M) × (heldIn ws ≡ heldIn vs)
       amend-refused f =
-          let R = certain.refused-keeps l (X .amends) (λ z. f (ap numberIn amend-words ∙ z)) in
+          let R = certain.refused-keeps l (X .amends) (λ z. f (number-is ∙ z)) in
           (R .0, held-by (words-few vs W) ∙ R .1)
 
   -- ---- memory that holds a state
@@ -159,7 +163,7 @@ module _ (l : Lists) where
 
     module _ {k : ℕ} {n ws : List ℕ} {M′ : Memory} (X : Replaces l M vs k n ws M′) where
       accepted-by : numberIn ws ≡ 0 → X .answer .number ≡ 0
-      accepted-by z = sym (ap numberIn (words-by X F)) ∙ z
+      accepted-by z = sym (number-is X) ∙ z
 
       after-it : heldOf (X .answer) ≡ heldIn ws
       after-it = sym (held-by X F)
