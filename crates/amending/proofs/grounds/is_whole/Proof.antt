@@ -6,27 +6,21 @@ use Rattle.amending.proofs.grounds.is_whole.Lts as lts
 use mathlib.Core.Path.{sym}
 use Rattle.amending.proofs.GroundLaws.{whole-empty, whole-line, whole-token, whole-not}
 
--- src/grounds.rt:165:9
 returns : tie.Need-returns
 returns c = sym (whole-empty (c .before .args .text .now) (c .before .args .last) (c .if1 .taken))
 
--- src/grounds.rt:167:13
 sub-if2 : tie.Need-sub-if2
 sub-if2 c = search needs
 
--- src/grounds.rt:167:8
 shared-slice-read-if2 : tie.Need-shared-slice-read-if2
 shared-slice-read-if2 c = search needs
 
--- src/grounds.rt:168:9
 returns-2 : tie.Need-returns-2
 returns-2 c = sym (whole-line (c .before .before .before .args .text .now) (c .before .before .before .args .last) (c .before .before .if1 .left) (c .if2 .taken))
 
--- src/grounds.rt:171:9
 returns-3 : tie.Need-returns-3
 returns-3 c = sym (whole-token (c .before .before .before .before .args .text .now) (c .before .before .before .before .args .last) (c .before .before .before .if1 .left) (c .before .if2 .left) (c .if3 .taken))
 
--- src/grounds.rt:160:1
 returns-4 : tie.Need-returns-4
 returns-4 c = sym (whole-not (c .before .before .before .before .args .text .now) (c .before .before .before .before .args .last) (c .before .before .before .if1 .left) (c .before .if2 .left) (c .if3 .left))
 

@@ -5,67 +5,51 @@ use Rattle.amending.proofs.grounds.row_at.Reads as reads
 use Rattle.amending.proofs.grounds.row_at.Lts as lts
 use Rattle.amending.proofs.orders.wide.Reads as wide-reads
 
--- src/grounds.rt:172:21
 mul-wide : tie.Need-mul-wide
 mul-wide c = search needs
 
--- src/grounds.rt:172:21
 shared-slice-read-wide : tie.Need-shared-slice-read-wide
 shared-slice-read-wide c = search needs
 
--- src/grounds.rt:172:16
 wide-requires : tie.Need-wide-requires
 wide-requires c κs = search needs
 
--- src/grounds.rt:173:29
 add-wide : tie.Need-add-wide
 add-wide c = search needs
 
--- src/grounds.rt:173:19
 mul-wide-2 : tie.Need-mul-wide-2
 mul-wide-2 c = search needs
 
--- src/grounds.rt:173:19
 shared-slice-read-wide-2 : tie.Need-shared-slice-read-wide-2
 shared-slice-read-wide-2 c = search needs
 
--- src/grounds.rt:173:14
 wide-requires-2 : tie.Need-wide-requires-2
 wide-requires-2 c κs = search needs
 
--- src/grounds.rt:174:33
 add-wide-2 : tie.Need-add-wide-2
 add-wide-2 c = search needs
 
--- src/grounds.rt:174:23
 mul-wide-3 : tie.Need-mul-wide-3
 mul-wide-3 c = search needs
 
--- src/grounds.rt:174:23
 shared-slice-read-wide-3 : tie.Need-shared-slice-read-wide-3
 shared-slice-read-wide-3 c = search needs
 
--- src/grounds.rt:174:18
 wide-requires-3 : tie.Need-wide-requires-3
 wide-requires-3 c κs = search needs
 
--- src/grounds.rt:175:32
 add-wide-3 : tie.Need-add-wide-3
 add-wide-3 c = search needs
 
--- src/grounds.rt:175:22
 mul-wide-4 : tie.Need-mul-wide-4
 mul-wide-4 c = search needs
 
--- src/grounds.rt:175:22
 shared-slice-read-wide-4 : tie.Need-shared-slice-read-wide-4
 shared-slice-read-wide-4 c = search needs
 
--- src/grounds.rt:175:17
 wide-requires-4 : tie.Need-wide-requires-4
 wide-requires-4 c κs = search needs
 
--- src/grounds.rt:167:1
 returns : tie.Need-returns
 returns c = rw (c .wide4 .ensures, c .before .before .wide3 .ensures, c .before .before .before .before .wide2 .ensures, c .before .before .before .before .before .before .wide .ensures)
 

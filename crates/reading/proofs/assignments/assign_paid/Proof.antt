@@ -1,4 +1,7 @@
 -- The variable twice, then a pays; the records of the sum and of the assignment behind them.
+use borrow.Author.Needs.{needs}
+use Rattle.reading.proofs.assignments.assign_paid.Statement.{statement}
+use Rattle.reading.proofs.assignments.assign_paid.Tie as tie
 use mathlib.Core.Path.{_∙_}
 use mathlib.Core.List.{[]}
 use native.Mathlib.Omega.{arith}
@@ -7,9 +10,6 @@ use Rattle.reading.specs.Turns.{inner}
 use Rattle.reading.proofs.StepLaws.{done-reads, refused-on, put-fields, inner-sized}
 use Rattle.reading.proofs.CallingLaws.{named-words}
 use Rattle.reading.proofs.AssignLaws.{twice-done, twice-refused-on, assignPaid-unnamed, assignPaid-ready, assignPaid-wrong, assignPaid-numbers, assignPaid-reads}
-use borrow.Author.Needs.{needs}
-use Rattle.reading.proofs.assignments.assign_paid.Statement.{statement}
-use Rattle.reading.proofs.assignments.assign_paid.Tie as tie
 
 doubled-requires : tie.Need-doubled-requires
 doubled-requires c κs = search needs
@@ -24,13 +24,27 @@ same-length : tie.Need-same-length
 same-length c = search needs
 
 returns : tie.Need-returns
-returns c = twice-refused-on _ _ _ _ _ _ _ _ _ _ _ _ (c .enum-told .given .1) (c .before .before .before .before .doubled .ensures) (assignPaid-unnamed (wordsIn (c .before .before .before .before .before .before .before .before .before .before .before .args .reserved .now) [] []) (wordsIn (c .before .before .before .before .before .before .before .before .before .before .before .args .reserved .now) (c .before .before .before .before .before .before .before .before .before .before .before .args .currencies .now) (c .before .before .before .before .before .before .before .before .before .before .before .args .counters .now)) (named-words (c .before .before .before .before .before .before .before .before .before .before .before .args .reserved .now) (c .before .before .before .before .before .before .before .before .before .before .before .args .currencies .now) (c .before .before .before .before .before .before .before .before .before .before .before .args .counters .now)) (c .before .before .before .before .before .before .before .before .before .before .before .args .s .now) (c .before .before .before .before .before .before .before .before .before .before .before .args .c) (c .before .before .before .before .before .before .before .before .before .before .before .args .d) (c .before .before .before .before .before .before .before .before .before .before .before .args .n) (c .before .before .before .before .before .before .before .before .before .before .before .args .out .now) (c .before .before .before .before .before .before .before .before .before .before .before .pre .0) (c .before .before .before .before .before .before .before .before .before .before .before .pre .1) (c .before .before .before .before .before .before .before .before .before .before .before .pre .2) (inner (wordsIn (c .before .before .before .before .before .before .before .before .before .before .before .args .reserved .now) (c .before .before .before .before .before .before .before .before .before .before .before .args .currencies .now) (c .before .before .before .before .before .before .before .before .before .before .before .args .counters .now)) (c .before .before .before .before .before .before .before .before .before .before .before .args .depth)) _ _)
+returns c =
+    let at-doubled = c .before .before .before .before in
+    let start = at-doubled .before .before .before .before .before .before .before in
+    let args = start .args in
+    let pre = start .pre in
+    let words = wordsIn (args .reserved .now) (args .currencies .now) (args .counters .now) in
+    twice-refused-on _ _ _ _ _ _ _ _ _ _ _ _ (c .enum-told .given .1) (at-doubled .doubled .ensures) (assignPaid-unnamed (wordsIn (args .reserved .now) [] []) words (named-words (args .reserved .now) (args .currencies .now) (args .counters .now)) (args .s .now) (args .c) (args .d) (args .n) (args .out .now) (pre .0) (pre .1) (pre .2) (inner words (args .depth)) _ _)
 
 next-requires : tie.Need-next-requires
 next-requires c κs = c .before .before .before .before .before .before .before .before .before .before .before .before .pre .1 .holds
 
 paid-requires : tie.Need-paid-requires
-paid-requires c κs = (assignPaid-ready (wordsIn (c .before .before .before .before .before .before .before .before .before .before .before .before .before .before .args .reserved .now) [] []) (wordsIn (c .before .before .before .before .before .before .before .before .before .before .before .before .before .before .args .reserved .now) (c .before .before .before .before .before .before .before .before .before .before .before .before .before .before .args .currencies .now) (c .before .before .before .before .before .before .before .before .before .before .before .before .before .before .args .counters .now)) (named-words (c .before .before .before .before .before .before .before .before .before .before .before .before .before .before .args .reserved .now) (c .before .before .before .before .before .before .before .before .before .before .before .before .before .before .args .currencies .now) (c .before .before .before .before .before .before .before .before .before .before .before .before .before .before .args .counters .now)) (c .before .before .before .before .before .before .before .before .before .before .before .before .before .before .args .s .now) (c .before .before .before .before .before .before .before .before .before .before .before .before .before .before .args .c) (c .before .before .before .before .before .before .before .before .before .before .before .before .before .before .args .d) (c .before .before .before .before .before .before .before .before .before .before .before .before .before .before .args .n) (c .before .before .before .before .before .before .before .before .before .before .before .before .before .before .args .out .now) (c .before .before .before .before .before .before .before .before .before .before .before .before .before .before .pre .0) (c .before .before .before .before .before .before .before .before .before .before .before .before .before .before .pre .1) (c .before .before .before .before .before .before .before .before .before .before .before .before .before .before .pre .2) _ _ _ (twice-done _ _ _ _ _ _ _ _ _ (c .before .before .before .r .given .1) (c .before .before .before .before .before .before .before .doubled .ensures)) (λ z. omega (arith, z, c .before .before .before .before .before .before .before .before .before .before .before .before .before .before .pre .4)) (c .before .next .result) (c .before .next .ensures) (inner (wordsIn (c .before .before .before .before .before .before .before .before .before .before .before .before .before .before .args .reserved .now) (c .before .before .before .before .before .before .before .before .before .before .before .before .before .before .args .currencies .now) (c .before .before .before .before .before .before .before .before .before .before .before .before .before .before .args .counters .now)) (c .before .before .before .before .before .before .before .before .before .before .before .before .before .before .args .depth)) (inner-sized (wordsIn (c .before .before .before .before .before .before .before .before .before .before .before .before .before .before .args .reserved .now) (c .before .before .before .before .before .before .before .before .before .before .before .before .before .before .args .currencies .now) (c .before .before .before .before .before .before .before .before .before .before .before .before .before .before .args .counters .now)) (c .before .before .before .before .before .before .before .before .before .before .before .before .before .before .args .depth)), c .before .next .ensures, c .before .before .before .before .before .before .before .before .before .before .before .before .before .before .pre .4, c .before .before .before .before .before .before .before .before .before .before .before .before .before .before .pre .3)
+paid-requires c κs =
+    let at-r = c .before .before .before in
+    let at-doubled = at-r .before .before .before .before in
+    let start = at-doubled .before .before .before .before .before .before .before in
+    let args = start .args in
+    let pre = start .pre in
+    let next = c .before .next in
+    let words = wordsIn (args .reserved .now) (args .currencies .now) (args .counters .now) in
+    (assignPaid-ready (wordsIn (args .reserved .now) [] []) words (named-words (args .reserved .now) (args .currencies .now) (args .counters .now)) (args .s .now) (args .c) (args .d) (args .n) (args .out .now) (pre .0) (pre .1) (pre .2) _ _ _ (twice-done _ _ _ _ _ _ _ _ _ (at-r .r .given .1) (at-doubled .doubled .ensures)) (λ z. omega (arith, z, pre .4)) (next .result) (next .ensures) (inner words (args .depth)) (inner-sized words (args .depth)), next .ensures, pre .4, pre .3)
 
 enum-known-q : tie.Need-enum-known-q
 enum-known-q c = search needs
@@ -42,10 +56,29 @@ same-length-2 : tie.Need-same-length-2
 same-length-2 c = search needs
 
 returns-2 : tie.Need-returns-2
-returns-2 c = refused-on _ _ _ _ _ _ _ _ _ _ _ _ (c .enum-told2 .given .1) (c .before .before .before .before .paid .ensures) (assignPaid-wrong (wordsIn (c .before .before .before .before .before .before .before .before .before .before .before .before .before .before .before .before .before .before .before .args .reserved .now) [] []) (wordsIn (c .before .before .before .before .before .before .before .before .before .before .before .before .before .before .before .before .before .before .before .args .reserved .now) (c .before .before .before .before .before .before .before .before .before .before .before .before .before .before .before .before .before .before .before .args .currencies .now) (c .before .before .before .before .before .before .before .before .before .before .before .before .before .before .before .before .before .before .before .args .counters .now)) (named-words (c .before .before .before .before .before .before .before .before .before .before .before .before .before .before .before .before .before .before .before .args .reserved .now) (c .before .before .before .before .before .before .before .before .before .before .before .before .before .before .before .before .before .before .before .args .currencies .now) (c .before .before .before .before .before .before .before .before .before .before .before .before .before .before .before .before .before .before .before .args .counters .now)) (c .before .before .before .before .before .before .before .before .before .before .before .before .before .before .before .before .before .before .before .args .s .now) (c .before .before .before .before .before .before .before .before .before .before .before .before .before .before .before .before .before .before .before .args .c) (c .before .before .before .before .before .before .before .before .before .before .before .before .before .before .before .before .before .before .before .args .d) (c .before .before .before .before .before .before .before .before .before .before .before .before .before .before .before .before .before .before .before .args .n) (c .before .before .before .before .before .before .before .before .before .before .before .before .before .before .before .before .before .before .before .args .out .now) (c .before .before .before .before .before .before .before .before .before .before .before .before .before .before .before .before .before .before .before .pre .0) (c .before .before .before .before .before .before .before .before .before .before .before .before .before .before .before .before .before .before .before .pre .1) (c .before .before .before .before .before .before .before .before .before .before .before .before .before .before .before .before .before .before .before .pre .2) _ _ _ (twice-done _ _ _ _ _ _ _ _ _ (c .before .before .before .before .before .before .before .before .r .given .1) (c .before .before .before .before .before .before .before .before .before .before .before .before .doubled .ensures)) (λ z. omega (arith, z, c .before .before .before .before .before .before .before .before .before .before .before .before .before .before .before .before .before .before .before .pre .4)) (c .before .before .before .before .before .before .next .result) (c .before .before .before .before .before .before .next .ensures) (inner (wordsIn (c .before .before .before .before .before .before .before .before .before .before .before .before .before .before .before .before .before .before .before .args .reserved .now) (c .before .before .before .before .before .before .before .before .before .before .before .before .before .before .before .before .before .before .before .args .currencies .now) (c .before .before .before .before .before .before .before .before .before .before .before .before .before .before .before .before .before .before .before .args .counters .now)) (c .before .before .before .before .before .before .before .before .before .before .before .before .before .before .before .before .before .before .before .args .depth)) (inner-sized (wordsIn (c .before .before .before .before .before .before .before .before .before .before .before .before .before .before .before .before .before .before .before .args .reserved .now) (c .before .before .before .before .before .before .before .before .before .before .before .before .before .before .before .before .before .before .before .args .currencies .now) (c .before .before .before .before .before .before .before .before .before .before .before .before .before .before .before .before .before .before .before .args .counters .now)) (c .before .before .before .before .before .before .before .before .before .before .before .before .before .before .before .before .before .before .before .args .depth)) _ _)
+returns-2 c =
+    let at-paid = c .before .before .before .before in
+    let at-next = at-paid .before .before in
+    let at-r = at-next .before .before in
+    let at-doubled = at-r .before .before .before .before in
+    let start = at-doubled .before .before .before .before .before .before .before in
+    let args = start .args in
+    let pre = start .pre in
+    let words = wordsIn (args .reserved .now) (args .currencies .now) (args .counters .now) in
+    refused-on _ _ _ _ _ _ _ _ _ _ _ _ (c .enum-told2 .given .1) (at-paid .paid .ensures) (assignPaid-wrong (wordsIn (args .reserved .now) [] []) words (named-words (args .reserved .now) (args .currencies .now) (args .counters .now)) (args .s .now) (args .c) (args .d) (args .n) (args .out .now) (pre .0) (pre .1) (pre .2) _ _ _ (twice-done _ _ _ _ _ _ _ _ _ (at-r .r .given .1) (at-doubled .doubled .ensures)) (λ z. omega (arith, z, pre .4)) (at-next .next .result) (at-next .next .ensures) (inner words (args .depth)) (inner-sized words (args .depth)) _ _)
 
 sub-plain : tie.Need-sub-plain
-sub-plain c = omega (arith, assignPaid-numbers (wordsIn (c .before .before .before .before .before .before .before .before .before .before .before .before .before .before .before .before .before .before .before .before .before .args .reserved .now) [] []) (wordsIn (c .before .before .before .before .before .before .before .before .before .before .before .before .before .before .before .before .before .before .before .before .before .args .reserved .now) (c .before .before .before .before .before .before .before .before .before .before .before .before .before .before .before .before .before .before .before .before .before .args .currencies .now) (c .before .before .before .before .before .before .before .before .before .before .before .before .before .before .before .before .before .before .before .before .before .args .counters .now)) (named-words (c .before .before .before .before .before .before .before .before .before .before .before .before .before .before .before .before .before .before .before .before .before .args .reserved .now) (c .before .before .before .before .before .before .before .before .before .before .before .before .before .before .before .before .before .before .before .before .before .args .currencies .now) (c .before .before .before .before .before .before .before .before .before .before .before .before .before .before .before .before .before .before .before .before .before .args .counters .now)) (c .before .before .before .before .before .before .before .before .before .before .before .before .before .before .before .before .before .before .before .before .before .args .s .now) (c .before .before .before .before .before .before .before .before .before .before .before .before .before .before .before .before .before .before .before .before .before .args .c) (c .before .before .before .before .before .before .before .before .before .before .before .before .before .before .before .before .before .before .before .before .before .args .d) (c .before .before .before .before .before .before .before .before .before .before .before .before .before .before .before .before .before .before .before .before .before .args .n) (c .before .before .before .before .before .before .before .before .before .before .before .before .before .before .before .before .before .before .before .before .before .args .out .now) (c .before .before .before .before .before .before .before .before .before .before .before .before .before .before .before .before .before .before .before .before .before .pre .0) (c .before .before .before .before .before .before .before .before .before .before .before .before .before .before .before .before .before .before .before .before .before .pre .1) (c .before .before .before .before .before .before .before .before .before .before .before .before .before .before .before .before .before .before .before .before .before .pre .2) _ _ _ (twice-done _ _ _ _ _ _ _ _ _ (c .before .before .before .before .before .before .before .before .before .before .r .given .1) (c .before .before .before .before .before .before .before .before .before .before .before .before .before .before .doubled .ensures)) (λ z. omega (arith, z, c .before .before .before .before .before .before .before .before .before .before .before .before .before .before .before .before .before .before .before .before .before .pre .4)) (c .before .before .before .before .before .before .before .before .next .result) (c .before .before .before .before .before .before .before .before .next .ensures) (inner (wordsIn (c .before .before .before .before .before .before .before .before .before .before .before .before .before .before .before .before .before .before .before .before .before .args .reserved .now) (c .before .before .before .before .before .before .before .before .before .before .before .before .before .before .before .before .before .before .before .before .before .args .currencies .now) (c .before .before .before .before .before .before .before .before .before .before .before .before .before .before .before .before .before .before .before .before .before .args .counters .now)) (c .before .before .before .before .before .before .before .before .before .before .before .before .before .before .before .before .before .before .before .before .before .args .depth)) (inner-sized (wordsIn (c .before .before .before .before .before .before .before .before .before .before .before .before .before .before .before .before .before .before .before .before .before .args .reserved .now) (c .before .before .before .before .before .before .before .before .before .before .before .before .before .before .before .before .before .before .before .before .before .args .currencies .now) (c .before .before .before .before .before .before .before .before .before .before .before .before .before .before .before .before .before .before .before .before .before .args .counters .now)) (c .before .before .before .before .before .before .before .before .before .before .before .before .before .before .before .before .before .before .before .before .before .args .depth)) _ _ _ _ (done-reads _ _ _ _ _ _ _ _ _ (c .before .before .q .given .1) (c .before .before .before .before .before .before .paid .ensures)))
+sub-plain c =
+    let at-q = c .before .before in
+    let at-paid = at-q .before .before .before .before in
+    let at-next = at-paid .before .before in
+    let at-r = at-next .before .before in
+    let at-doubled = at-r .before .before .before .before in
+    let start = at-doubled .before .before .before .before .before .before .before in
+    let args = start .args in
+    let pre = start .pre in
+    let words = wordsIn (args .reserved .now) (args .currencies .now) (args .counters .now) in
+    omega (arith, assignPaid-numbers (wordsIn (args .reserved .now) [] []) words (named-words (args .reserved .now) (args .currencies .now) (args .counters .now)) (args .s .now) (args .c) (args .d) (args .n) (args .out .now) (pre .0) (pre .1) (pre .2) _ _ _ (twice-done _ _ _ _ _ _ _ _ _ (at-r .r .given .1) (at-doubled .doubled .ensures)) (λ z. omega (arith, z, pre .4)) (at-next .next .result) (at-next .next .ensures) (inner words (args .depth)) (inner-sized words (args .depth)) _ _ _ _ (done-reads _ _ _ _ _ _ _ _ _ (at-q .q .given .1) (at-paid .paid .ensures)))
 
 plain-requires : tie.Need-plain-requires
 plain-requires c κs = search needs
@@ -54,13 +87,43 @@ put-requires : tie.Need-put-requires
 put-requires c κs = search needs
 
 add-put : tie.Need-add-put
-add-put c = omega (arith, assignPaid-numbers (wordsIn (c .before .before .before .before .before .before .before .before .before .before .before .before .before .before .before .before .before .before .before .before .before .before .before .before .before .before .args .reserved .now) [] []) (wordsIn (c .before .before .before .before .before .before .before .before .before .before .before .before .before .before .before .before .before .before .before .before .before .before .before .before .before .before .args .reserved .now) (c .before .before .before .before .before .before .before .before .before .before .before .before .before .before .before .before .before .before .before .before .before .before .before .before .before .before .args .currencies .now) (c .before .before .before .before .before .before .before .before .before .before .before .before .before .before .before .before .before .before .before .before .before .before .before .before .before .before .args .counters .now)) (named-words (c .before .before .before .before .before .before .before .before .before .before .before .before .before .before .before .before .before .before .before .before .before .before .before .before .before .before .args .reserved .now) (c .before .before .before .before .before .before .before .before .before .before .before .before .before .before .before .before .before .before .before .before .before .before .before .before .before .before .args .currencies .now) (c .before .before .before .before .before .before .before .before .before .before .before .before .before .before .before .before .before .before .before .before .before .before .before .before .before .before .args .counters .now)) (c .before .before .before .before .before .before .before .before .before .before .before .before .before .before .before .before .before .before .before .before .before .before .before .before .before .before .args .s .now) (c .before .before .before .before .before .before .before .before .before .before .before .before .before .before .before .before .before .before .before .before .before .before .before .before .before .before .args .c) (c .before .before .before .before .before .before .before .before .before .before .before .before .before .before .before .before .before .before .before .before .before .before .before .before .before .before .args .d) (c .before .before .before .before .before .before .before .before .before .before .before .before .before .before .before .before .before .before .before .before .before .before .before .before .before .before .args .n) (c .before .before .before .before .before .before .before .before .before .before .before .before .before .before .before .before .before .before .before .before .before .before .before .before .before .before .args .out .now) (c .before .before .before .before .before .before .before .before .before .before .before .before .before .before .before .before .before .before .before .before .before .before .before .before .before .before .pre .0) (c .before .before .before .before .before .before .before .before .before .before .before .before .before .before .before .before .before .before .before .before .before .before .before .before .before .before .pre .1) (c .before .before .before .before .before .before .before .before .before .before .before .before .before .before .before .before .before .before .before .before .before .before .before .before .before .before .pre .2) _ _ _ (twice-done _ _ _ _ _ _ _ _ _ (c .before .before .before .before .before .before .before .before .before .before .before .before .before .before .before .r .given .1) (c .before .before .before .before .before .before .before .before .before .before .before .before .before .before .before .before .before .before .before .doubled .ensures)) (λ z. omega (arith, z, c .before .before .before .before .before .before .before .before .before .before .before .before .before .before .before .before .before .before .before .before .before .before .before .before .before .before .pre .4)) (c .before .before .before .before .before .before .before .before .before .before .before .before .before .next .result) (c .before .before .before .before .before .before .before .before .before .before .before .before .before .next .ensures) (inner (wordsIn (c .before .before .before .before .before .before .before .before .before .before .before .before .before .before .before .before .before .before .before .before .before .before .before .before .before .before .args .reserved .now) (c .before .before .before .before .before .before .before .before .before .before .before .before .before .before .before .before .before .before .before .before .before .before .before .before .before .before .args .currencies .now) (c .before .before .before .before .before .before .before .before .before .before .before .before .before .before .before .before .before .before .before .before .before .before .before .before .before .before .args .counters .now)) (c .before .before .before .before .before .before .before .before .before .before .before .before .before .before .before .before .before .before .before .before .before .before .before .before .before .before .args .depth)) (inner-sized (wordsIn (c .before .before .before .before .before .before .before .before .before .before .before .before .before .before .before .before .before .before .before .before .before .before .before .before .before .before .args .reserved .now) (c .before .before .before .before .before .before .before .before .before .before .before .before .before .before .before .before .before .before .before .before .before .before .before .before .before .before .args .currencies .now) (c .before .before .before .before .before .before .before .before .before .before .before .before .before .before .before .before .before .before .before .before .before .before .before .before .before .before .args .counters .now)) (c .before .before .before .before .before .before .before .before .before .before .before .before .before .before .before .before .before .before .before .before .before .before .before .before .before .before .args .depth)) _ _ _ _ (done-reads _ _ _ _ _ _ _ _ _ (c .before .before .before .before .before .before .before .q .given .1) (c .before .before .before .before .before .before .before .before .before .before .before .paid .ensures)))
+add-put c =
+    let at-q = c .before .before .before .before .before .before .before in
+    let at-paid = at-q .before .before .before .before in
+    let at-next = at-paid .before .before in
+    let at-r = at-next .before .before in
+    let at-doubled = at-r .before .before .before .before in
+    let start = at-doubled .before .before .before .before .before .before .before in
+    let args = start .args in
+    let pre = start .pre in
+    let words = wordsIn (args .reserved .now) (args .currencies .now) (args .counters .now) in
+    omega (arith, assignPaid-numbers (wordsIn (args .reserved .now) [] []) words (named-words (args .reserved .now) (args .currencies .now) (args .counters .now)) (args .s .now) (args .c) (args .d) (args .n) (args .out .now) (pre .0) (pre .1) (pre .2) _ _ _ (twice-done _ _ _ _ _ _ _ _ _ (at-r .r .given .1) (at-doubled .doubled .ensures)) (λ z. omega (arith, z, pre .4)) (at-next .next .result) (at-next .next .ensures) (inner words (args .depth)) (inner-sized words (args .depth)) _ _ _ _ (done-reads _ _ _ _ _ _ _ _ _ (at-q .q .given .1) (at-paid .paid .ensures)))
 
 sub-plain-2 : tie.Need-sub-plain-2
-sub-plain-2 c = omega (arith, assignPaid-numbers (wordsIn (c .before .before .before .before .before .before .before .before .before .before .before .before .before .before .before .before .before .before .before .before .before .before .before .before .before .before .args .reserved .now) [] []) (wordsIn (c .before .before .before .before .before .before .before .before .before .before .before .before .before .before .before .before .before .before .before .before .before .before .before .before .before .before .args .reserved .now) (c .before .before .before .before .before .before .before .before .before .before .before .before .before .before .before .before .before .before .before .before .before .before .before .before .before .before .args .currencies .now) (c .before .before .before .before .before .before .before .before .before .before .before .before .before .before .before .before .before .before .before .before .before .before .before .before .before .before .args .counters .now)) (named-words (c .before .before .before .before .before .before .before .before .before .before .before .before .before .before .before .before .before .before .before .before .before .before .before .before .before .before .args .reserved .now) (c .before .before .before .before .before .before .before .before .before .before .before .before .before .before .before .before .before .before .before .before .before .before .before .before .before .before .args .currencies .now) (c .before .before .before .before .before .before .before .before .before .before .before .before .before .before .before .before .before .before .before .before .before .before .before .before .before .before .args .counters .now)) (c .before .before .before .before .before .before .before .before .before .before .before .before .before .before .before .before .before .before .before .before .before .before .before .before .before .before .args .s .now) (c .before .before .before .before .before .before .before .before .before .before .before .before .before .before .before .before .before .before .before .before .before .before .before .before .before .before .args .c) (c .before .before .before .before .before .before .before .before .before .before .before .before .before .before .before .before .before .before .before .before .before .before .before .before .before .before .args .d) (c .before .before .before .before .before .before .before .before .before .before .before .before .before .before .before .before .before .before .before .before .before .before .before .before .before .before .args .n) (c .before .before .before .before .before .before .before .before .before .before .before .before .before .before .before .before .before .before .before .before .before .before .before .before .before .before .args .out .now) (c .before .before .before .before .before .before .before .before .before .before .before .before .before .before .before .before .before .before .before .before .before .before .before .before .before .before .pre .0) (c .before .before .before .before .before .before .before .before .before .before .before .before .before .before .before .before .before .before .before .before .before .before .before .before .before .before .pre .1) (c .before .before .before .before .before .before .before .before .before .before .before .before .before .before .before .before .before .before .before .before .before .before .before .before .before .before .pre .2) _ _ _ (twice-done _ _ _ _ _ _ _ _ _ (c .before .before .before .before .before .before .before .before .before .before .before .before .before .before .before .r .given .1) (c .before .before .before .before .before .before .before .before .before .before .before .before .before .before .before .before .before .before .before .doubled .ensures)) (λ z. omega (arith, z, c .before .before .before .before .before .before .before .before .before .before .before .before .before .before .before .before .before .before .before .before .before .before .before .before .before .before .pre .4)) (c .before .before .before .before .before .before .before .before .before .before .before .before .before .next .result) (c .before .before .before .before .before .before .before .before .before .before .before .before .before .next .ensures) (inner (wordsIn (c .before .before .before .before .before .before .before .before .before .before .before .before .before .before .before .before .before .before .before .before .before .before .before .before .before .before .args .reserved .now) (c .before .before .before .before .before .before .before .before .before .before .before .before .before .before .before .before .before .before .before .before .before .before .before .before .before .before .args .currencies .now) (c .before .before .before .before .before .before .before .before .before .before .before .before .before .before .before .before .before .before .before .before .before .before .before .before .before .before .args .counters .now)) (c .before .before .before .before .before .before .before .before .before .before .before .before .before .before .before .before .before .before .before .before .before .before .before .before .before .before .args .depth)) (inner-sized (wordsIn (c .before .before .before .before .before .before .before .before .before .before .before .before .before .before .before .before .before .before .before .before .before .before .before .before .before .before .args .reserved .now) (c .before .before .before .before .before .before .before .before .before .before .before .before .before .before .before .before .before .before .before .before .before .before .before .before .before .before .args .currencies .now) (c .before .before .before .before .before .before .before .before .before .before .before .before .before .before .before .before .before .before .before .before .before .before .before .before .before .before .args .counters .now)) (c .before .before .before .before .before .before .before .before .before .before .before .before .before .before .before .before .before .before .before .before .before .before .before .before .before .before .args .depth)) _ _ _ _ (done-reads _ _ _ _ _ _ _ _ _ (c .before .before .before .before .before .before .before .q .given .1) (c .before .before .before .before .before .before .before .before .before .before .before .paid .ensures)))
+sub-plain-2 c =
+    let at-q = c .before .before .before .before .before .before .before in
+    let at-paid = at-q .before .before .before .before in
+    let at-next = at-paid .before .before in
+    let at-r = at-next .before .before in
+    let at-doubled = at-r .before .before .before .before in
+    let start = at-doubled .before .before .before .before .before .before .before in
+    let args = start .args in
+    let pre = start .pre in
+    let words = wordsIn (args .reserved .now) (args .currencies .now) (args .counters .now) in
+    omega (arith, assignPaid-numbers (wordsIn (args .reserved .now) [] []) words (named-words (args .reserved .now) (args .currencies .now) (args .counters .now)) (args .s .now) (args .c) (args .d) (args .n) (args .out .now) (pre .0) (pre .1) (pre .2) _ _ _ (twice-done _ _ _ _ _ _ _ _ _ (at-r .r .given .1) (at-doubled .doubled .ensures)) (λ z. omega (arith, z, pre .4)) (at-next .next .result) (at-next .next .ensures) (inner words (args .depth)) (inner-sized words (args .depth)) _ _ _ _ (done-reads _ _ _ _ _ _ _ _ _ (at-q .q .given .1) (at-paid .paid .ensures)))
 
 add-plain : tie.Need-add-plain
-add-plain c = omega (arith, assignPaid-numbers (wordsIn (c .before .before .before .before .before .before .before .before .before .before .before .before .before .before .before .before .before .before .before .before .before .before .before .before .before .before .args .reserved .now) [] []) (wordsIn (c .before .before .before .before .before .before .before .before .before .before .before .before .before .before .before .before .before .before .before .before .before .before .before .before .before .before .args .reserved .now) (c .before .before .before .before .before .before .before .before .before .before .before .before .before .before .before .before .before .before .before .before .before .before .before .before .before .before .args .currencies .now) (c .before .before .before .before .before .before .before .before .before .before .before .before .before .before .before .before .before .before .before .before .before .before .before .before .before .before .args .counters .now)) (named-words (c .before .before .before .before .before .before .before .before .before .before .before .before .before .before .before .before .before .before .before .before .before .before .before .before .before .before .args .reserved .now) (c .before .before .before .before .before .before .before .before .before .before .before .before .before .before .before .before .before .before .before .before .before .before .before .before .before .before .args .currencies .now) (c .before .before .before .before .before .before .before .before .before .before .before .before .before .before .before .before .before .before .before .before .before .before .before .before .before .before .args .counters .now)) (c .before .before .before .before .before .before .before .before .before .before .before .before .before .before .before .before .before .before .before .before .before .before .before .before .before .before .args .s .now) (c .before .before .before .before .before .before .before .before .before .before .before .before .before .before .before .before .before .before .before .before .before .before .before .before .before .before .args .c) (c .before .before .before .before .before .before .before .before .before .before .before .before .before .before .before .before .before .before .before .before .before .before .before .before .before .before .args .d) (c .before .before .before .before .before .before .before .before .before .before .before .before .before .before .before .before .before .before .before .before .before .before .before .before .before .before .args .n) (c .before .before .before .before .before .before .before .before .before .before .before .before .before .before .before .before .before .before .before .before .before .before .before .before .before .before .args .out .now) (c .before .before .before .before .before .before .before .before .before .before .before .before .before .before .before .before .before .before .before .before .before .before .before .before .before .before .pre .0) (c .before .before .before .before .before .before .before .before .before .before .before .before .before .before .before .before .before .before .before .before .before .before .before .before .before .before .pre .1) (c .before .before .before .before .before .before .before .before .before .before .before .before .before .before .before .before .before .before .before .before .before .before .before .before .before .before .pre .2) _ _ _ (twice-done _ _ _ _ _ _ _ _ _ (c .before .before .before .before .before .before .before .before .before .before .before .before .before .before .before .r .given .1) (c .before .before .before .before .before .before .before .before .before .before .before .before .before .before .before .before .before .before .before .doubled .ensures)) (λ z. omega (arith, z, c .before .before .before .before .before .before .before .before .before .before .before .before .before .before .before .before .before .before .before .before .before .before .before .before .before .before .pre .4)) (c .before .before .before .before .before .before .before .before .before .before .before .before .before .next .result) (c .before .before .before .before .before .before .before .before .before .before .before .before .before .next .ensures) (inner (wordsIn (c .before .before .before .before .before .before .before .before .before .before .before .before .before .before .before .before .before .before .before .before .before .before .before .before .before .before .args .reserved .now) (c .before .before .before .before .before .before .before .before .before .before .before .before .before .before .before .before .before .before .before .before .before .before .before .before .before .before .args .currencies .now) (c .before .before .before .before .before .before .before .before .before .before .before .before .before .before .before .before .before .before .before .before .before .before .before .before .before .before .args .counters .now)) (c .before .before .before .before .before .before .before .before .before .before .before .before .before .before .before .before .before .before .before .before .before .before .before .before .before .before .args .depth)) (inner-sized (wordsIn (c .before .before .before .before .before .before .before .before .before .before .before .before .before .before .before .before .before .before .before .before .before .before .before .before .before .before .args .reserved .now) (c .before .before .before .before .before .before .before .before .before .before .before .before .before .before .before .before .before .before .before .before .before .before .before .before .before .before .args .currencies .now) (c .before .before .before .before .before .before .before .before .before .before .before .before .before .before .before .before .before .before .before .before .before .before .before .before .before .before .args .counters .now)) (c .before .before .before .before .before .before .before .before .before .before .before .before .before .before .before .before .before .before .before .before .before .before .before .before .before .before .args .depth)) _ _ _ _ (done-reads _ _ _ _ _ _ _ _ _ (c .before .before .before .before .before .before .before .q .given .1) (c .before .before .before .before .before .before .before .before .before .before .before .paid .ensures)))
+add-plain c =
+    let at-q = c .before .before .before .before .before .before .before in
+    let at-paid = at-q .before .before .before .before in
+    let at-next = at-paid .before .before in
+    let at-r = at-next .before .before in
+    let at-doubled = at-r .before .before .before .before in
+    let start = at-doubled .before .before .before .before .before .before .before in
+    let args = start .args in
+    let pre = start .pre in
+    let words = wordsIn (args .reserved .now) (args .currencies .now) (args .counters .now) in
+    omega (arith, assignPaid-numbers (wordsIn (args .reserved .now) [] []) words (named-words (args .reserved .now) (args .currencies .now) (args .counters .now)) (args .s .now) (args .c) (args .d) (args .n) (args .out .now) (pre .0) (pre .1) (pre .2) _ _ _ (twice-done _ _ _ _ _ _ _ _ _ (at-r .r .given .1) (at-doubled .doubled .ensures)) (λ z. omega (arith, z, pre .4)) (at-next .next .result) (at-next .next .ensures) (inner words (args .depth)) (inner-sized words (args .depth)) _ _ _ _ (done-reads _ _ _ _ _ _ _ _ _ (at-q .q .given .1) (at-paid .paid .ensures)))
 
 plain-requires-2 : tie.Need-plain-requires-2
 plain-requires-2 c κs = search needs
@@ -69,13 +132,39 @@ put-requires-2 : tie.Need-put-requires-2
 put-requires-2 c κs = search needs
 
 add-t24 : tie.Need-add-t24
-add-t24 c = omega (arith, assignPaid-numbers (wordsIn (c .before .before .before .before .before .before .before .before .before .before .before .before .before .before .before .before .before .before .before .before .before .before .before .before .before .before .before .before .before .before .args .reserved .now) [] []) (wordsIn (c .before .before .before .before .before .before .before .before .before .before .before .before .before .before .before .before .before .before .before .before .before .before .before .before .before .before .before .before .before .before .args .reserved .now) (c .before .before .before .before .before .before .before .before .before .before .before .before .before .before .before .before .before .before .before .before .before .before .before .before .before .before .before .before .before .before .args .currencies .now) (c .before .before .before .before .before .before .before .before .before .before .before .before .before .before .before .before .before .before .before .before .before .before .before .before .before .before .before .before .before .before .args .counters .now)) (named-words (c .before .before .before .before .before .before .before .before .before .before .before .before .before .before .before .before .before .before .before .before .before .before .before .before .before .before .before .before .before .before .args .reserved .now) (c .before .before .before .before .before .before .before .before .before .before .before .before .before .before .before .before .before .before .before .before .before .before .before .before .before .before .before .before .before .before .args .currencies .now) (c .before .before .before .before .before .before .before .before .before .before .before .before .before .before .before .before .before .before .before .before .before .before .before .before .before .before .before .before .before .before .args .counters .now)) (c .before .before .before .before .before .before .before .before .before .before .before .before .before .before .before .before .before .before .before .before .before .before .before .before .before .before .before .before .before .before .args .s .now) (c .before .before .before .before .before .before .before .before .before .before .before .before .before .before .before .before .before .before .before .before .before .before .before .before .before .before .before .before .before .before .args .c) (c .before .before .before .before .before .before .before .before .before .before .before .before .before .before .before .before .before .before .before .before .before .before .before .before .before .before .before .before .before .before .args .d) (c .before .before .before .before .before .before .before .before .before .before .before .before .before .before .before .before .before .before .before .before .before .before .before .before .before .before .before .before .before .before .args .n) (c .before .before .before .before .before .before .before .before .before .before .before .before .before .before .before .before .before .before .before .before .before .before .before .before .before .before .before .before .before .before .args .out .now) (c .before .before .before .before .before .before .before .before .before .before .before .before .before .before .before .before .before .before .before .before .before .before .before .before .before .before .before .before .before .before .pre .0) (c .before .before .before .before .before .before .before .before .before .before .before .before .before .before .before .before .before .before .before .before .before .before .before .before .before .before .before .before .before .before .pre .1) (c .before .before .before .before .before .before .before .before .before .before .before .before .before .before .before .before .before .before .before .before .before .before .before .before .before .before .before .before .before .before .pre .2) _ _ _ (twice-done _ _ _ _ _ _ _ _ _ (c .before .before .before .before .before .before .before .before .before .before .before .before .before .before .before .before .before .before .before .r .given .1) (c .before .before .before .before .before .before .before .before .before .before .before .before .before .before .before .before .before .before .before .before .before .before .before .doubled .ensures)) (λ z. omega (arith, z, c .before .before .before .before .before .before .before .before .before .before .before .before .before .before .before .before .before .before .before .before .before .before .before .before .before .before .before .before .before .before .pre .4)) (c .before .before .before .before .before .before .before .before .before .before .before .before .before .before .before .before .before .next .result) (c .before .before .before .before .before .before .before .before .before .before .before .before .before .before .before .before .before .next .ensures) (inner (wordsIn (c .before .before .before .before .before .before .before .before .before .before .before .before .before .before .before .before .before .before .before .before .before .before .before .before .before .before .before .before .before .before .args .reserved .now) (c .before .before .before .before .before .before .before .before .before .before .before .before .before .before .before .before .before .before .before .before .before .before .before .before .before .before .before .before .before .before .args .currencies .now) (c .before .before .before .before .before .before .before .before .before .before .before .before .before .before .before .before .before .before .before .before .before .before .before .before .before .before .before .before .before .before .args .counters .now)) (c .before .before .before .before .before .before .before .before .before .before .before .before .before .before .before .before .before .before .before .before .before .before .before .before .before .before .before .before .before .before .args .depth)) (inner-sized (wordsIn (c .before .before .before .before .before .before .before .before .before .before .before .before .before .before .before .before .before .before .before .before .before .before .before .before .before .before .before .before .before .before .args .reserved .now) (c .before .before .before .before .before .before .before .before .before .before .before .before .before .before .before .before .before .before .before .before .before .before .before .before .before .before .before .before .before .before .args .currencies .now) (c .before .before .before .before .before .before .before .before .before .before .before .before .before .before .before .before .before .before .before .before .before .before .before .before .before .before .before .before .before .before .args .counters .now)) (c .before .before .before .before .before .before .before .before .before .before .before .before .before .before .before .before .before .before .before .before .before .before .before .before .before .before .before .before .before .before .args .depth)) _ _ _ _ (done-reads _ _ _ _ _ _ _ _ _ (c .before .before .before .before .before .before .before .before .before .before .before .q .given .1) (c .before .before .before .before .before .before .before .before .before .before .before .before .before .before .before .paid .ensures)))
+add-t24 c =
+    let at-q = c .before .before .before .before .before .before .before .before .before .before .before in
+    let at-paid = at-q .before .before .before .before in
+    let at-next = at-paid .before .before in
+    let at-r = at-next .before .before in
+    let at-doubled = at-r .before .before .before .before in
+    let start = at-doubled .before .before .before .before .before .before .before in
+    let args = start .args in
+    let pre = start .pre in
+    let words = wordsIn (args .reserved .now) (args .currencies .now) (args .counters .now) in
+    omega (arith, assignPaid-numbers (wordsIn (args .reserved .now) [] []) words (named-words (args .reserved .now) (args .currencies .now) (args .counters .now)) (args .s .now) (args .c) (args .d) (args .n) (args .out .now) (pre .0) (pre .1) (pre .2) _ _ _ (twice-done _ _ _ _ _ _ _ _ _ (at-r .r .given .1) (at-doubled .doubled .ensures)) (λ z. omega (arith, z, pre .4)) (at-next .next .result) (at-next .next .ensures) (inner words (args .depth)) (inner-sized words (args .depth)) _ _ _ _ (done-reads _ _ _ _ _ _ _ _ _ (at-q .q .given .1) (at-paid .paid .ensures)))
 
 same-length-3 : tie.Need-same-length-3
-same-length-3 c = c .before .before .put2 .kept .0 ∙ (c .before .before .before .before .before .before .before .put .kept .0 ∙ (c .before .before .before .before .before .before .before .before .before .before .before .before .before .before .before .paid .kept .1 .1 .1 .1 .1 .1 .1 .0 ∙ c .before .before .before .before .before .before .before .before .before .before .before .before .before .before .before .before .before .before .before .before .before .before .before .doubled .kept .1 .1 .1 .1 .0))
+same-length-3 c =
+    let at-put2 = c .before .before in
+    let at-put = at-put2 .before .before .before .before .before in
+    let at-paid = at-put .before .before .before .before .before .before .before .before in
+    at-put2 .put2 .kept .0 ∙ (at-put .put .kept .0 ∙ (at-paid .paid .kept .1 .1 .1 .1 .1 .1 .1 .0 ∙ at-paid .before .before .before .before .before .before .before .before .doubled .kept .1 .1 .1 .1 .0))
 
 returns-3 : tie.Need-returns-3
-returns-3 c = assignPaid-reads (wordsIn (c .before .before .before .before .before .before .before .before .before .before .before .before .before .before .before .before .before .before .before .before .before .before .before .before .before .before .before .before .before .before .args .reserved .now) [] []) (wordsIn (c .before .before .before .before .before .before .before .before .before .before .before .before .before .before .before .before .before .before .before .before .before .before .before .before .before .before .before .before .before .before .args .reserved .now) (c .before .before .before .before .before .before .before .before .before .before .before .before .before .before .before .before .before .before .before .before .before .before .before .before .before .before .before .before .before .before .args .currencies .now) (c .before .before .before .before .before .before .before .before .before .before .before .before .before .before .before .before .before .before .before .before .before .before .before .before .before .before .before .before .before .before .args .counters .now)) (named-words (c .before .before .before .before .before .before .before .before .before .before .before .before .before .before .before .before .before .before .before .before .before .before .before .before .before .before .before .before .before .before .args .reserved .now) (c .before .before .before .before .before .before .before .before .before .before .before .before .before .before .before .before .before .before .before .before .before .before .before .before .before .before .before .before .before .before .args .currencies .now) (c .before .before .before .before .before .before .before .before .before .before .before .before .before .before .before .before .before .before .before .before .before .before .before .before .before .before .before .before .before .before .args .counters .now)) (c .before .before .before .before .before .before .before .before .before .before .before .before .before .before .before .before .before .before .before .before .before .before .before .before .before .before .before .before .before .before .args .s .now) (c .before .before .before .before .before .before .before .before .before .before .before .before .before .before .before .before .before .before .before .before .before .before .before .before .before .before .before .before .before .before .args .c) (c .before .before .before .before .before .before .before .before .before .before .before .before .before .before .before .before .before .before .before .before .before .before .before .before .before .before .before .before .before .before .args .d) (c .before .before .before .before .before .before .before .before .before .before .before .before .before .before .before .before .before .before .before .before .before .before .before .before .before .before .before .before .before .before .args .n) (c .before .before .before .before .before .before .before .before .before .before .before .before .before .before .before .before .before .before .before .before .before .before .before .before .before .before .before .before .before .before .args .out .now) (c .before .before .before .before .before .before .before .before .before .before .before .before .before .before .before .before .before .before .before .before .before .before .before .before .before .before .before .before .before .before .pre .0) (c .before .before .before .before .before .before .before .before .before .before .before .before .before .before .before .before .before .before .before .before .before .before .before .before .before .before .before .before .before .before .pre .1) (c .before .before .before .before .before .before .before .before .before .before .before .before .before .before .before .before .before .before .before .before .before .before .before .before .before .before .before .before .before .before .pre .2) _ _ _ (twice-done _ _ _ _ _ _ _ _ _ (c .before .before .before .before .before .before .before .before .before .before .before .before .before .before .before .before .before .before .before .r .given .1) (c .before .before .before .before .before .before .before .before .before .before .before .before .before .before .before .before .before .before .before .before .before .before .before .doubled .ensures)) (λ z. omega (arith, z, c .before .before .before .before .before .before .before .before .before .before .before .before .before .before .before .before .before .before .before .before .before .before .before .before .before .before .before .before .before .before .pre .4)) (c .before .before .before .before .before .before .before .before .before .before .before .before .before .before .before .before .before .next .result) (c .before .before .before .before .before .before .before .before .before .before .before .before .before .before .before .before .before .next .ensures) (inner (wordsIn (c .before .before .before .before .before .before .before .before .before .before .before .before .before .before .before .before .before .before .before .before .before .before .before .before .before .before .before .before .before .before .args .reserved .now) (c .before .before .before .before .before .before .before .before .before .before .before .before .before .before .before .before .before .before .before .before .before .before .before .before .before .before .before .before .before .before .args .currencies .now) (c .before .before .before .before .before .before .before .before .before .before .before .before .before .before .before .before .before .before .before .before .before .before .before .before .before .before .before .before .before .before .args .counters .now)) (c .before .before .before .before .before .before .before .before .before .before .before .before .before .before .before .before .before .before .before .before .before .before .before .before .before .before .before .before .before .before .args .depth)) (inner-sized (wordsIn (c .before .before .before .before .before .before .before .before .before .before .before .before .before .before .before .before .before .before .before .before .before .before .before .before .before .before .before .before .before .before .args .reserved .now) (c .before .before .before .before .before .before .before .before .before .before .before .before .before .before .before .before .before .before .before .before .before .before .before .before .before .before .before .before .before .before .args .currencies .now) (c .before .before .before .before .before .before .before .before .before .before .before .before .before .before .before .before .before .before .before .before .before .before .before .before .before .before .before .before .before .before .args .counters .now)) (c .before .before .before .before .before .before .before .before .before .before .before .before .before .before .before .before .before .before .before .before .before .before .before .before .before .before .before .before .before .before .args .depth)) _ _ _ _ (done-reads _ _ _ _ _ _ _ _ _ (c .before .before .before .before .before .before .before .before .before .before .before .q .given .1) (c .before .before .before .before .before .before .before .before .before .before .before .before .before .before .before .paid .ensures)) _ _ (put-fields _ _ _ _ _ _ _ _ _ (c .before .before .before .before .before .before .before .before .plain .ensures) (c .before .before .before .before .before .before .before .put .ensures)) (put-fields _ _ _ _ _ _ _ _ _ (c .before .before .before .plain2 .ensures) (c .before .before .put2 .ensures))
+returns-3 c =
+    let at-put2 = c .before .before in
+    let at-put = at-put2 .before .before .before .before .before in
+    let at-q = at-put .before .before .before .before in
+    let at-paid = at-q .before .before .before .before in
+    let at-next = at-paid .before .before in
+    let at-r = at-next .before .before in
+    let at-doubled = at-r .before .before .before .before in
+    let start = at-doubled .before .before .before .before .before .before .before in
+    let args = start .args in
+    let pre = start .pre in
+    let words = wordsIn (args .reserved .now) (args .currencies .now) (args .counters .now) in
+    assignPaid-reads (wordsIn (args .reserved .now) [] []) words (named-words (args .reserved .now) (args .currencies .now) (args .counters .now)) (args .s .now) (args .c) (args .d) (args .n) (args .out .now) (pre .0) (pre .1) (pre .2) _ _ _ (twice-done _ _ _ _ _ _ _ _ _ (at-r .r .given .1) (at-doubled .doubled .ensures)) (λ z. omega (arith, z, pre .4)) (at-next .next .result) (at-next .next .ensures) (inner words (args .depth)) (inner-sized words (args .depth)) _ _ _ _ (done-reads _ _ _ _ _ _ _ _ _ (at-q .q .given .1) (at-paid .paid .ensures)) _ _ (put-fields _ _ _ _ _ _ _ _ _ (at-put .before .plain .ensures) (at-put .put .ensures)) (put-fields _ _ _ _ _ _ _ _ _ (at-put2 .before .plain2 .ensures) (at-put2 .put2 .ensures))
 
 pub assign-paid-spec : {M : Type 1} → statement M
 assign-paid-spec =

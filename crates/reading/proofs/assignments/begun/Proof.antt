@@ -1,13 +1,13 @@
 -- The very next token decides; behind a line break none does.
+use borrow.Author.Needs.{needs}
+use Rattle.reading.proofs.assignments.begun.Statement.{statement}
+use Rattle.reading.proofs.assignments.begun.Tie as tie
 use native.Mathlib.Omega.{arith}
 use Rattle.grammar.specs.Grammar.{primary}
 use Rattle.reading.specs.Meets.{wordsIn}
 use Rattle.reading.specs.Turns.{inner}
 use Rattle.reading.proofs.StepLaws.{meets-as}
 use Rattle.reading.proofs.AssignLaws.{first-broken, first-assign, first-compound, first-paid, first-ended}
-use borrow.Author.Needs.{needs}
-use Rattle.reading.proofs.assignments.begun.Statement.{statement}
-use Rattle.reading.proofs.assignments.begun.Tie as tie
 
 ended-requires : tie.Need-ended-requires
 ended-requires c κs = search needs
@@ -16,22 +16,36 @@ same-length : tie.Need-same-length
 same-length c = search needs
 
 returns : tie.Need-returns
-returns c = meets-as _ _ _ _ _ (c .before .before .ended .result) _ (first-broken (wordsIn (c .before .before .before .before .before .before .before .before .before .before .args .reserved .now) (c .before .before .before .before .before .before .before .before .before .before .args .currencies .now) (c .before .before .before .before .before .before .before .before .before .before .args .counters .now)) (primary (wordsIn (c .before .before .before .before .before .before .before .before .before .before .args .reserved .now) (c .before .before .before .before .before .before .before .before .before .before .args .currencies .now) (c .before .before .before .before .before .before .before .before .before .before .args .counters .now)) (c .before .before .before .before .before .before .before .before .before .before .args .depth)) (inner (wordsIn (c .before .before .before .before .before .before .before .before .before .before .args .reserved .now) (c .before .before .before .before .before .before .before .before .before .before .args .currencies .now) (c .before .before .before .before .before .before .before .before .before .before .args .counters .now)) (c .before .before .before .before .before .before .before .before .before .before .args .depth)) (c .before .before .before .before .before .before .before .before .before .before .args .s .now) (c .before .before .before .before .before .before .before .before .before .before .args .c) (c .before .before .before .before .before .before .before .before .before .before .args .d) (c .before .before .before .before .before .before .before .before .before .before .pre .1) (c .before .before .before .before .before .before .before .before .before .before .pre .2) (c .before .before .before .before .if1 .taken)) (c .before .before .ended .ensures)
+returns c =
+    let at-ended = c .before .before in
+    let at-if1 = at-ended .before .before in
+    let start = at-if1 .before .before .before .before .before .before in
+    let args = start .args in
+    let words = wordsIn (args .reserved .now) (args .currencies .now) (args .counters .now) in
+    meets-as _ _ _ _ _ (at-ended .ended .result) _ (first-broken words (primary words (args .depth)) (inner words (args .depth)) (args .s .now) (args .c) (args .d) (start .pre .1) (start .pre .2) (at-if1 .if1 .taken)) (at-ended .ended .ensures)
 
 assign-requires : tie.Need-assign-requires
 assign-requires c κs = search needs
 
 compound-requires : tie.Need-compound-requires
-compound-requires c κs = (c .before .before .before .before .before .before .before .before .pre .0, c .before .before .before .before .before .before .before .before .pre .1, c .before .before .before .before .before .before .before .before .pre .2, c .before .before .before .before .before .before .before .before .pre .3, omega (arith, c .before .match .keys2), omega (arith, c .before .match .keys2))
+compound-requires c κs =
+    let pre = c .before .before .before .before .before .before .before .before .pre in
+    (pre .0, pre .1, pre .2, pre .3, omega (arith, c .before .match .keys2), omega (arith, c .before .match .keys2))
 
 compound-requires-2 : tie.Need-compound-requires-2
-compound-requires-2 c κs = (c .before .before .before .before .before .before .before .before .pre .0, c .before .before .before .before .before .before .before .before .pre .1, c .before .before .before .before .before .before .before .before .pre .2, c .before .before .before .before .before .before .before .before .pre .3, omega (arith, c .before .match .keys3), omega (arith, c .before .match .keys3))
+compound-requires-2 c κs =
+    let pre = c .before .before .before .before .before .before .before .before .pre in
+    (pre .0, pre .1, pre .2, pre .3, omega (arith, c .before .match .keys3), omega (arith, c .before .match .keys3))
 
 compound-requires-3 : tie.Need-compound-requires-3
-compound-requires-3 c κs = (c .before .before .before .before .before .before .before .before .pre .0, c .before .before .before .before .before .before .before .before .pre .1, c .before .before .before .before .before .before .before .before .pre .2, c .before .before .before .before .before .before .before .before .pre .3, omega (arith, c .before .match .keys4), omega (arith, c .before .match .keys4))
+compound-requires-3 c κs =
+    let pre = c .before .before .before .before .before .before .before .before .pre in
+    (pre .0, pre .1, pre .2, pre .3, omega (arith, c .before .match .keys4), omega (arith, c .before .match .keys4))
 
 compound-requires-4 : tie.Need-compound-requires-4
-compound-requires-4 c κs = (c .before .before .before .before .before .before .before .before .pre .0, c .before .before .before .before .before .before .before .before .pre .1, c .before .before .before .before .before .before .before .before .pre .2, c .before .before .before .before .before .before .before .before .pre .3, omega (arith, c .before .match .keys5), omega (arith, c .before .match .keys5))
+compound-requires-4 c κs =
+    let pre = c .before .before .before .before .before .before .before .before .pre in
+    (pre .0, pre .1, pre .2, pre .3, omega (arith, c .before .match .keys5), omega (arith, c .before .match .keys5))
 
 assign-paid-requires : tie.Need-assign-paid-requires
 assign-paid-requires c κs = search needs
@@ -43,45 +57,86 @@ same-length-2 : tie.Need-same-length-2
 same-length-2 c = search needs
 
 returns-2 : tie.Need-returns-2
-returns-2 c = meets-as _ _ _ _ _ (c .before .before .assign .result) _ (first-assign (wordsIn (c .before .before .before .before .before .before .before .before .before .before .before .args .reserved .now) (c .before .before .before .before .before .before .before .before .before .before .before .args .currencies .now) (c .before .before .before .before .before .before .before .before .before .before .before .args .counters .now)) (primary (wordsIn (c .before .before .before .before .before .before .before .before .before .before .before .args .reserved .now) (c .before .before .before .before .before .before .before .before .before .before .before .args .currencies .now) (c .before .before .before .before .before .before .before .before .before .before .before .args .counters .now)) (c .before .before .before .before .before .before .before .before .before .before .before .args .depth)) (inner (wordsIn (c .before .before .before .before .before .before .before .before .before .before .before .args .reserved .now) (c .before .before .before .before .before .before .before .before .before .before .before .args .currencies .now) (c .before .before .before .before .before .before .before .before .before .before .before .args .counters .now)) (c .before .before .before .before .before .before .before .before .before .before .before .args .depth)) (c .before .before .before .before .before .before .before .before .before .before .before .args .s .now) (c .before .before .before .before .before .before .before .before .before .before .before .args .c) (c .before .before .before .before .before .before .before .before .before .before .before .args .d) (c .before .before .before .before .before .before .before .before .before .before .before .pre .1) (c .before .before .before .before .before .before .before .before .before .before .before .pre .2) (c .before .before .before .before .before .if1 .left) (c .before .before .before .before .match .keys1)) (c .before .before .assign .ensures)
+returns-2 c =
+    let at-assign = c .before .before in
+    let at-match = at-assign .before .before in
+    let start = at-match .before .before .before .before .before .before .before in
+    let args = start .args in
+    let words = wordsIn (args .reserved .now) (args .currencies .now) (args .counters .now) in
+    meets-as _ _ _ _ _ (at-assign .assign .result) _ (first-assign words (primary words (args .depth)) (inner words (args .depth)) (args .s .now) (args .c) (args .d) (start .pre .1) (start .pre .2) (at-match .before .if1 .left) (at-match .match .keys1)) (at-assign .assign .ensures)
 
 same-length-3 : tie.Need-same-length-3
 same-length-3 c = search needs
 
 returns-3 : tie.Need-returns-3
-returns-3 c = meets-as _ _ _ _ _ (c .before .before .compound .result) _ (first-compound (wordsIn (c .before .before .before .before .before .before .before .before .before .before .before .args .reserved .now) (c .before .before .before .before .before .before .before .before .before .before .before .args .currencies .now) (c .before .before .before .before .before .before .before .before .before .before .before .args .counters .now)) (primary (wordsIn (c .before .before .before .before .before .before .before .before .before .before .before .args .reserved .now) (c .before .before .before .before .before .before .before .before .before .before .before .args .currencies .now) (c .before .before .before .before .before .before .before .before .before .before .before .args .counters .now)) (c .before .before .before .before .before .before .before .before .before .before .before .args .depth)) (inner (wordsIn (c .before .before .before .before .before .before .before .before .before .before .before .args .reserved .now) (c .before .before .before .before .before .before .before .before .before .before .before .args .currencies .now) (c .before .before .before .before .before .before .before .before .before .before .before .args .counters .now)) (c .before .before .before .before .before .before .before .before .before .before .before .args .depth)) (c .before .before .before .before .before .before .before .before .before .before .before .args .s .now) (c .before .before .before .before .before .before .before .before .before .before .before .args .c) (c .before .before .before .before .before .before .before .before .before .before .before .args .d) (c .before .before .before .before .before .before .before .before .before .before .before .pre .1) (c .before .before .before .before .before .before .before .before .before .before .before .pre .2) (c .before .before .before .before .before .if1 .left) (omega (arith, c .before .before .before .before .match .keys2)) (omega (arith, c .before .before .before .before .match .keys2))) (c .before .before .compound .ensures)
+returns-3 c =
+    let at-compound = c .before .before in
+    let at-match = at-compound .before .before in
+    let start = at-match .before .before .before .before .before .before .before in
+    let args = start .args in
+    let words = wordsIn (args .reserved .now) (args .currencies .now) (args .counters .now) in
+    meets-as _ _ _ _ _ (at-compound .compound .result) _ (first-compound words (primary words (args .depth)) (inner words (args .depth)) (args .s .now) (args .c) (args .d) (start .pre .1) (start .pre .2) (at-match .before .if1 .left) (omega (arith, at-match .match .keys2)) (omega (arith, at-match .match .keys2))) (at-compound .compound .ensures)
 
 same-length-4 : tie.Need-same-length-4
 same-length-4 c = search needs
 
 returns-4 : tie.Need-returns-4
-returns-4 c = meets-as _ _ _ _ _ (c .before .before .compound2 .result) _ (first-compound (wordsIn (c .before .before .before .before .before .before .before .before .before .before .before .args .reserved .now) (c .before .before .before .before .before .before .before .before .before .before .before .args .currencies .now) (c .before .before .before .before .before .before .before .before .before .before .before .args .counters .now)) (primary (wordsIn (c .before .before .before .before .before .before .before .before .before .before .before .args .reserved .now) (c .before .before .before .before .before .before .before .before .before .before .before .args .currencies .now) (c .before .before .before .before .before .before .before .before .before .before .before .args .counters .now)) (c .before .before .before .before .before .before .before .before .before .before .before .args .depth)) (inner (wordsIn (c .before .before .before .before .before .before .before .before .before .before .before .args .reserved .now) (c .before .before .before .before .before .before .before .before .before .before .before .args .currencies .now) (c .before .before .before .before .before .before .before .before .before .before .before .args .counters .now)) (c .before .before .before .before .before .before .before .before .before .before .before .args .depth)) (c .before .before .before .before .before .before .before .before .before .before .before .args .s .now) (c .before .before .before .before .before .before .before .before .before .before .before .args .c) (c .before .before .before .before .before .before .before .before .before .before .before .args .d) (c .before .before .before .before .before .before .before .before .before .before .before .pre .1) (c .before .before .before .before .before .before .before .before .before .before .before .pre .2) (c .before .before .before .before .before .if1 .left) (omega (arith, c .before .before .before .before .match .keys3)) (omega (arith, c .before .before .before .before .match .keys3))) (c .before .before .compound2 .ensures)
+returns-4 c =
+    let at-compound2 = c .before .before in
+    let at-match = at-compound2 .before .before in
+    let start = at-match .before .before .before .before .before .before .before in
+    let args = start .args in
+    let words = wordsIn (args .reserved .now) (args .currencies .now) (args .counters .now) in
+    meets-as _ _ _ _ _ (at-compound2 .compound2 .result) _ (first-compound words (primary words (args .depth)) (inner words (args .depth)) (args .s .now) (args .c) (args .d) (start .pre .1) (start .pre .2) (at-match .before .if1 .left) (omega (arith, at-match .match .keys3)) (omega (arith, at-match .match .keys3))) (at-compound2 .compound2 .ensures)
 
 same-length-5 : tie.Need-same-length-5
 same-length-5 c = search needs
 
 returns-5 : tie.Need-returns-5
-returns-5 c = meets-as _ _ _ _ _ (c .before .before .compound3 .result) _ (first-compound (wordsIn (c .before .before .before .before .before .before .before .before .before .before .before .args .reserved .now) (c .before .before .before .before .before .before .before .before .before .before .before .args .currencies .now) (c .before .before .before .before .before .before .before .before .before .before .before .args .counters .now)) (primary (wordsIn (c .before .before .before .before .before .before .before .before .before .before .before .args .reserved .now) (c .before .before .before .before .before .before .before .before .before .before .before .args .currencies .now) (c .before .before .before .before .before .before .before .before .before .before .before .args .counters .now)) (c .before .before .before .before .before .before .before .before .before .before .before .args .depth)) (inner (wordsIn (c .before .before .before .before .before .before .before .before .before .before .before .args .reserved .now) (c .before .before .before .before .before .before .before .before .before .before .before .args .currencies .now) (c .before .before .before .before .before .before .before .before .before .before .before .args .counters .now)) (c .before .before .before .before .before .before .before .before .before .before .before .args .depth)) (c .before .before .before .before .before .before .before .before .before .before .before .args .s .now) (c .before .before .before .before .before .before .before .before .before .before .before .args .c) (c .before .before .before .before .before .before .before .before .before .before .before .args .d) (c .before .before .before .before .before .before .before .before .before .before .before .pre .1) (c .before .before .before .before .before .before .before .before .before .before .before .pre .2) (c .before .before .before .before .before .if1 .left) (omega (arith, c .before .before .before .before .match .keys4)) (omega (arith, c .before .before .before .before .match .keys4))) (c .before .before .compound3 .ensures)
+returns-5 c =
+    let at-compound3 = c .before .before in
+    let at-match = at-compound3 .before .before in
+    let start = at-match .before .before .before .before .before .before .before in
+    let args = start .args in
+    let words = wordsIn (args .reserved .now) (args .currencies .now) (args .counters .now) in
+    meets-as _ _ _ _ _ (at-compound3 .compound3 .result) _ (first-compound words (primary words (args .depth)) (inner words (args .depth)) (args .s .now) (args .c) (args .d) (start .pre .1) (start .pre .2) (at-match .before .if1 .left) (omega (arith, at-match .match .keys4)) (omega (arith, at-match .match .keys4))) (at-compound3 .compound3 .ensures)
 
 same-length-6 : tie.Need-same-length-6
 same-length-6 c = search needs
 
 returns-6 : tie.Need-returns-6
-returns-6 c = meets-as _ _ _ _ _ (c .before .before .compound4 .result) _ (first-compound (wordsIn (c .before .before .before .before .before .before .before .before .before .before .before .args .reserved .now) (c .before .before .before .before .before .before .before .before .before .before .before .args .currencies .now) (c .before .before .before .before .before .before .before .before .before .before .before .args .counters .now)) (primary (wordsIn (c .before .before .before .before .before .before .before .before .before .before .before .args .reserved .now) (c .before .before .before .before .before .before .before .before .before .before .before .args .currencies .now) (c .before .before .before .before .before .before .before .before .before .before .before .args .counters .now)) (c .before .before .before .before .before .before .before .before .before .before .before .args .depth)) (inner (wordsIn (c .before .before .before .before .before .before .before .before .before .before .before .args .reserved .now) (c .before .before .before .before .before .before .before .before .before .before .before .args .currencies .now) (c .before .before .before .before .before .before .before .before .before .before .before .args .counters .now)) (c .before .before .before .before .before .before .before .before .before .before .before .args .depth)) (c .before .before .before .before .before .before .before .before .before .before .before .args .s .now) (c .before .before .before .before .before .before .before .before .before .before .before .args .c) (c .before .before .before .before .before .before .before .before .before .before .before .args .d) (c .before .before .before .before .before .before .before .before .before .before .before .pre .1) (c .before .before .before .before .before .before .before .before .before .before .before .pre .2) (c .before .before .before .before .before .if1 .left) (omega (arith, c .before .before .before .before .match .keys5)) (omega (arith, c .before .before .before .before .match .keys5))) (c .before .before .compound4 .ensures)
+returns-6 c =
+    let at-compound4 = c .before .before in
+    let at-match = at-compound4 .before .before in
+    let start = at-match .before .before .before .before .before .before .before in
+    let args = start .args in
+    let words = wordsIn (args .reserved .now) (args .currencies .now) (args .counters .now) in
+    meets-as _ _ _ _ _ (at-compound4 .compound4 .result) _ (first-compound words (primary words (args .depth)) (inner words (args .depth)) (args .s .now) (args .c) (args .d) (start .pre .1) (start .pre .2) (at-match .before .if1 .left) (omega (arith, at-match .match .keys5)) (omega (arith, at-match .match .keys5))) (at-compound4 .compound4 .ensures)
 
 same-length-7 : tie.Need-same-length-7
 same-length-7 c = search needs
 
 returns-7 : tie.Need-returns-7
-returns-7 c = meets-as _ _ _ _ _ (c .before .before .assign-paid .result) _ (first-paid (wordsIn (c .before .before .before .before .before .before .before .before .before .before .before .args .reserved .now) (c .before .before .before .before .before .before .before .before .before .before .before .args .currencies .now) (c .before .before .before .before .before .before .before .before .before .before .before .args .counters .now)) (primary (wordsIn (c .before .before .before .before .before .before .before .before .before .before .before .args .reserved .now) (c .before .before .before .before .before .before .before .before .before .before .before .args .currencies .now) (c .before .before .before .before .before .before .before .before .before .before .before .args .counters .now)) (c .before .before .before .before .before .before .before .before .before .before .before .args .depth)) (inner (wordsIn (c .before .before .before .before .before .before .before .before .before .before .before .args .reserved .now) (c .before .before .before .before .before .before .before .before .before .before .before .args .currencies .now) (c .before .before .before .before .before .before .before .before .before .before .before .args .counters .now)) (c .before .before .before .before .before .before .before .before .before .before .before .args .depth)) (c .before .before .before .before .before .before .before .before .before .before .before .args .s .now) (c .before .before .before .before .before .before .before .before .before .before .before .args .c) (c .before .before .before .before .before .before .before .before .before .before .before .args .d) (c .before .before .before .before .before .before .before .before .before .before .before .pre .1) (c .before .before .before .before .before .before .before .before .before .before .before .pre .2) (c .before .before .before .before .before .if1 .left) (c .before .before .before .before .match .keys6)) (c .before .before .assign-paid .ensures)
+returns-7 c =
+    let at-assign-paid = c .before .before in
+    let at-match = at-assign-paid .before .before in
+    let start = at-match .before .before .before .before .before .before .before in
+    let args = start .args in
+    let words = wordsIn (args .reserved .now) (args .currencies .now) (args .counters .now) in
+    meets-as _ _ _ _ _ (at-assign-paid .assign-paid .result) _ (first-paid words (primary words (args .depth)) (inner words (args .depth)) (args .s .now) (args .c) (args .d) (start .pre .1) (start .pre .2) (at-match .before .if1 .left) (at-match .match .keys6)) (at-assign-paid .assign-paid .ensures)
 
 same-length-8 : tie.Need-same-length-8
 same-length-8 c = search needs
 
 returns-8 : tie.Need-returns-8
 returns-8 c =
-    let r = c .before .before .before .before .match .rest in
-    meets-as _ _ _ _ _ (c .before .before .ended2 .result) _ (first-ended (wordsIn (c .before .before .before .before .before .before .before .before .before .before .before .args .reserved .now) (c .before .before .before .before .before .before .before .before .before .before .before .args .currencies .now) (c .before .before .before .before .before .before .before .before .before .before .before .args .counters .now)) (primary (wordsIn (c .before .before .before .before .before .before .before .before .before .before .before .args .reserved .now) (c .before .before .before .before .before .before .before .before .before .before .before .args .currencies .now) (c .before .before .before .before .before .before .before .before .before .before .before .args .counters .now)) (c .before .before .before .before .before .before .before .before .before .before .before .args .depth)) (inner (wordsIn (c .before .before .before .before .before .before .before .before .before .before .before .args .reserved .now) (c .before .before .before .before .before .before .before .before .before .before .before .args .currencies .now) (c .before .before .before .before .before .before .before .before .before .before .before .args .counters .now)) (c .before .before .before .before .before .before .before .before .before .before .before .args .depth)) (c .before .before .before .before .before .before .before .before .before .before .before .args .s .now) (c .before .before .before .before .before .before .before .before .before .before .before .args .c) (c .before .before .before .before .before .before .before .before .before .before .before .args .d) (c .before .before .before .before .before .before .before .before .before .before .before .pre .1) (c .before .before .before .before .before .before .before .before .before .before .before .pre .2) (c .before .before .before .before .before .if1 .left) (r .0 .0 .0 .0 .0 .1) (λ l h. omega (arith, l, h, r .0 .0 .0 .0 .1, r .0 .0 .0 .1, r .0 .0 .1, r .0 .1)) (r .1)) (c .before .before .ended2 .ensures)
+    let at-ended2 = c .before .before in
+    let at-match = at-ended2 .before .before in
+    let start = at-match .before .before .before .before .before .before .before in
+    let args = start .args in
+    let words = wordsIn (args .reserved .now) (args .currencies .now) (args .counters .now) in
+    let r = at-match .match .rest in
+    meets-as _ _ _ _ _ (at-ended2 .ended2 .result) _ (first-ended words (primary words (args .depth)) (inner words (args .depth)) (args .s .now) (args .c) (args .d) (start .pre .1) (start .pre .2) (at-match .before .if1 .left) (r .0 .0 .0 .0 .0 .1) (λ l h. omega (arith, l, h, r .0 .0 .0 .0 .1, r .0 .0 .0 .1, r .0 .0 .1, r .0 .1)) (r .1)) (at-ended2 .ended2 .ensures)
 
 pub begun-spec : {M : Type 1} → statement M
 begun-spec =

@@ -1,3 +1,5 @@
+-- The readers of expressions, which call one another: each meets the reader of its level.
+use borrow.Author.Needs.{needs}
 use Prim.Native.Nat.{ℕ, _<_, _+_, _*_, _-_}
 use borrow.Fn.Kinds.{In}
 use borrow.Fn.PlainCycle.{Measures, is, falls, and}
@@ -64,6 +66,7 @@ use Rattle.reading.proofs.calling.refusal.Reads as refusal-reads
 use Rattle.reading.proofs.calling.refused.Reads as refused-reads
 use Rattle.reading.proofs.calling.shown.Reads as shown-reads
 use Rattle.reading.proofs.calling.special.Reads as special-reads
+use Rattle.reading.proofs.calling.stops_pays.Reads as stops-pays-reads
 use Rattle.reading.proofs.calls.call_of.Reads as call-of-reads
 use Rattle.reading.proofs.calls.method_of.Reads as method-of-reads
 use Rattle.reading.proofs.records.join.Reads as join-reads
@@ -75,10 +78,8 @@ use Rattle.reading.proofs.signs.is_postfix.Reads as is-postfix-reads
 use Rattle.reading.proofs.signs.is_power.Reads as is-power-reads
 use Rattle.reading.proofs.signs.is_product.Reads as is-product-reads
 use Rattle.reading.proofs.signs.is_sum.Reads as is-sum-reads
-use Rattle.reading.proofs.calling.stops_pays.Reads as stops-pays-reads
 use Rattle.reading.proofs.expressions.+arguments+call+comparison+expression+index+items+list+method+name+parenthesis+pays+postfix+postfixes+power+primary+product+sum.{statement}
 use Rattle.reading.proofs.expressions.+arguments+call+comparison+expression+index+items+list+method+name+parenthesis+pays+postfix+postfixes+power+primary+product+sum.Tie.{close}
-use borrow.Author.Needs.{needs}
 use native.Mathlib.Omega.{arith}
 use lib.ListN.{length}
 use Rattle.reading.specs.Meets.{toksAt, wordsIn, tokenAt, Ready}
@@ -262,25 +263,28 @@ sum-at t = and 5 sum-kinds.ps (is 5 sum-kinds.ps μ-sum t) sum.Pre
 abbrev sum-below : ℕ → In 5 sum-kinds.ps
 sum-below t = and 5 sum-kinds.ps (falls 5 sum-kinds.ps _<_ μ-sum t) sum.Pre
 
--- src/expressions.rt:439:9
 arguments-returns : (t : ℕ) → arguments-lts.Need-returns (
   next-reads.Asked,
   next-reads.Learnt,
   items-below t,
   items.Post,
 ) (arguments-at t) arguments.Post
-arguments-returns t c = arguments-no (wordsIn (c .before .before .before .before .before .before .before .args .reserved .now) (c .before .before .before .before .before .before .before .args .currencies .now) (c .before .before .before .before .before .before .before .args .counters .now)) (c .before .before .before .before .before .before .before .args .depth) (c .before .before .before .before .before .before .before .args .s .now) (c .before .before .before .before .before .before .before .args .c) (c .before .before .before .before .before .before .before .pre .1 .0 .0) (c .if1 .taken)
+arguments-returns t c =
+    let start = c .before .before .before .before .before .before .before in
+    let args = start .args in
+    arguments-no (wordsIn (args .reserved .now) (args .currencies .now) (args .counters .now)) (args .depth) (args .s .now) (args .c) (start .pre .1 .0 .0) (c .if1 .taken)
 
--- src/expressions.rt:442:9
 arguments-returns-2 : (t : ℕ) → arguments-lts.Need-returns-2 (
   next-reads.Asked,
   next-reads.Learnt,
   items-below t,
   items.Post,
 ) (arguments-at t) arguments.Post
-arguments-returns-2 t c = arguments-0 (wordsIn (c .before .before .before .before .before .before .before .before .args .reserved .now) (c .before .before .before .before .before .before .before .before .args .currencies .now) (c .before .before .before .before .before .before .before .before .args .counters .now)) (c .before .before .before .before .before .before .before .before .args .depth) (c .before .before .before .before .before .before .before .before .args .s .now) (c .before .before .before .before .before .before .before .before .args .c) (c .before .before .before .before .before .before .before .before .pre .1 .0 .0) (c .before .if1 .left) (c .if2 .taken)
+arguments-returns-2 t c =
+    let start = c .before .before .before .before .before .before .before .before in
+    let args = start .args in
+    arguments-0 (wordsIn (args .reserved .now) (args .currencies .now) (args .counters .now)) (args .depth) (args .s .now) (args .c) (start .pre .1 .0 .0) (c .before .if1 .left) (c .if2 .taken)
 
--- src/expressions.rt:444:9
 arguments-next-requires : (t : ℕ) → arguments-lts.Need-next-requires (
   next-reads.Asked,
   next-reads.Learnt,
@@ -289,7 +293,6 @@ arguments-next-requires : (t : ℕ) → arguments-lts.Need-next-requires (
 ) (arguments-at t) arguments.Post
 arguments-next-requires t c κs = c .before .before .before .before .before .before .before .before .pre .1 .0 .0
 
--- src/expressions.rt:452:9
 arguments-sub-items : (t : ℕ) → arguments-lts.Need-sub-items (
   next-reads.Asked,
   next-reads.Learnt,
@@ -298,16 +301,19 @@ arguments-sub-items : (t : ℕ) → arguments-lts.Need-sub-items (
 ) (arguments-at t) arguments.Post
 arguments-sub-items t c = omega (arith, c .before .if2 .left)
 
--- src/expressions.rt:445:9
 arguments-items-requires : (t : ℕ) → arguments-lts.Need-items-requires (
   next-reads.Asked,
   next-reads.Learnt,
   items-below t,
   items.Post,
 ) (arguments-at t) arguments.Post
-arguments-items-requires t c κs = (omega (arith, c .before .before .before .before .before .before .before .before .before .before .pre .0, c .before .before .if2 .left), (arguments-ready (wordsIn (c .before .before .before .before .before .before .before .before .before .before .args .reserved .now) (c .before .before .before .before .before .before .before .before .before .before .args .currencies .now) (c .before .before .before .before .before .before .before .before .before .before .args .counters .now)) (c .before .before .before .before .before .before .before .before .before .before .args .depth) (c .before .before .before .before .before .before .before .before .before .before .args .s .now) (c .before .before .before .before .before .before .before .before .before .before .args .c) (c .before .before .before .before .before .before .before .before .before .before .pre .1 .0 .0) (c .before .before .before .if1 .left) (c .before .before .if2 .left) (c .before .next .result) (c .before .next .ensures) _ (c .before .before .before .before .before .before .before .before .before .before .pre .1 .0 .1), c .before .before .before .before .before .before .before .before .before .before .pre .1 .1, inl refl))
+arguments-items-requires t c κs =
+    let at-if2 = c .before .before in
+    let start = at-if2 .before .before .before .before .before .before .before .before in
+    let pre = start .pre in
+    let args = start .args in
+    (omega (arith, pre .0, at-if2 .if2 .left), (arguments-ready (wordsIn (args .reserved .now) (args .currencies .now) (args .counters .now)) (args .depth) (args .s .now) (args .c) (pre .1 .0 .0) (at-if2 .before .if1 .left) (at-if2 .if2 .left) (c .before .next .result) (c .before .next .ensures) _ (pre .1 .0 .1), pre .1 .1, inl refl))
 
--- src/expressions.rt:456:21
 arguments-enum-known-r : (t : ℕ) → arguments-lts.Need-enum-known-r (
   next-reads.Asked,
   next-reads.Learnt,
@@ -316,7 +322,6 @@ arguments-enum-known-r : (t : ℕ) → arguments-lts.Need-enum-known-r (
 ) (arguments-at t) arguments.Post
 arguments-enum-known-r t c = search needs
 
--- src/expressions.rt:457:9
 arguments-enum-told : (t : ℕ) → arguments-lts.Need-enum-told (
   next-reads.Asked,
   next-reads.Learnt,
@@ -325,7 +330,6 @@ arguments-enum-told : (t : ℕ) → arguments-lts.Need-enum-told (
 ) (arguments-at t) arguments.Post
 arguments-enum-told t c = search needs
 
--- src/expressions.rt:457:9
 arguments-same-length : (t : ℕ) → arguments-lts.Need-same-length (
   next-reads.Asked,
   next-reads.Learnt,
@@ -334,25 +338,28 @@ arguments-same-length : (t : ℕ) → arguments-lts.Need-same-length (
 ) (arguments-at t) arguments.Post
 arguments-same-length t c = c .before .before .before .before .items .kept .1 .1 .1 .1 .1 .1 .1 .0
 
--- src/expressions.rt:457:9
 arguments-returns-3 : (t : ℕ) → arguments-lts.Need-returns-3 (
   next-reads.Asked,
   next-reads.Learnt,
   items-below t,
   items.Post,
 ) (arguments-at t) arguments.Post
-arguments-returns-3 t c = items-refused-on _ _ _ _ _ _ _ _ _ _ _ _ (c .enum-told .given .1) (c .before .before .before .before .items .ensures .0) (arguments-refused (wordsIn (c .before .before .before .before .before .before .before .before .before .before .before .before .before .before .before .args .reserved .now) (c .before .before .before .before .before .before .before .before .before .before .before .before .before .before .before .args .currencies .now) (c .before .before .before .before .before .before .before .before .before .before .before .before .before .before .before .args .counters .now)) (c .before .before .before .before .before .before .before .before .before .before .before .before .before .before .before .args .depth) (c .before .before .before .before .before .before .before .before .before .before .before .before .before .before .before .args .s .now) (c .before .before .before .before .before .before .before .before .before .before .before .before .before .before .before .args .c) (c .before .before .before .before .before .before .before .before .before .before .before .before .before .before .before .pre .1 .0 .0) (c .before .before .before .before .before .before .before .before .if1 .left) (c .before .before .before .before .before .before .before .if2 .left) (c .before .before .before .before .before .before .next .result) (c .before .before .before .before .before .before .next .ensures) _ _)
+arguments-returns-3 t c =
+    let at-items = c .before .before .before .before in
+    let at-next = at-items .before .before in
+    let at-if1 = at-next .before .before in
+    let start = at-if1 .before .before .before .before .before .before .before in
+    let args = start .args in
+    items-refused-on _ _ _ _ _ _ _ _ _ _ _ _ (c .enum-told .given .1) (at-items .items .ensures .0) (arguments-refused (wordsIn (args .reserved .now) (args .currencies .now) (args .counters .now)) (args .depth) (args .s .now) (args .c) (start .pre .1 .0 .0) (at-if1 .if1 .left) (at-next .before .if2 .left) (at-next .next .result) (at-next .next .ensures) _ _)
 
--- src/expressions.rt:459:17
 arguments-next-requires-2 : (t : ℕ) → arguments-lts.Need-next-requires-2 (
   next-reads.Asked,
   next-reads.Learnt,
   items-below t,
   items.Post,
 ) (arguments-at t) arguments.Post
-arguments-next-requires-2 t c κs = done-items _ _ _ _ _ _ _ _ _ _ (c .before .r .given .1) (c .before .before .before .before .before .items .ensures .0) .holds
+arguments-next-requires-2 t c κs = (done-items _ _ _ _ _ _ _ _ _ _ (c .before .r .given .1) (c .before .before .before .before .before .items .ensures .0)) .holds
 
--- src/expressions.rt:425:1
 arguments-same-length-2 : (t : ℕ) → arguments-lts.Need-same-length-2 (
   next-reads.Asked,
   next-reads.Learnt,
@@ -361,16 +368,21 @@ arguments-same-length-2 : (t : ℕ) → arguments-lts.Need-same-length-2 (
 ) (arguments-at t) arguments.Post
 arguments-same-length-2 t c = c .before .before .before .before .before .before .items .kept .1 .1 .1 .1 .1 .1 .1 .0
 
--- src/expressions.rt:425:1
 arguments-returns-4 : (t : ℕ) → arguments-lts.Need-returns-4 (
   next-reads.Asked,
   next-reads.Learnt,
   items-below t,
   items.Post,
 ) (arguments-at t) arguments.Post
-arguments-returns-4 t c = arguments-done (wordsIn (c .before .before .before .before .before .before .before .before .before .before .before .before .before .before .before .before .before .args .reserved .now) (c .before .before .before .before .before .before .before .before .before .before .before .before .before .before .before .before .before .args .currencies .now) (c .before .before .before .before .before .before .before .before .before .before .before .before .before .before .before .before .before .args .counters .now)) (c .before .before .before .before .before .before .before .before .before .before .before .before .before .before .before .before .before .args .depth) (c .before .before .before .before .before .before .before .before .before .before .before .before .before .before .before .before .before .args .s .now) (c .before .before .before .before .before .before .before .before .before .before .before .before .before .before .before .before .before .args .c) (c .before .before .before .before .before .before .before .before .before .before .before .before .before .before .before .before .before .pre .1 .0 .0) (c .before .before .before .before .before .before .before .before .before .before .if1 .left) (c .before .before .before .before .before .before .before .before .before .if2 .left) (c .before .before .before .before .before .before .before .before .next .result) (c .before .before .before .before .before .before .before .before .next .ensures) _ _ _ _ _ _ _ (done-items _ _ _ _ _ _ _ _ _ _ (c .before .before .r .given .1) (c .before .before .before .before .before .before .items .ensures .0)) (closed-code _ _ _ _ _ _ (c .before .before .r .given .1) (c .before .before .before .before .before .before .items .ensures .1)) (c .next2 .result) (c .next2 .ensures)
+arguments-returns-4 t c =
+    let at-r = c .before .before in
+    let at-items = at-r .before .before .before .before in
+    let at-next = at-items .before .before in
+    let at-if1 = at-next .before .before in
+    let start = at-if1 .before .before .before .before .before .before .before in
+    let args = start .args in
+    arguments-done (wordsIn (args .reserved .now) (args .currencies .now) (args .counters .now)) (args .depth) (args .s .now) (args .c) (start .pre .1 .0 .0) (at-if1 .if1 .left) (at-next .before .if2 .left) (at-next .next .result) (at-next .next .ensures) _ _ _ _ _ _ _ (done-items _ _ _ _ _ _ _ _ _ _ (at-r .r .given .1) (at-items .items .ensures .0)) (closed-code _ _ _ _ _ _ (at-r .r .given .1) (at-items .items .ensures .1)) (c .next2 .result) (c .next2 .ensures)
 
--- src/expressions.rt:412:9
 call-arguments-requires : (t : ℕ) → call-lts.Need-arguments-requires (
   arguments-below t,
   arguments.Post,
@@ -383,9 +395,10 @@ call-arguments-requires : (t : ℕ) → call-lts.Need-arguments-requires (
   put-reads.Asked,
   put-reads.Learnt,
 ) (call-at t) call.Post
-call-arguments-requires t c κs = (omega (arith, c .before .before .before .before .before .before .pre .0), (c .before .before .before .before .before .before .pre .1 .0, c .before .before .before .before .before .before .pre .1 .3))
+call-arguments-requires t c κs =
+    let pre = c .before .before .before .before .before .before .pre in
+    (omega (arith, pre .0), (pre .1 .0, pre .1 .3))
 
--- src/expressions.rt:413:21
 call-enum-known-r : (t : ℕ) → call-lts.Need-enum-known-r (
   arguments-below t,
   arguments.Post,
@@ -400,7 +413,6 @@ call-enum-known-r : (t : ℕ) → call-lts.Need-enum-known-r (
 ) (call-at t) call.Post
 call-enum-known-r t c = search needs
 
--- src/expressions.rt:414:9
 call-enum-told : (t : ℕ) → call-lts.Need-enum-told (
   arguments-below t,
   arguments.Post,
@@ -415,7 +427,6 @@ call-enum-told : (t : ℕ) → call-lts.Need-enum-told (
 ) (call-at t) call.Post
 call-enum-told t c = search needs
 
--- src/expressions.rt:414:9
 call-refusal-requires : (t : ℕ) → call-lts.Need-refusal-requires (
   arguments-below t,
   arguments.Post,
@@ -430,7 +441,6 @@ call-refusal-requires : (t : ℕ) → call-lts.Need-refusal-requires (
 ) (call-at t) call.Post
 call-refusal-requires t c κs = search needs
 
--- src/expressions.rt:414:9
 call-same-length : (t : ℕ) → call-lts.Need-same-length (
   arguments-below t,
   arguments.Post,
@@ -445,7 +455,6 @@ call-same-length : (t : ℕ) → call-lts.Need-same-length (
 ) (call-at t) call.Post
 call-same-length t c = c .before .before .before .before .before .arguments .kept .1 .1 .1 .1 .1 .1 .0
 
--- src/expressions.rt:414:9
 call-returns : (t : ℕ) → call-lts.Need-returns (
   arguments-below t,
   arguments.Post,
@@ -458,9 +467,13 @@ call-returns : (t : ℕ) → call-lts.Need-returns (
   put-reads.Asked,
   put-reads.Learnt,
 ) (call-at t) call.Post
-call-returns t c = refusal-on _ _ _ _ _ _ (c .refusal .result) _ _ _ _ _ _ (c .before .enum-told .given .1) (c .before .before .before .before .before .arguments .ensures) (c .refusal .ensures) (call-refused (wordsIn (c .before .before .before .before .before .before .before .before .before .before .before .before .args .reserved .now) (c .before .before .before .before .before .before .before .before .before .before .before .before .args .currencies .now) (c .before .before .before .before .before .before .before .before .before .before .before .before .args .counters .now)) (c .before .before .before .before .before .before .before .before .before .before .before .before .args .depth) (tokenAt (c .before .before .before .before .before .before .before .before .before .before .before .before .args .s .now) (c .before .before .before .before .before .before .before .before .before .before .before .before .args .c)) (c .before .before .before .before .before .before .before .before .before .before .before .before .args .kind) (c .before .before .before .before .before .before .before .before .before .before .before .before .pre .1 .4) (c .before .before .before .before .before .before .before .before .before .before .before .before .pre .1 .5) (c .before .before .before .before .before .before .before .before .before .before .before .before .pre .1 .6) (c .before .before .before .before .before .before .before .before .before .before .before .before .args .s .now) (c .before .before .before .before .before .before .before .before .before .before .before .before .args .d) _ _)
+call-returns t c =
+    let at-arguments = c .before .before .before .before .before in
+    let start = at-arguments .before .before .before .before .before .before .before in
+    let args = start .args in
+    let pre = start .pre in
+    refusal-on _ _ _ _ _ _ (c .refusal .result) _ _ _ _ _ _ (c .before .enum-told .given .1) (at-arguments .arguments .ensures) (c .refusal .ensures) (call-refused (wordsIn (args .reserved .now) (args .currencies .now) (args .counters .now)) (args .depth) (tokenAt (args .s .now) (args .c)) (args .kind) (pre .1 .4) (pre .1 .5) (pre .1 .6) (args .s .now) (args .d) _ _)
 
--- src/expressions.rt:416:9
 call-call-fault-requires : (t : ℕ) → call-lts.Need-call-fault-requires (
   arguments-below t,
   arguments.Post,
@@ -475,7 +488,6 @@ call-call-fault-requires : (t : ℕ) → call-lts.Need-call-fault-requires (
 ) (call-at t) call.Post
 call-call-fault-requires t c κs = shown-inside _ _ _ (done-items _ _ _ _ _ _ _ _ _ _ (c .before .r .given .1) (c .before .before .before .before .before .arguments .ensures) .shown)
 
--- src/expressions.rt:418:9
 call-same-length-2 : (t : ℕ) → call-lts.Need-same-length-2 (
   arguments-below t,
   arguments.Post,
@@ -490,7 +502,6 @@ call-same-length-2 : (t : ℕ) → call-lts.Need-same-length-2 (
 ) (call-at t) call.Post
 call-same-length-2 t c = c .before .before .before .before .before .before .before .arguments .kept .1 .1 .1 .1 .1 .1 .0
 
--- src/expressions.rt:418:9
 call-returns-2 : (t : ℕ) → call-lts.Need-returns-2 (
   arguments-below t,
   arguments.Post,
@@ -503,9 +514,14 @@ call-returns-2 : (t : ℕ) → call-lts.Need-returns-2 (
   put-reads.Asked,
   put-reads.Learnt,
 ) (call-at t) call.Post
-call-returns-2 t c = call-faulty (wordsIn (c .before .before .before .before .before .before .before .before .before .before .before .before .before .before .args .reserved .now) (c .before .before .before .before .before .before .before .before .before .before .before .before .before .before .args .currencies .now) (c .before .before .before .before .before .before .before .before .before .before .before .before .before .before .args .counters .now)) (c .before .before .before .before .before .before .before .before .before .before .before .before .before .before .args .depth) (tokenAt (c .before .before .before .before .before .before .before .before .before .before .before .before .before .before .args .s .now) (c .before .before .before .before .before .before .before .before .before .before .before .before .before .before .args .c)) (c .before .before .before .before .before .before .before .before .before .before .before .before .before .before .args .kind) (c .before .before .before .before .before .before .before .before .before .before .before .before .before .before .pre .1 .4) (c .before .before .before .before .before .before .before .before .before .before .before .before .before .before .pre .1 .5) (c .before .before .before .before .before .before .before .before .before .before .before .before .before .before .pre .1 .6) (c .before .before .before .before .before .before .before .before .before .before .before .before .before .before .args .s .now) (c .before .before .before .before .before .before .before .before .before .before .before .before .before .before .args .d) _ _ _ _ _ _ _ (done-items _ _ _ _ _ _ _ _ _ _ (c .before .before .before .r .given .1) (c .before .before .before .before .before .before .before .arguments .ensures)) _ (c .before .call-fault .ensures) (c .if1 .taken)
+call-returns-2 t c =
+    let at-r = c .before .before .before in
+    let at-arguments = at-r .before .before .before .before in
+    let start = at-arguments .before .before .before .before .before .before .before in
+    let args = start .args in
+    let pre = start .pre in
+    call-faulty (wordsIn (args .reserved .now) (args .currencies .now) (args .counters .now)) (args .depth) (tokenAt (args .s .now) (args .c)) (args .kind) (pre .1 .4) (pre .1 .5) (pre .1 .6) (args .s .now) (args .d) _ _ _ _ _ _ _ (done-items _ _ _ _ _ _ _ _ _ _ (at-r .r .given .1) (at-arguments .arguments .ensures)) _ (c .before .call-fault .ensures) (c .if1 .taken)
 
--- src/expressions.rt:420:29
 call-sub-plain : (t : ℕ) → call-lts.Need-sub-plain (
   arguments-below t,
   arguments.Post,
@@ -518,9 +534,13 @@ call-sub-plain : (t : ℕ) → call-lts.Need-sub-plain (
   put-reads.Asked,
   put-reads.Learnt,
 ) (call-at t) call.Post
-call-sub-plain t c = omega (arith, arguments-within (wordsIn (c .before .before .before .before .before .before .before .before .before .before .before .before .before .before .before .args .reserved .now) (c .before .before .before .before .before .before .before .before .before .before .before .before .before .before .before .args .currencies .now) (c .before .before .before .before .before .before .before .before .before .before .before .before .before .before .before .args .counters .now)) (c .before .before .before .before .before .before .before .before .before .before .before .before .before .before .before .args .depth) (c .before .before .before .before .before .before .before .before .before .before .before .before .before .before .before .args .s .now) (c .before .before .before .before .before .before .before .before .before .before .before .before .before .before .before .args .d) _ _ _ _ _ _ _ (done-items _ _ _ _ _ _ _ _ _ _ (c .before .before .before .before .r .given .1) (c .before .before .before .before .before .before .before .before .arguments .ensures)) (c .before .before .before .before .before .before .before .before .before .before .before .before .before .before .before .pre .1 .0 .1))
+call-sub-plain t c =
+    let at-r = c .before .before .before .before in
+    let at-arguments = at-r .before .before .before .before in
+    let start = at-arguments .before .before .before .before .before .before .before in
+    let args = start .args in
+    omega (arith, arguments-within (wordsIn (args .reserved .now) (args .currencies .now) (args .counters .now)) (args .depth) (args .s .now) (args .d) _ _ _ _ _ _ _ (done-items _ _ _ _ _ _ _ _ _ _ (at-r .r .given .1) (at-arguments .arguments .ensures)) (start .pre .1 .0 .1))
 
--- src/expressions.rt:420:29
 call-add-plain : (t : ℕ) → call-lts.Need-add-plain (
   arguments-below t,
   arguments.Post,
@@ -533,9 +553,13 @@ call-add-plain : (t : ℕ) → call-lts.Need-add-plain (
   put-reads.Asked,
   put-reads.Learnt,
 ) (call-at t) call.Post
-call-add-plain t c = omega (arith, arguments-within (wordsIn (c .before .before .before .before .before .before .before .before .before .before .before .before .before .before .before .args .reserved .now) (c .before .before .before .before .before .before .before .before .before .before .before .before .before .before .before .args .currencies .now) (c .before .before .before .before .before .before .before .before .before .before .before .before .before .before .before .args .counters .now)) (c .before .before .before .before .before .before .before .before .before .before .before .before .before .before .before .args .depth) (c .before .before .before .before .before .before .before .before .before .before .before .before .before .before .before .args .s .now) (c .before .before .before .before .before .before .before .before .before .before .before .before .before .before .before .args .d) _ _ _ _ _ _ _ (done-items _ _ _ _ _ _ _ _ _ _ (c .before .before .before .before .r .given .1) (c .before .before .before .before .before .before .before .before .arguments .ensures)) (c .before .before .before .before .before .before .before .before .before .before .before .before .before .before .before .pre .1 .0 .1))
+call-add-plain t c =
+    let at-r = c .before .before .before .before in
+    let at-arguments = at-r .before .before .before .before in
+    let start = at-arguments .before .before .before .before .before .before .before in
+    let args = start .args in
+    omega (arith, arguments-within (wordsIn (args .reserved .now) (args .currencies .now) (args .counters .now)) (args .depth) (args .s .now) (args .d) _ _ _ _ _ _ _ (done-items _ _ _ _ _ _ _ _ _ _ (at-r .r .given .1) (at-arguments .arguments .ensures)) (start .pre .1 .0 .1))
 
--- src/expressions.rt:420:17
 call-plain-requires : (t : ℕ) → call-lts.Need-plain-requires (
   arguments-below t,
   arguments.Post,
@@ -550,7 +574,6 @@ call-plain-requires : (t : ℕ) → call-lts.Need-plain-requires (
 ) (call-at t) call.Post
 call-plain-requires t c κs = search needs
 
--- src/expressions.rt:420:5
 call-put-requires : (t : ℕ) → call-lts.Need-put-requires (
   arguments-below t,
   arguments.Post,
@@ -565,7 +588,6 @@ call-put-requires : (t : ℕ) → call-lts.Need-put-requires (
 ) (call-at t) call.Post
 call-put-requires t c κs = search needs
 
--- src/expressions.rt:421:19
 call-add-t24 : (t : ℕ) → call-lts.Need-add-t24 (
   arguments-below t,
   arguments.Post,
@@ -578,9 +600,13 @@ call-add-t24 : (t : ℕ) → call-lts.Need-add-t24 (
   put-reads.Asked,
   put-reads.Learnt,
 ) (call-at t) call.Post
-call-add-t24 t c = omega (arith, arguments-within (wordsIn (c .before .before .before .before .before .before .before .before .before .before .before .before .before .before .before .before .before .before .before .args .reserved .now) (c .before .before .before .before .before .before .before .before .before .before .before .before .before .before .before .before .before .before .before .args .currencies .now) (c .before .before .before .before .before .before .before .before .before .before .before .before .before .before .before .before .before .before .before .args .counters .now)) (c .before .before .before .before .before .before .before .before .before .before .before .before .before .before .before .before .before .before .before .args .depth) (c .before .before .before .before .before .before .before .before .before .before .before .before .before .before .before .before .before .before .before .args .s .now) (c .before .before .before .before .before .before .before .before .before .before .before .before .before .before .before .before .before .before .before .args .d) _ _ _ _ _ _ _ (done-items _ _ _ _ _ _ _ _ _ _ (c .before .before .before .before .before .before .before .before .r .given .1) (c .before .before .before .before .before .before .before .before .before .before .before .before .arguments .ensures)) (c .before .before .before .before .before .before .before .before .before .before .before .before .before .before .before .before .before .before .before .pre .1 .0 .1))
+call-add-t24 t c =
+    let at-r = c .before .before .before .before .before .before .before .before in
+    let at-arguments = at-r .before .before .before .before in
+    let start = at-arguments .before .before .before .before .before .before .before in
+    let args = start .args in
+    omega (arith, arguments-within (wordsIn (args .reserved .now) (args .currencies .now) (args .counters .now)) (args .depth) (args .s .now) (args .d) _ _ _ _ _ _ _ (done-items _ _ _ _ _ _ _ _ _ _ (at-r .r .given .1) (at-arguments .arguments .ensures)) (start .pre .1 .0 .1))
 
--- src/expressions.rt:397:1
 call-same-length-3 : (t : ℕ) → call-lts.Need-same-length-3 (
   arguments-below t,
   arguments.Post,
@@ -593,9 +619,10 @@ call-same-length-3 : (t : ℕ) → call-lts.Need-same-length-3 (
   put-reads.Asked,
   put-reads.Learnt,
 ) (call-at t) call.Post
-call-same-length-3 t c = c .before .before .put .kept .0 ∙ c .before .before .before .before .before .before .before .before .before .before .before .before .arguments .kept .1 .1 .1 .1 .1 .1 .0
+call-same-length-3 t c =
+    let at-put = c .before .before in
+    at-put .put .kept .0 ∙ at-put .before .before .before .before .before .before .before .before .before .before .arguments .kept .1 .1 .1 .1 .1 .1 .0
 
--- src/expressions.rt:397:1
 call-returns-3 : (t : ℕ) → call-lts.Need-returns-3 (
   arguments-below t,
   arguments.Post,
@@ -608,7 +635,15 @@ call-returns-3 : (t : ℕ) → call-lts.Need-returns-3 (
   put-reads.Asked,
   put-reads.Learnt,
 ) (call-at t) call.Post
-call-returns-3 t c = call-done (wordsIn (c .before .before .before .before .before .before .before .before .before .before .before .before .before .before .before .before .before .before .before .args .reserved .now) (c .before .before .before .before .before .before .before .before .before .before .before .before .before .before .before .before .before .before .before .args .currencies .now) (c .before .before .before .before .before .before .before .before .before .before .before .before .before .before .before .before .before .before .before .args .counters .now)) (c .before .before .before .before .before .before .before .before .before .before .before .before .before .before .before .before .before .before .before .args .depth) (tokenAt (c .before .before .before .before .before .before .before .before .before .before .before .before .before .before .before .before .before .before .before .args .s .now) (c .before .before .before .before .before .before .before .before .before .before .before .before .before .before .before .before .before .before .before .args .c)) (c .before .before .before .before .before .before .before .before .before .before .before .before .before .before .before .before .before .before .before .args .kind) (c .before .before .before .before .before .before .before .before .before .before .before .before .before .before .before .before .before .before .before .pre .1 .4) (c .before .before .before .before .before .before .before .before .before .before .before .before .before .before .before .before .before .before .before .pre .1 .5) (c .before .before .before .before .before .before .before .before .before .before .before .before .before .before .before .before .before .before .before .pre .1 .6) (c .before .before .before .before .before .before .before .before .before .before .before .before .before .before .before .before .before .before .before .args .s .now) (c .before .before .before .before .before .before .before .before .before .before .before .before .before .before .before .before .before .before .before .args .d) _ _ _ _ _ _ _ (done-items _ _ _ _ _ _ _ _ _ _ (c .before .before .before .before .before .before .before .before .r .given .1) (c .before .before .before .before .before .before .before .before .before .before .before .before .arguments .ensures)) _ (c .before .before .before .before .before .before .call-fault .ensures) (c .before .before .before .before .before .if1 .left) _ (put-fields _ _ _ _ _ _ _ _ _ (c .before .before .before .plain .ensures) (c .before .before .put .ensures))
+call-returns-3 t c =
+    let at-put = c .before .before in
+    let at-if1 = at-put .before .before .before in
+    let at-r = at-if1 .before .before .before in
+    let at-arguments = at-r .before .before .before .before in
+    let start = at-arguments .before .before .before .before .before .before .before in
+    let args = start .args in
+    let pre = start .pre in
+    call-done (wordsIn (args .reserved .now) (args .currencies .now) (args .counters .now)) (args .depth) (tokenAt (args .s .now) (args .c)) (args .kind) (pre .1 .4) (pre .1 .5) (pre .1 .6) (args .s .now) (args .d) _ _ _ _ _ _ _ (done-items _ _ _ _ _ _ _ _ _ _ (at-r .r .given .1) (at-arguments .arguments .ensures)) _ (at-if1 .before .call-fault .ensures) (at-if1 .if1 .left) _ (put-fields _ _ _ _ _ _ _ _ _ (at-put .before .plain .ensures) (at-put .put .ensures))
 
 abbrev comparison-Inv-loop : comparison-lts.InvT-loop
 comparison-Inv-loop s reserved currencies counters depth out₀ n at₀ m₀ sign₀ out at m sign = (length out ≡ length out₀) × Compares (G.primary (wordsIn reserved currencies counters) depth) s at₀ n out₀ sign at m out
@@ -616,7 +651,6 @@ comparison-Inv-loop s reserved currencies counters depth out₀ n at₀ m₀ sig
 abbrev comparison-μ-loop : comparison-lts.MeasureT-loop
 comparison-μ-loop s reserved currencies counters depth out₀ n at₀ m₀ sign₀ out at m sign = 1 - sign
 
--- src/expressions.rt:102:5
 comparison-loop-holds : (t : ℕ) → comparison-lts.Need-loop-holds (
   sum-below t,
   sum.Post,
@@ -627,9 +661,13 @@ comparison-loop-holds : (t : ℕ) → comparison-lts.Need-loop-holds (
   next-reads.Asked,
   next-reads.Learnt,
 ) (comparison-at t) comparison.Post comparison-Inv-loop comparison-μ-loop
-comparison-loop-holds t c = (refl, compare-first (G.primary (wordsIn (c .before .before .before .before .before .args .reserved .now) (c .before .before .before .before .before .args .currencies .now) (c .before .before .before .before .before .args .counters .now)) (c .before .before .before .before .before .args .depth)) (sum-size (G.primary (wordsIn (c .before .before .before .before .before .args .reserved .now) (c .before .before .before .before .before .args .currencies .now) (c .before .before .before .before .before .args .counters .now)) (c .before .before .before .before .before .args .depth)) (primary-size (wordsIn (c .before .before .before .before .before .args .reserved .now) (c .before .before .before .before .before .args .currencies .now) (c .before .before .before .before .before .args .counters .now)) (c .before .before .before .before .before .args .depth))) (c .before .before .before .before .before .args .s .now) (c .before .before .before .before .before .args .c) (c .before .before .before .before .before .args .n) (c .before .before .before .before .before .args .out .now) (c .before .before .before .before .before .pre .1 .0 .1))
+comparison-loop-holds t c =
+    let start = c .before .before .before .before .before in
+    let args = start .args in
+    let words = wordsIn (args .reserved .now) (args .currencies .now) (args .counters .now) in
+    let reader = G.primary words (args .depth) in
+    (refl, compare-first reader (sum-size reader (primary-size words (args .depth))) (args .s .now) (args .c) (args .n) (args .out .now) (start .pre .1 .0 .1))
 
--- src/expressions.rt:103:13
 comparison-sum-requires : (t : ℕ) → comparison-lts.Need-sum-requires (
   sum-below t,
   sum.Post,
@@ -640,9 +678,14 @@ comparison-sum-requires : (t : ℕ) → comparison-lts.Need-sum-requires (
   next-reads.Asked,
   next-reads.Learnt,
 ) (comparison-at t) comparison.Post comparison-Inv-loop comparison-μ-loop
-comparison-sum-requires t c κs = (omega (arith, c .before .before .before .before .before .before .before .pre .0), (compare-ready (G.primary (wordsIn (c .before .before .before .before .before .before .before .args .reserved .now) (c .before .before .before .before .before .before .before .args .currencies .now) (c .before .before .before .before .before .before .before .args .counters .now)) (c .before .before .before .before .before .before .before .args .depth)) (sum-size (G.primary (wordsIn (c .before .before .before .before .before .before .before .args .reserved .now) (c .before .before .before .before .before .before .before .args .currencies .now) (c .before .before .before .before .before .before .before .args .counters .now)) (c .before .before .before .before .before .before .before .args .depth)) (primary-size (wordsIn (c .before .before .before .before .before .before .before .args .reserved .now) (c .before .before .before .before .before .before .before .args .currencies .now) (c .before .before .before .before .before .before .before .args .counters .now)) (c .before .before .before .before .before .before .before .args .depth))) (c .before .before .before .before .before .before .before .args .s .now) (c .before .before .before .before .before .before .before .args .c) (c .before .before .before .before .before .before .before .args .n) (c .before .before .before .before .before .before .before .args .out .now) (c .before .before .before .before .before .before .before .pre .1 .0 .1) _ _ _ _ (c .before .loop .inv .1) (c .before .before .before .before .before .before .before .pre .1 .0 .0), c .before .before .before .before .before .before .before .pre .1 .1))
+comparison-sum-requires t c κs =
+    let start = c .before .before .before .before .before .before .before in
+    let pre = start .pre in
+    let args = start .args in
+    let words = wordsIn (args .reserved .now) (args .currencies .now) (args .counters .now) in
+    let reader = G.primary words (args .depth) in
+    (omega (arith, pre .0), (compare-ready reader (sum-size reader (primary-size words (args .depth))) (args .s .now) (args .c) (args .n) (args .out .now) (pre .1 .0 .1) _ _ _ _ (c .before .loop .inv .1) (pre .1 .0 .0), pre .1 .1))
 
--- src/expressions.rt:104:24
 comparison-enum-known-r : (t : ℕ) → comparison-lts.Need-enum-known-r (
   sum-below t,
   sum.Post,
@@ -655,7 +698,6 @@ comparison-enum-known-r : (t : ℕ) → comparison-lts.Need-enum-known-r (
 ) (comparison-at t) comparison.Post comparison-Inv-loop comparison-μ-loop
 comparison-enum-known-r t c = search needs
 
--- src/expressions.rt:105:13
 comparison-enum-told : (t : ℕ) → comparison-lts.Need-enum-told (
   sum-below t,
   sum.Post,
@@ -668,7 +710,6 @@ comparison-enum-told : (t : ℕ) → comparison-lts.Need-enum-told (
 ) (comparison-at t) comparison.Post comparison-Inv-loop comparison-μ-loop
 comparison-enum-told t c = search needs
 
--- src/expressions.rt:105:13
 comparison-same-length : (t : ℕ) → comparison-lts.Need-same-length (
   sum-below t,
   sum.Post,
@@ -679,9 +720,10 @@ comparison-same-length : (t : ℕ) → comparison-lts.Need-same-length (
   next-reads.Asked,
   next-reads.Learnt,
 ) (comparison-at t) comparison.Post comparison-Inv-loop comparison-μ-loop
-comparison-same-length t c = c .before .before .before .before .sum .kept .1 .1 .1 .1 .1 .1 .0 ∙ c .before .before .before .before .before .before .loop .inv .0
+comparison-same-length t c =
+    let at-sum = c .before .before .before .before in
+    at-sum .sum .kept .1 .1 .1 .1 .1 .1 .0 ∙ at-sum .before .before .loop .inv .0
 
--- src/expressions.rt:105:13
 comparison-returns : (t : ℕ) → comparison-lts.Need-returns (
   sum-below t,
   sum.Post,
@@ -692,9 +734,15 @@ comparison-returns : (t : ℕ) → comparison-lts.Need-returns (
   next-reads.Asked,
   next-reads.Learnt,
 ) (comparison-at t) comparison.Post comparison-Inv-loop comparison-μ-loop
-comparison-returns t c = refused-on _ _ _ _ _ _ _ _ _ _ _ _ (c .enum-told .given .1) (c .before .before .before .before .sum .ensures) (compare-refused (G.primary (wordsIn (c .before .before .before .before .before .before .before .before .before .before .before .before .args .reserved .now) (c .before .before .before .before .before .before .before .before .before .before .before .before .args .currencies .now) (c .before .before .before .before .before .before .before .before .before .before .before .before .args .counters .now)) (c .before .before .before .before .before .before .before .before .before .before .before .before .args .depth)) (sum-size (G.primary (wordsIn (c .before .before .before .before .before .before .before .before .before .before .before .before .args .reserved .now) (c .before .before .before .before .before .before .before .before .before .before .before .before .args .currencies .now) (c .before .before .before .before .before .before .before .before .before .before .before .before .args .counters .now)) (c .before .before .before .before .before .before .before .before .before .before .before .before .args .depth)) (primary-size (wordsIn (c .before .before .before .before .before .before .before .before .before .before .before .before .args .reserved .now) (c .before .before .before .before .before .before .before .before .before .before .before .before .args .currencies .now) (c .before .before .before .before .before .before .before .before .before .before .before .before .args .counters .now)) (c .before .before .before .before .before .before .before .before .before .before .before .before .args .depth))) (c .before .before .before .before .before .before .before .before .before .before .before .before .args .s .now) (c .before .before .before .before .before .before .before .before .before .before .before .before .args .c) (c .before .before .before .before .before .before .before .before .before .before .before .before .args .n) (c .before .before .before .before .before .before .before .before .before .before .before .before .args .out .now) (c .before .before .before .before .before .before .before .before .before .before .before .before .pre .1 .0 .1) _ _ _ _ (c .before .before .before .before .before .before .loop .inv .1) _ _)
+comparison-returns t c =
+    let at-sum = c .before .before .before .before in
+    let at-loop = at-sum .before .before in
+    let start = at-loop .before .before .before .before .before .before in
+    let args = start .args in
+    let words = wordsIn (args .reserved .now) (args .currencies .now) (args .counters .now) in
+    let reader = G.primary words (args .depth) in
+    refused-on _ _ _ _ _ _ _ _ _ _ _ _ (c .enum-told .given .1) (at-sum .sum .ensures) (compare-refused reader (sum-size reader (primary-size words (args .depth))) (args .s .now) (args .c) (args .n) (args .out .now) (start .pre .1 .0 .1) _ _ _ _ (at-loop .loop .inv .1) _ _)
 
--- src/expressions.rt:107:13
 comparison-join-requires : (t : ℕ) → comparison-lts.Need-join-requires (
   sum-below t,
   sum.Post,
@@ -705,9 +753,16 @@ comparison-join-requires : (t : ℕ) → comparison-lts.Need-join-requires (
   next-reads.Asked,
   next-reads.Learnt,
 ) (comparison-at t) comparison.Post comparison-Inv-loop comparison-μ-loop
-comparison-join-requires t c κs = compare-numbers (G.primary (wordsIn (c .before .before .before .before .before .before .before .before .before .before .before .before .before .before .args .reserved .now) (c .before .before .before .before .before .before .before .before .before .before .before .before .before .before .args .currencies .now) (c .before .before .before .before .before .before .before .before .before .before .before .before .before .before .args .counters .now)) (c .before .before .before .before .before .before .before .before .before .before .before .before .before .before .args .depth)) (sum-size (G.primary (wordsIn (c .before .before .before .before .before .before .before .before .before .before .before .before .before .before .args .reserved .now) (c .before .before .before .before .before .before .before .before .before .before .before .before .before .before .args .currencies .now) (c .before .before .before .before .before .before .before .before .before .before .before .before .before .before .args .counters .now)) (c .before .before .before .before .before .before .before .before .before .before .before .before .before .before .args .depth)) (primary-size (wordsIn (c .before .before .before .before .before .before .before .before .before .before .before .before .before .before .args .reserved .now) (c .before .before .before .before .before .before .before .before .before .before .before .before .before .before .args .currencies .now) (c .before .before .before .before .before .before .before .before .before .before .before .before .before .before .args .counters .now)) (c .before .before .before .before .before .before .before .before .before .before .before .before .before .before .args .depth))) (c .before .before .before .before .before .before .before .before .before .before .before .before .before .before .args .s .now) (c .before .before .before .before .before .before .before .before .before .before .before .before .before .before .args .c) (c .before .before .before .before .before .before .before .before .before .before .before .before .before .before .args .n) (c .before .before .before .before .before .before .before .before .before .before .before .before .before .before .args .out .now) (c .before .before .before .before .before .before .before .before .before .before .before .before .before .before .pre .1 .0 .1) _ _ _ _ (c .before .before .before .before .before .before .before .before .loop .inv .1) _ _ _ _ (done-reads _ _ _ _ _ _ _ _ _ (c .before .before .r .given .1) (c .before .before .before .before .before .before .sum .ensures))
+comparison-join-requires t c κs =
+    let at-r = c .before .before in
+    let at-sum = at-r .before .before .before .before in
+    let at-loop = at-sum .before .before in
+    let start = at-loop .before .before .before .before .before .before in
+    let args = start .args in
+    let words = wordsIn (args .reserved .now) (args .currencies .now) (args .counters .now) in
+    let reader = G.primary words (args .depth) in
+    compare-numbers reader (sum-size reader (primary-size words (args .depth))) (args .s .now) (args .c) (args .n) (args .out .now) (start .pre .1 .0 .1) _ _ _ _ (at-loop .loop .inv .1) _ _ _ _ (done-reads _ _ _ _ _ _ _ _ _ (at-r .r .given .1) (at-sum .sum .ensures))
 
--- src/expressions.rt:109:13
 comparison-same-length-2 : (t : ℕ) → comparison-lts.Need-same-length-2 (
   sum-below t,
   sum.Post,
@@ -718,9 +773,11 @@ comparison-same-length-2 : (t : ℕ) → comparison-lts.Need-same-length-2 (
   next-reads.Asked,
   next-reads.Learnt,
 ) (comparison-at t) comparison.Post comparison-Inv-loop comparison-μ-loop
-comparison-same-length-2 t c = c .before .before .before .join .kept .0 ∙ (c .before .before .before .before .before .before .before .before .before .before .sum .kept .1 .1 .1 .1 .1 .1 .0 ∙ c .before .before .before .before .before .before .before .before .before .before .before .before .loop .inv .0)
+comparison-same-length-2 t c =
+    let at-join = c .before .before .before in
+    let at-sum = at-join .before .before .before .before .before .before .before in
+    at-join .join .kept .0 ∙ (at-sum .sum .kept .1 .1 .1 .1 .1 .1 .0 ∙ at-sum .before .before .loop .inv .0)
 
--- src/expressions.rt:109:13
 comparison-returns-2 : (t : ℕ) → comparison-lts.Need-returns-2 (
   sum-below t,
   sum.Post,
@@ -731,9 +788,17 @@ comparison-returns-2 : (t : ℕ) → comparison-lts.Need-returns-2 (
   next-reads.Asked,
   next-reads.Learnt,
 ) (comparison-at t) comparison.Post comparison-Inv-loop comparison-μ-loop
-comparison-returns-2 t c = compare-last (G.primary (wordsIn (c .before .before .before .before .before .before .before .before .before .before .before .before .before .before .before .before .before .before .args .reserved .now) (c .before .before .before .before .before .before .before .before .before .before .before .before .before .before .before .before .before .before .args .currencies .now) (c .before .before .before .before .before .before .before .before .before .before .before .before .before .before .before .before .before .before .args .counters .now)) (c .before .before .before .before .before .before .before .before .before .before .before .before .before .before .before .before .before .before .args .depth)) (sum-size (G.primary (wordsIn (c .before .before .before .before .before .before .before .before .before .before .before .before .before .before .before .before .before .before .args .reserved .now) (c .before .before .before .before .before .before .before .before .before .before .before .before .before .before .before .before .before .before .args .currencies .now) (c .before .before .before .before .before .before .before .before .before .before .before .before .before .before .before .before .before .before .args .counters .now)) (c .before .before .before .before .before .before .before .before .before .before .before .before .before .before .before .before .before .before .args .depth)) (primary-size (wordsIn (c .before .before .before .before .before .before .before .before .before .before .before .before .before .before .before .before .before .before .args .reserved .now) (c .before .before .before .before .before .before .before .before .before .before .before .before .before .before .before .before .before .before .args .currencies .now) (c .before .before .before .before .before .before .before .before .before .before .before .before .before .before .before .before .before .before .args .counters .now)) (c .before .before .before .before .before .before .before .before .before .before .before .before .before .before .before .before .before .before .args .depth))) (c .before .before .before .before .before .before .before .before .before .before .before .before .before .before .before .before .before .before .args .s .now) (c .before .before .before .before .before .before .before .before .before .before .before .before .before .before .before .before .before .before .args .c) (c .before .before .before .before .before .before .before .before .before .before .before .before .before .before .before .before .before .before .args .n) (c .before .before .before .before .before .before .before .before .before .before .before .before .before .before .before .before .before .before .args .out .now) (c .before .before .before .before .before .before .before .before .before .before .before .before .before .before .before .before .before .before .pre .1 .0 .1) _ _ _ _ (c .before .before .before .before .before .before .before .before .before .before .before .before .loop .inv .1) _ _ _ _ (done-reads _ _ _ _ _ _ _ _ _ (c .before .before .before .before .before .before .r .given .1) (c .before .before .before .before .before .before .before .before .before .before .sum .ensures)) (c .before .before .before .join .result) _ (c .before .before .before .join .ensures) (c .if1 .taken)
+comparison-returns-2 t c =
+    let at-join = c .before .before .before in
+    let at-r = at-join .before .before .before in
+    let at-sum = at-r .before .before .before .before in
+    let at-loop = at-sum .before .before in
+    let start = at-loop .before .before .before .before .before .before in
+    let args = start .args in
+    let words = wordsIn (args .reserved .now) (args .currencies .now) (args .counters .now) in
+    let reader = G.primary words (args .depth) in
+    compare-last reader (sum-size reader (primary-size words (args .depth))) (args .s .now) (args .c) (args .n) (args .out .now) (start .pre .1 .0 .1) _ _ _ _ (at-loop .loop .inv .1) _ _ _ _ (done-reads _ _ _ _ _ _ _ _ _ (at-r .r .given .1) (at-sum .sum .ensures)) (at-join .join .result) _ (at-join .join .ensures) (c .if1 .taken)
 
--- src/expressions.rt:112:13
 comparison-is-comparator-requires : (t : ℕ) → comparison-lts.Need-is-comparator-requires (
   sum-below t,
   sum.Post,
@@ -746,7 +811,6 @@ comparison-is-comparator-requires : (t : ℕ) → comparison-lts.Need-is-compara
 ) (comparison-at t) comparison.Post comparison-Inv-loop comparison-μ-loop
 comparison-is-comparator-requires t c κs = search needs
 
--- src/expressions.rt:113:13
 comparison-same-length-3 : (t : ℕ) → comparison-lts.Need-same-length-3 (
   sum-below t,
   sum.Post,
@@ -757,9 +821,11 @@ comparison-same-length-3 : (t : ℕ) → comparison-lts.Need-same-length-3 (
   next-reads.Asked,
   next-reads.Learnt,
 ) (comparison-at t) comparison.Post comparison-Inv-loop comparison-μ-loop
-comparison-same-length-3 t c = c .before .before .before .before .before .join .kept .0 ∙ (c .before .before .before .before .before .before .before .before .before .before .before .before .sum .kept .1 .1 .1 .1 .1 .1 .0 ∙ c .before .before .before .before .before .before .before .before .before .before .before .before .before .before .loop .inv .0)
+comparison-same-length-3 t c =
+    let at-join = c .before .before .before .before .before in
+    let at-sum = at-join .before .before .before .before .before .before .before in
+    at-join .join .kept .0 ∙ (at-sum .sum .kept .1 .1 .1 .1 .1 .1 .0 ∙ at-sum .before .before .loop .inv .0)
 
--- src/expressions.rt:113:13
 comparison-returns-3 : (t : ℕ) → comparison-lts.Need-returns-3 (
   sum-below t,
   sum.Post,
@@ -770,9 +836,18 @@ comparison-returns-3 : (t : ℕ) → comparison-lts.Need-returns-3 (
   next-reads.Asked,
   next-reads.Learnt,
 ) (comparison-at t) comparison.Post comparison-Inv-loop comparison-μ-loop
-comparison-returns-3 t c = compare-none (G.primary (wordsIn (c .before .before .before .before .before .before .before .before .before .before .before .before .before .before .before .before .before .before .before .before .args .reserved .now) (c .before .before .before .before .before .before .before .before .before .before .before .before .before .before .before .before .before .before .before .before .args .currencies .now) (c .before .before .before .before .before .before .before .before .before .before .before .before .before .before .before .before .before .before .before .before .args .counters .now)) (c .before .before .before .before .before .before .before .before .before .before .before .before .before .before .before .before .before .before .before .before .args .depth)) (sum-size (G.primary (wordsIn (c .before .before .before .before .before .before .before .before .before .before .before .before .before .before .before .before .before .before .before .before .args .reserved .now) (c .before .before .before .before .before .before .before .before .before .before .before .before .before .before .before .before .before .before .before .before .args .currencies .now) (c .before .before .before .before .before .before .before .before .before .before .before .before .before .before .before .before .before .before .before .before .args .counters .now)) (c .before .before .before .before .before .before .before .before .before .before .before .before .before .before .before .before .before .before .before .before .args .depth)) (primary-size (wordsIn (c .before .before .before .before .before .before .before .before .before .before .before .before .before .before .before .before .before .before .before .before .args .reserved .now) (c .before .before .before .before .before .before .before .before .before .before .before .before .before .before .before .before .before .before .before .before .args .currencies .now) (c .before .before .before .before .before .before .before .before .before .before .before .before .before .before .before .before .before .before .before .before .args .counters .now)) (c .before .before .before .before .before .before .before .before .before .before .before .before .before .before .before .before .before .before .before .before .args .depth))) (c .before .before .before .before .before .before .before .before .before .before .before .before .before .before .before .before .before .before .before .before .args .s .now) (c .before .before .before .before .before .before .before .before .before .before .before .before .before .before .before .before .before .before .before .before .args .c) (c .before .before .before .before .before .before .before .before .before .before .before .before .before .before .before .before .before .before .before .before .args .n) (c .before .before .before .before .before .before .before .before .before .before .before .before .before .before .before .before .before .before .before .before .args .out .now) (c .before .before .before .before .before .before .before .before .before .before .before .before .before .before .before .before .before .before .before .before .pre .1 .0 .1) _ _ _ _ (c .before .before .before .before .before .before .before .before .before .before .before .before .before .before .loop .inv .1) _ _ _ _ (done-reads _ _ _ _ _ _ _ _ _ (c .before .before .before .before .before .before .before .before .r .given .1) (c .before .before .before .before .before .before .before .before .before .before .before .before .sum .ensures)) (c .before .before .before .before .before .join .result) _ (c .before .before .before .before .before .join .ensures) (c .before .before .if1 .left) (sym (c .before .is-comparator .ensures) ∙ not-true _ (c .if2 .taken))
+comparison-returns-3 t c =
+    let at-if1 = c .before .before in
+    let at-join = at-if1 .before .before .before in
+    let at-r = at-join .before .before .before in
+    let at-sum = at-r .before .before .before .before in
+    let at-loop = at-sum .before .before in
+    let start = at-loop .before .before .before .before .before .before in
+    let args = start .args in
+    let words = wordsIn (args .reserved .now) (args .currencies .now) (args .counters .now) in
+    let reader = G.primary words (args .depth) in
+    compare-none reader (sum-size reader (primary-size words (args .depth))) (args .s .now) (args .c) (args .n) (args .out .now) (start .pre .1 .0 .1) _ _ _ _ (at-loop .loop .inv .1) _ _ _ _ (done-reads _ _ _ _ _ _ _ _ _ (at-r .r .given .1) (at-sum .sum .ensures)) (at-join .join .result) _ (at-join .join .ensures) (at-if1 .if1 .left) (sym (c .before .is-comparator .ensures) ∙ not-true _ (c .if2 .taken))
 
--- src/expressions.rt:115:9
 comparison-next-requires : (t : ℕ) → comparison-lts.Need-next-requires (
   sum-below t,
   sum.Post,
@@ -783,9 +858,18 @@ comparison-next-requires : (t : ℕ) → comparison-lts.Need-next-requires (
   next-reads.Asked,
   next-reads.Learnt,
 ) (comparison-at t) comparison.Post comparison-Inv-loop comparison-μ-loop
-comparison-next-requires t c κs = (compare-alone (G.primary (wordsIn (c .before .before .before .before .before .before .before .before .before .before .before .before .before .before .before .before .before .before .before .before .args .reserved .now) (c .before .before .before .before .before .before .before .before .before .before .before .before .before .before .before .before .before .before .before .before .args .currencies .now) (c .before .before .before .before .before .before .before .before .before .before .before .before .before .before .before .before .before .before .before .before .args .counters .now)) (c .before .before .before .before .before .before .before .before .before .before .before .before .before .before .before .before .before .before .before .before .args .depth)) (sum-size (G.primary (wordsIn (c .before .before .before .before .before .before .before .before .before .before .before .before .before .before .before .before .before .before .before .before .args .reserved .now) (c .before .before .before .before .before .before .before .before .before .before .before .before .before .before .before .before .before .before .before .before .args .currencies .now) (c .before .before .before .before .before .before .before .before .before .before .before .before .before .before .before .before .before .before .before .before .args .counters .now)) (c .before .before .before .before .before .before .before .before .before .before .before .before .before .before .before .before .before .before .before .before .args .depth)) (primary-size (wordsIn (c .before .before .before .before .before .before .before .before .before .before .before .before .before .before .before .before .before .before .before .before .args .reserved .now) (c .before .before .before .before .before .before .before .before .before .before .before .before .before .before .before .before .before .before .before .before .args .currencies .now) (c .before .before .before .before .before .before .before .before .before .before .before .before .before .before .before .before .before .before .before .before .args .counters .now)) (c .before .before .before .before .before .before .before .before .before .before .before .before .before .before .before .before .before .before .before .before .args .depth))) (c .before .before .before .before .before .before .before .before .before .before .before .before .before .before .before .before .before .before .before .before .args .s .now) (c .before .before .before .before .before .before .before .before .before .before .before .before .before .before .before .before .before .before .before .before .args .c) (c .before .before .before .before .before .before .before .before .before .before .before .before .before .before .before .before .before .before .before .before .args .n) (c .before .before .before .before .before .before .before .before .before .before .before .before .before .before .before .before .before .before .before .before .args .out .now) (c .before .before .before .before .before .before .before .before .before .before .before .before .before .before .before .before .before .before .before .before .pre .1 .0 .1) _ _ _ _ (c .before .before .before .before .before .before .before .before .before .before .before .before .before .before .loop .inv .1) _ _ _ _ (done-reads _ _ _ _ _ _ _ _ _ (c .before .before .before .before .before .before .before .before .r .given .1) (c .before .before .before .before .before .before .before .before .before .before .before .before .sum .ensures)) (c .before .before .before .before .before .join .result) _ (c .before .before .before .before .before .join .ensures) (c .before .before .if1 .left)) .holds
+comparison-next-requires t c κs =
+    let at-if1 = c .before .before in
+    let at-join = at-if1 .before .before .before in
+    let at-r = at-join .before .before .before in
+    let at-sum = at-r .before .before .before .before in
+    let at-loop = at-sum .before .before in
+    let start = at-loop .before .before .before .before .before .before in
+    let args = start .args in
+    let words = wordsIn (args .reserved .now) (args .currencies .now) (args .counters .now) in
+    let reader = G.primary words (args .depth) in
+    (compare-alone reader (sum-size reader (primary-size words (args .depth))) (args .s .now) (args .c) (args .n) (args .out .now) (start .pre .1 .0 .1) _ _ _ _ (at-loop .loop .inv .1) _ _ _ _ (done-reads _ _ _ _ _ _ _ _ _ (at-r .r .given .1) (at-sum .sum .ensures)) (at-join .join .result) _ (at-join .join .ensures) (at-if1 .if1 .left)) .holds
 
--- src/expressions.rt:102:5
 comparison-loop-less : (t : ℕ) → comparison-lts.Need-loop-less (
   sum-below t,
   sum.Post,
@@ -796,9 +880,10 @@ comparison-loop-less : (t : ℕ) → comparison-lts.Need-loop-less (
   next-reads.Asked,
   next-reads.Learnt,
 ) (comparison-at t) comparison.Post comparison-Inv-loop comparison-μ-loop
-comparison-loop-less t c = compare-less _ _ (c .before .before .before .if1 .left) (sym (c .before .before .is-comparator .ensures) ∙ not-false _ (c .before .if2 .left))
+comparison-loop-less t c =
+    let at-is-comparator = c .before .before in
+    compare-less _ _ (at-is-comparator .before .if1 .left) (sym (at-is-comparator .is-comparator .ensures) ∙ not-false _ (c .before .if2 .left))
 
--- src/expressions.rt:102:5
 comparison-loop-again : (t : ℕ) → comparison-lts.Need-loop-again (
   sum-below t,
   sum.Post,
@@ -809,7 +894,18 @@ comparison-loop-again : (t : ℕ) → comparison-lts.Need-loop-again (
   next-reads.Asked,
   next-reads.Learnt,
 ) (comparison-at t) comparison.Post comparison-Inv-loop comparison-μ-loop
-comparison-loop-again t c = (c .before .before .before .before .before .before .join .kept .0 ∙ (c .before .before .before .before .before .before .before .before .before .before .before .before .before .sum .kept .1 .1 .1 .1 .1 .1 .0 ∙ c .before .before .before .before .before .before .before .before .before .before .before .before .before .before .before .loop .inv .0), compare-next (G.primary (wordsIn (c .before .before .before .before .before .before .before .before .before .before .before .before .before .before .before .before .before .before .before .before .before .args .reserved .now) (c .before .before .before .before .before .before .before .before .before .before .before .before .before .before .before .before .before .before .before .before .before .args .currencies .now) (c .before .before .before .before .before .before .before .before .before .before .before .before .before .before .before .before .before .before .before .before .before .args .counters .now)) (c .before .before .before .before .before .before .before .before .before .before .before .before .before .before .before .before .before .before .before .before .before .args .depth)) (sum-size (G.primary (wordsIn (c .before .before .before .before .before .before .before .before .before .before .before .before .before .before .before .before .before .before .before .before .before .args .reserved .now) (c .before .before .before .before .before .before .before .before .before .before .before .before .before .before .before .before .before .before .before .before .before .args .currencies .now) (c .before .before .before .before .before .before .before .before .before .before .before .before .before .before .before .before .before .before .before .before .before .args .counters .now)) (c .before .before .before .before .before .before .before .before .before .before .before .before .before .before .before .before .before .before .before .before .before .args .depth)) (primary-size (wordsIn (c .before .before .before .before .before .before .before .before .before .before .before .before .before .before .before .before .before .before .before .before .before .args .reserved .now) (c .before .before .before .before .before .before .before .before .before .before .before .before .before .before .before .before .before .before .before .before .before .args .currencies .now) (c .before .before .before .before .before .before .before .before .before .before .before .before .before .before .before .before .before .before .before .before .before .args .counters .now)) (c .before .before .before .before .before .before .before .before .before .before .before .before .before .before .before .before .before .before .before .before .before .args .depth))) (c .before .before .before .before .before .before .before .before .before .before .before .before .before .before .before .before .before .before .before .before .before .args .s .now) (c .before .before .before .before .before .before .before .before .before .before .before .before .before .before .before .before .before .before .before .before .before .args .c) (c .before .before .before .before .before .before .before .before .before .before .before .before .before .before .before .before .before .before .before .before .before .args .n) (c .before .before .before .before .before .before .before .before .before .before .before .before .before .before .before .before .before .before .before .before .before .args .out .now) (c .before .before .before .before .before .before .before .before .before .before .before .before .before .before .before .before .before .before .before .before .before .pre .1 .0 .1) _ _ _ _ (c .before .before .before .before .before .before .before .before .before .before .before .before .before .before .before .loop .inv .1) _ _ _ _ (done-reads _ _ _ _ _ _ _ _ _ (c .before .before .before .before .before .before .before .before .before .r .given .1) (c .before .before .before .before .before .before .before .before .before .before .before .before .before .sum .ensures)) (c .before .before .before .before .before .before .join .result) _ (c .before .before .before .before .before .before .join .ensures) (c .before .before .before .if1 .left) (sym (c .before .before .is-comparator .ensures) ∙ not-false _ (c .before .if2 .left)) (c .next .result) (c .next .ensures))
+comparison-loop-again t c =
+    let at-is-comparator = c .before .before in
+    let at-join = at-is-comparator .before .before .before .before in
+    let at-r = at-join .before .before .before in
+    let at-sum = at-r .before .before .before .before in
+    let at-loop = at-sum .before .before in
+    let start = at-loop .before .before .before .before .before .before in
+    let join = at-join .join in
+    let args = start .args in
+    let words = wordsIn (args .reserved .now) (args .currencies .now) (args .counters .now) in
+    let reader = G.primary words (args .depth) in
+    (join .kept .0 ∙ (at-sum .sum .kept .1 .1 .1 .1 .1 .1 .0 ∙ at-loop .loop .inv .0), compare-next reader (sum-size reader (primary-size words (args .depth))) (args .s .now) (args .c) (args .n) (args .out .now) (start .pre .1 .0 .1) _ _ _ _ (at-loop .loop .inv .1) _ _ _ _ (done-reads _ _ _ _ _ _ _ _ _ (at-r .r .given .1) (at-sum .sum .ensures)) (join .result) _ (join .ensures) (at-is-comparator .before .if1 .left) (sym (at-is-comparator .is-comparator .ensures) ∙ not-false _ (c .before .if2 .left)) (c .next .result) (c .next .ensures))
 
 abbrev expression-Inv-loop : expression-lts.InvT-loop
 expression-Inv-loop s reserved currencies counters depth out₀ n at₀ m₀ sign₀ out at m sign = (length out ≡ length out₀) × Pending (λ u. isSign "and" u || isSign "or" u) jointSign (G.comparison (G.primary (wordsIn reserved currencies counters) depth)) s (G.expression (G.primary (wordsIn reserved currencies counters) depth) (toksAt s (at₀ .start))) n out₀ sign at m out
@@ -817,7 +913,6 @@ expression-Inv-loop s reserved currencies counters depth out₀ n at₀ m₀ sig
 abbrev expression-μ-loop : expression-lts.MeasureT-loop
 expression-μ-loop s reserved currencies counters depth out₀ n at₀ m₀ sign₀ out at m sign = length (toksAt s (at .start))
 
--- src/expressions.rt:69:5
 expression-loop-holds : (t : ℕ) → expression-lts.Need-loop-holds (
   comparison-below t,
   comparison.Post,
@@ -829,9 +924,11 @@ expression-loop-holds : (t : ℕ) → expression-lts.Need-loop-holds (
   next-reads.Learnt,
 ) (expression-at t) expression.Post expression-Inv-loop expression-μ-loop
 unfolding G.expression
-expression-loop-holds t c = (refl, pend-first (joint-level (wordsIn (c .before .before .before .before .before .args .reserved .now) (c .before .before .before .before .before .args .currencies .now) (c .before .before .before .before .before .args .counters .now)) (c .before .before .before .before .before .args .depth)) (c .before .before .before .before .before .args .s .now) (c .before .before .before .before .before .args .c) (c .before .before .before .before .before .args .n) (c .before .before .before .before .before .args .out .now) (c .before .before .before .before .before .pre .1 .0))
+expression-loop-holds t c =
+    let start = c .before .before .before .before .before in
+    let args = start .args in
+    (refl, pend-first (joint-level (wordsIn (args .reserved .now) (args .currencies .now) (args .counters .now)) (args .depth)) (args .s .now) (args .c) (args .n) (args .out .now) (start .pre .1 .0))
 
--- src/expressions.rt:70:13
 expression-comparison-requires : (t : ℕ) → expression-lts.Need-comparison-requires (
   comparison-below t,
   comparison.Post,
@@ -842,9 +939,11 @@ expression-comparison-requires : (t : ℕ) → expression-lts.Need-comparison-re
   next-reads.Asked,
   next-reads.Learnt,
 ) (expression-at t) expression.Post expression-Inv-loop expression-μ-loop
-expression-comparison-requires t c κs = (omega (arith, c .before .before .before .before .before .before .before .pre .0), (pend-ready (joint-level (wordsIn (c .before .before .before .before .before .before .before .args .reserved .now) (c .before .before .before .before .before .before .before .args .currencies .now) (c .before .before .before .before .before .before .before .args .counters .now)) (c .before .before .before .before .before .before .before .args .depth)) (c .before .before .before .before .before .before .before .args .s .now) _ _ _ _ _ _ _ (c .before .loop .inv .1), c .before .before .before .before .before .before .before .pre .1 .1))
+expression-comparison-requires t c κs =
+    let start = c .before .before .before .before .before .before .before in
+    let args = start .args in
+    (omega (arith, start .pre .0), (pend-ready (joint-level (wordsIn (args .reserved .now) (args .currencies .now) (args .counters .now)) (args .depth)) (args .s .now) _ _ _ _ _ _ _ (c .before .loop .inv .1), start .pre .1 .1))
 
--- src/expressions.rt:71:24
 expression-enum-known-r : (t : ℕ) → expression-lts.Need-enum-known-r (
   comparison-below t,
   comparison.Post,
@@ -857,7 +956,6 @@ expression-enum-known-r : (t : ℕ) → expression-lts.Need-enum-known-r (
 ) (expression-at t) expression.Post expression-Inv-loop expression-μ-loop
 expression-enum-known-r t c = search needs
 
--- src/expressions.rt:72:13
 expression-enum-told : (t : ℕ) → expression-lts.Need-enum-told (
   comparison-below t,
   comparison.Post,
@@ -870,7 +968,6 @@ expression-enum-told : (t : ℕ) → expression-lts.Need-enum-told (
 ) (expression-at t) expression.Post expression-Inv-loop expression-μ-loop
 expression-enum-told t c = search needs
 
--- src/expressions.rt:72:13
 expression-same-length : (t : ℕ) → expression-lts.Need-same-length (
   comparison-below t,
   comparison.Post,
@@ -881,9 +978,10 @@ expression-same-length : (t : ℕ) → expression-lts.Need-same-length (
   next-reads.Asked,
   next-reads.Learnt,
 ) (expression-at t) expression.Post expression-Inv-loop expression-μ-loop
-expression-same-length t c = c .before .before .before .before .comparison .kept .1 .1 .1 .1 .1 .1 .0 ∙ c .before .before .before .before .before .before .loop .inv .0
+expression-same-length t c =
+    let at-comparison = c .before .before .before .before in
+    at-comparison .comparison .kept .1 .1 .1 .1 .1 .1 .0 ∙ at-comparison .before .before .loop .inv .0
 
--- src/expressions.rt:72:13
 expression-returns : (t : ℕ) → expression-lts.Need-returns (
   comparison-below t,
   comparison.Post,
@@ -894,9 +992,12 @@ expression-returns : (t : ℕ) → expression-lts.Need-returns (
   next-reads.Asked,
   next-reads.Learnt,
 ) (expression-at t) expression.Post expression-Inv-loop expression-μ-loop
-expression-returns t c = refused-on _ _ _ _ _ _ _ _ _ _ _ _ (c .enum-told .given .1) (c .before .before .before .before .comparison .ensures) (pend-refused (joint-level (wordsIn (c .before .before .before .before .before .before .before .before .before .before .before .before .args .reserved .now) (c .before .before .before .before .before .before .before .before .before .before .before .before .args .currencies .now) (c .before .before .before .before .before .before .before .before .before .before .before .before .args .counters .now)) (c .before .before .before .before .before .before .before .before .before .before .before .before .args .depth)) (c .before .before .before .before .before .before .before .before .before .before .before .before .args .s .now) _ _ _ _ _ _ _ (c .before .before .before .before .before .before .loop .inv .1) _ _)
+expression-returns t c =
+    let at-comparison = c .before .before .before .before in
+    let at-loop = at-comparison .before .before in
+    let args = at-loop .before .before .before .before .before .before .args in
+    refused-on _ _ _ _ _ _ _ _ _ _ _ _ (c .enum-told .given .1) (at-comparison .comparison .ensures) (pend-refused (joint-level (wordsIn (args .reserved .now) (args .currencies .now) (args .counters .now)) (args .depth)) (args .s .now) _ _ _ _ _ _ _ (at-loop .loop .inv .1) _ _)
 
--- src/expressions.rt:74:13
 expression-join-requires : (t : ℕ) → expression-lts.Need-join-requires (
   comparison-below t,
   comparison.Post,
@@ -907,9 +1008,13 @@ expression-join-requires : (t : ℕ) → expression-lts.Need-join-requires (
   next-reads.Asked,
   next-reads.Learnt,
 ) (expression-at t) expression.Post expression-Inv-loop expression-μ-loop
-expression-join-requires t c κs = pend-numbers (joint-level (wordsIn (c .before .before .before .before .before .before .before .before .before .before .before .before .before .before .args .reserved .now) (c .before .before .before .before .before .before .before .before .before .before .before .before .before .before .args .currencies .now) (c .before .before .before .before .before .before .before .before .before .before .before .before .before .before .args .counters .now)) (c .before .before .before .before .before .before .before .before .before .before .before .before .before .before .args .depth)) (c .before .before .before .before .before .before .before .before .before .before .before .before .before .before .args .s .now) _ _ _ _ _ _ _ (c .before .before .before .before .before .before .before .before .loop .inv .1) _ _ _ _ (done-reads _ _ _ _ _ _ _ _ _ (c .before .before .r .given .1) (c .before .before .before .before .before .before .comparison .ensures))
+expression-join-requires t c κs =
+    let at-r = c .before .before in
+    let at-comparison = at-r .before .before .before .before in
+    let at-loop = at-comparison .before .before in
+    let args = at-loop .before .before .before .before .before .before .args in
+    pend-numbers (joint-level (wordsIn (args .reserved .now) (args .currencies .now) (args .counters .now)) (args .depth)) (args .s .now) _ _ _ _ _ _ _ (at-loop .loop .inv .1) _ _ _ _ (done-reads _ _ _ _ _ _ _ _ _ (at-r .r .given .1) (at-comparison .comparison .ensures))
 
--- src/expressions.rt:76:13
 expression-is-joint-requires : (t : ℕ) → expression-lts.Need-is-joint-requires (
   comparison-below t,
   comparison.Post,
@@ -922,7 +1027,6 @@ expression-is-joint-requires : (t : ℕ) → expression-lts.Need-is-joint-requir
 ) (expression-at t) expression.Post expression-Inv-loop expression-μ-loop
 expression-is-joint-requires t c κs = search needs
 
--- src/expressions.rt:77:13
 expression-same-length-2 : (t : ℕ) → expression-lts.Need-same-length-2 (
   comparison-below t,
   comparison.Post,
@@ -933,9 +1037,11 @@ expression-same-length-2 : (t : ℕ) → expression-lts.Need-same-length-2 (
   next-reads.Asked,
   next-reads.Learnt,
 ) (expression-at t) expression.Post expression-Inv-loop expression-μ-loop
-expression-same-length-2 t c = c .before .before .before .before .join .kept .0 ∙ (c .before .before .before .before .before .before .before .before .before .before .before .comparison .kept .1 .1 .1 .1 .1 .1 .0 ∙ c .before .before .before .before .before .before .before .before .before .before .before .before .before .loop .inv .0)
+expression-same-length-2 t c =
+    let at-join = c .before .before .before .before in
+    let at-comparison = at-join .before .before .before .before .before .before .before in
+    at-join .join .kept .0 ∙ (at-comparison .comparison .kept .1 .1 .1 .1 .1 .1 .0 ∙ at-comparison .before .before .loop .inv .0)
 
--- src/expressions.rt:77:13
 expression-returns-2 : (t : ℕ) → expression-lts.Need-returns-2 (
   comparison-below t,
   comparison.Post,
@@ -946,9 +1052,15 @@ expression-returns-2 : (t : ℕ) → expression-lts.Need-returns-2 (
   next-reads.Asked,
   next-reads.Learnt,
 ) (expression-at t) expression.Post expression-Inv-loop expression-μ-loop
-expression-returns-2 t c = chain-exit (joint-level (wordsIn (c .before .before .before .before .before .before .before .before .before .before .before .before .before .before .before .before .before .before .before .args .reserved .now) (c .before .before .before .before .before .before .before .before .before .before .before .before .before .before .before .before .before .before .before .args .currencies .now) (c .before .before .before .before .before .before .before .before .before .before .before .before .before .before .before .before .before .before .before .args .counters .now)) (c .before .before .before .before .before .before .before .before .before .before .before .before .before .before .before .before .before .before .before .args .depth)) (c .before .before .before .before .before .before .before .before .before .before .before .before .before .before .before .before .before .before .before .args .s .now) _ _ _ _ _ _ _ (pend-chain (joint-level (wordsIn (c .before .before .before .before .before .before .before .before .before .before .before .before .before .before .before .before .before .before .before .args .reserved .now) (c .before .before .before .before .before .before .before .before .before .before .before .before .before .before .before .before .before .before .before .args .currencies .now) (c .before .before .before .before .before .before .before .before .before .before .before .before .before .before .before .before .before .before .before .args .counters .now)) (c .before .before .before .before .before .before .before .before .before .before .before .before .before .before .before .before .before .before .before .args .depth)) (c .before .before .before .before .before .before .before .before .before .before .before .before .before .before .before .before .before .before .before .args .s .now) _ _ _ _ _ _ _ (c .before .before .before .before .before .before .before .before .before .before .before .before .before .loop .inv .1) _ _ _ _ (done-reads _ _ _ _ _ _ _ _ _ (c .before .before .before .before .before .before .before .r .given .1) (c .before .before .before .before .before .before .before .before .before .before .before .comparison .ensures)) (c .before .before .before .before .join .result) _ (c .before .before .before .before .join .ensures)) (sym (c .before .is-joint .ensures) ∙ not-true _ (c .if1 .taken))
+expression-returns-2 t c =
+    let at-join = c .before .before .before .before in
+    let at-r = at-join .before .before .before in
+    let at-comparison = at-r .before .before .before .before in
+    let at-loop = at-comparison .before .before in
+    let args = at-loop .before .before .before .before .before .before .args in
+    let words = wordsIn (args .reserved .now) (args .currencies .now) (args .counters .now) in
+    chain-exit (joint-level words (args .depth)) (args .s .now) _ _ _ _ _ _ _ (pend-chain (joint-level words (args .depth)) (args .s .now) _ _ _ _ _ _ _ (at-loop .loop .inv .1) _ _ _ _ (done-reads _ _ _ _ _ _ _ _ _ (at-r .r .given .1) (at-comparison .comparison .ensures)) (at-join .join .result) _ (at-join .join .ensures)) (sym (c .before .is-joint .ensures) ∙ not-true _ (c .if1 .taken))
 
--- src/expressions.rt:79:9
 expression-next-requires : (t : ℕ) → expression-lts.Need-next-requires (
   comparison-below t,
   comparison.Post,
@@ -959,9 +1071,14 @@ expression-next-requires : (t : ℕ) → expression-lts.Need-next-requires (
   next-reads.Asked,
   next-reads.Learnt,
 ) (expression-at t) expression.Post expression-Inv-loop expression-μ-loop
-expression-next-requires t c κs = (pend-chain (joint-level (wordsIn (c .before .before .before .before .before .before .before .before .before .before .before .before .before .before .before .before .before .before .before .args .reserved .now) (c .before .before .before .before .before .before .before .before .before .before .before .before .before .before .before .before .before .before .before .args .currencies .now) (c .before .before .before .before .before .before .before .before .before .before .before .before .before .before .before .before .before .before .before .args .counters .now)) (c .before .before .before .before .before .before .before .before .before .before .before .before .before .before .before .before .before .before .before .args .depth)) (c .before .before .before .before .before .before .before .before .before .before .before .before .before .before .before .before .before .before .before .args .s .now) _ _ _ _ _ _ _ (c .before .before .before .before .before .before .before .before .before .before .before .before .before .loop .inv .1) _ _ _ _ (done-reads _ _ _ _ _ _ _ _ _ (c .before .before .before .before .before .before .before .r .given .1) (c .before .before .before .before .before .before .before .before .before .before .before .comparison .ensures)) (c .before .before .before .before .join .result) _ (c .before .before .before .before .join .ensures)) .holds
+expression-next-requires t c κs =
+    let at-join = c .before .before .before .before in
+    let at-r = at-join .before .before .before in
+    let at-comparison = at-r .before .before .before .before in
+    let at-loop = at-comparison .before .before in
+    let args = at-loop .before .before .before .before .before .before .args in
+    (pend-chain (joint-level (wordsIn (args .reserved .now) (args .currencies .now) (args .counters .now)) (args .depth)) (args .s .now) _ _ _ _ _ _ _ (at-loop .loop .inv .1) _ _ _ _ (done-reads _ _ _ _ _ _ _ _ _ (at-r .r .given .1) (at-comparison .comparison .ensures)) (at-join .join .result) _ (at-join .join .ensures)) .holds
 
--- src/expressions.rt:69:5
 expression-loop-less : (t : ℕ) → expression-lts.Need-loop-less (
   comparison-below t,
   comparison.Post,
@@ -972,9 +1089,14 @@ expression-loop-less : (t : ℕ) → expression-lts.Need-loop-less (
   next-reads.Asked,
   next-reads.Learnt,
 ) (expression-at t) expression.Post expression-Inv-loop expression-μ-loop
-expression-loop-less t c = pend-less (joint-level (wordsIn (c .before .before .before .before .before .before .before .before .before .before .before .before .before .before .before .before .before .before .before .before .args .reserved .now) (c .before .before .before .before .before .before .before .before .before .before .before .before .before .before .before .before .before .before .before .before .args .currencies .now) (c .before .before .before .before .before .before .before .before .before .before .before .before .before .before .before .before .before .before .before .before .args .counters .now)) (c .before .before .before .before .before .before .before .before .before .before .before .before .before .before .before .before .before .before .before .before .args .depth)) (c .before .before .before .before .before .before .before .before .before .before .before .before .before .before .before .before .before .before .before .before .args .s .now) _ _ _ _ _ _ _ (c .before .before .before .before .before .before .before .before .before .before .before .before .before .before .loop .inv .1) _ _ _ _ (done-reads _ _ _ _ _ _ _ _ _ (c .before .before .before .before .before .before .before .before .r .given .1) (c .before .before .before .before .before .before .before .before .before .before .before .before .comparison .ensures)) (sym (c .before .before .is-joint .ensures) ∙ not-false _ (c .before .if1 .left)) (c .next .result) (c .next .ensures)
+expression-loop-less t c =
+    let at-is-joint = c .before .before in
+    let at-r = at-is-joint .before .before .before .before .before .before in
+    let at-comparison = at-r .before .before .before .before in
+    let at-loop = at-comparison .before .before in
+    let args = at-loop .before .before .before .before .before .before .args in
+    pend-less (joint-level (wordsIn (args .reserved .now) (args .currencies .now) (args .counters .now)) (args .depth)) (args .s .now) _ _ _ _ _ _ _ (at-loop .loop .inv .1) _ _ _ _ (done-reads _ _ _ _ _ _ _ _ _ (at-r .r .given .1) (at-comparison .comparison .ensures)) (sym (at-is-joint .is-joint .ensures) ∙ not-false _ (c .before .if1 .left)) (c .next .result) (c .next .ensures)
 
--- src/expressions.rt:69:5
 expression-loop-again : (t : ℕ) → expression-lts.Need-loop-again (
   comparison-below t,
   comparison.Post,
@@ -985,9 +1107,17 @@ expression-loop-again : (t : ℕ) → expression-lts.Need-loop-again (
   next-reads.Asked,
   next-reads.Learnt,
 ) (expression-at t) expression.Post expression-Inv-loop expression-μ-loop
-expression-loop-again t c = (c .before .before .before .before .before .join .kept .0 ∙ (c .before .before .before .before .before .before .before .before .before .before .before .before .comparison .kept .1 .1 .1 .1 .1 .1 .0 ∙ c .before .before .before .before .before .before .before .before .before .before .before .before .before .before .loop .inv .0), pend-next (joint-level (wordsIn (c .before .before .before .before .before .before .before .before .before .before .before .before .before .before .before .before .before .before .before .before .args .reserved .now) (c .before .before .before .before .before .before .before .before .before .before .before .before .before .before .before .before .before .before .before .before .args .currencies .now) (c .before .before .before .before .before .before .before .before .before .before .before .before .before .before .before .before .before .before .before .before .args .counters .now)) (c .before .before .before .before .before .before .before .before .before .before .before .before .before .before .before .before .before .before .before .before .args .depth)) (c .before .before .before .before .before .before .before .before .before .before .before .before .before .before .before .before .before .before .before .before .args .s .now) _ _ _ _ _ _ _ (pend-chain (joint-level (wordsIn (c .before .before .before .before .before .before .before .before .before .before .before .before .before .before .before .before .before .before .before .before .args .reserved .now) (c .before .before .before .before .before .before .before .before .before .before .before .before .before .before .before .before .before .before .before .before .args .currencies .now) (c .before .before .before .before .before .before .before .before .before .before .before .before .before .before .before .before .before .before .before .before .args .counters .now)) (c .before .before .before .before .before .before .before .before .before .before .before .before .before .before .before .before .before .before .before .before .args .depth)) (c .before .before .before .before .before .before .before .before .before .before .before .before .before .before .before .before .before .before .before .before .args .s .now) _ _ _ _ _ _ _ (c .before .before .before .before .before .before .before .before .before .before .before .before .before .before .loop .inv .1) _ _ _ _ (done-reads _ _ _ _ _ _ _ _ _ (c .before .before .before .before .before .before .before .before .r .given .1) (c .before .before .before .before .before .before .before .before .before .before .before .before .comparison .ensures)) (c .before .before .before .before .before .join .result) _ (c .before .before .before .before .before .join .ensures)) (sym (c .before .before .is-joint .ensures) ∙ not-false _ (c .before .if1 .left)) (c .next .result) (c .next .ensures))
+expression-loop-again t c =
+    let at-is-joint = c .before .before in
+    let at-join = at-is-joint .before .before .before in
+    let at-r = at-join .before .before .before in
+    let at-comparison = at-r .before .before .before .before in
+    let at-loop = at-comparison .before .before in
+    let join = at-join .join in
+    let args = at-loop .before .before .before .before .before .before .args in
+    let words = wordsIn (args .reserved .now) (args .currencies .now) (args .counters .now) in
+    (join .kept .0 ∙ (at-comparison .comparison .kept .1 .1 .1 .1 .1 .1 .0 ∙ at-loop .loop .inv .0), pend-next (joint-level words (args .depth)) (args .s .now) _ _ _ _ _ _ _ (pend-chain (joint-level words (args .depth)) (args .s .now) _ _ _ _ _ _ _ (at-loop .loop .inv .1) _ _ _ _ (done-reads _ _ _ _ _ _ _ _ _ (at-r .r .given .1) (at-comparison .comparison .ensures)) (join .result) _ (join .ensures)) (sym (at-is-joint .is-joint .ensures) ∙ not-false _ (c .before .if1 .left)) (c .next .result) (c .next .ensures))
 
--- src/expressions.rt:606:9
 index-expression-requires : (t : ℕ) → index-lts.Need-expression-requires (
   expression-below t,
   expression.Post,
@@ -1000,7 +1130,6 @@ index-expression-requires : (t : ℕ) → index-lts.Need-expression-requires (
 ) (index-at t) index.Post
 index-expression-requires t c κs = search needs
 
--- src/expressions.rt:607:20
 index-enum-known-r : (t : ℕ) → index-lts.Need-enum-known-r (
   expression-below t,
   expression.Post,
@@ -1013,7 +1142,6 @@ index-enum-known-r : (t : ℕ) → index-lts.Need-enum-known-r (
 ) (index-at t) index.Post
 index-enum-known-r t c = search needs
 
--- src/expressions.rt:608:9
 index-enum-told : (t : ℕ) → index-lts.Need-enum-told (
   expression-below t,
   expression.Post,
@@ -1026,7 +1154,6 @@ index-enum-told : (t : ℕ) → index-lts.Need-enum-told (
 ) (index-at t) index.Post
 index-enum-told t c = search needs
 
--- src/expressions.rt:608:9
 index-same-length : (t : ℕ) → index-lts.Need-same-length (
   expression-below t,
   expression.Post,
@@ -1039,7 +1166,6 @@ index-same-length : (t : ℕ) → index-lts.Need-same-length (
 ) (index-at t) index.Post
 index-same-length t c = search needs
 
--- src/expressions.rt:608:9
 index-returns : (t : ℕ) → index-lts.Need-returns (
   expression-below t,
   expression.Post,
@@ -1050,9 +1176,12 @@ index-returns : (t : ℕ) → index-lts.Need-returns (
   put-reads.Asked,
   put-reads.Learnt,
 ) (index-at t) index.Post
-index-returns t c = index-refuses (primaryG (wordsIn (c .before .before .before .before .before .before .before .before .before .before .before .args .reserved .now) (c .before .before .before .before .before .before .before .before .before .before .before .args .currencies .now) (c .before .before .before .before .before .before .before .before .before .before .before .args .counters .now)) (c .before .before .before .before .before .before .before .before .before .before .before .args .depth)) (primary-law (wordsIn (c .before .before .before .before .before .before .before .before .before .before .before .args .reserved .now) (c .before .before .before .before .before .before .before .before .before .before .before .args .currencies .now) (c .before .before .before .before .before .before .before .before .before .before .before .args .counters .now)) (c .before .before .before .before .before .before .before .before .before .before .before .args .depth)) (primary-size (wordsIn (c .before .before .before .before .before .before .before .before .before .before .before .args .reserved .now) (c .before .before .before .before .before .before .before .before .before .before .before .args .currencies .now) (c .before .before .before .before .before .before .before .before .before .before .before .args .counters .now)) (c .before .before .before .before .before .before .before .before .before .before .before .args .depth)) (c .before .before .before .before .before .before .before .before .before .before .before .args .s .now) (c .before .before .before .before .before .before .before .before .before .before .before .args .c) (c .before .before .before .before .before .before .before .before .before .before .before .args .n) (c .before .before .before .before .before .before .before .before .before .before .before .args .m) (c .before .before .before .before .before .before .before .before .before .before .before .args .out .now) _ (c .before .before .before .before .expression .result) _ _ (c .enum-told .given .1) (c .before .before .before .before .expression .ensures)
+index-returns t c =
+    let at-expression = c .before .before .before .before in
+    let args = at-expression .before .before .before .before .before .before .before .args in
+    let words = wordsIn (args .reserved .now) (args .currencies .now) (args .counters .now) in
+    index-refuses (primaryG words (args .depth)) (primary-law words (args .depth)) (primary-size words (args .depth)) (args .s .now) (args .c) (args .n) (args .m) (args .out .now) _ (at-expression .expression .result) _ _ (c .enum-told .given .1) (at-expression .expression .ensures)
 
--- src/expressions.rt:610:25
 index-take-requires : (t : ℕ) → index-lts.Need-take-requires (
   expression-below t,
   expression.Post,
@@ -1063,9 +1192,10 @@ index-take-requires : (t : ℕ) → index-lts.Need-take-requires (
   put-reads.Asked,
   put-reads.Learnt,
 ) (index-at t) index.Post
-index-take-requires t c κs = ((done-reads _ _ _ _ (c .before .before .before .before .before .expression .result) _ _ _ _ (c .before .r .given .1) (c .before .before .before .before .before .expression .ensures)) .holds, λ z. omega (arith, z))
+index-take-requires t c κs =
+    let at-expression = c .before .before .before .before .before in
+    ((done-reads _ _ _ _ (at-expression .expression .result) _ _ _ _ (c .before .r .given .1) (at-expression .expression .ensures)) .holds, λ z. omega (arith, z))
 
--- src/expressions.rt:610:20
 index-enum-known-e : (t : ℕ) → index-lts.Need-enum-known-e (
   expression-below t,
   expression.Post,
@@ -1078,7 +1208,6 @@ index-enum-known-e : (t : ℕ) → index-lts.Need-enum-known-e (
 ) (index-at t) index.Post
 index-enum-known-e t c = search needs
 
--- src/expressions.rt:611:9
 index-enum-told-2 : (t : ℕ) → index-lts.Need-enum-told-2 (
   expression-below t,
   expression.Post,
@@ -1091,7 +1220,6 @@ index-enum-told-2 : (t : ℕ) → index-lts.Need-enum-told-2 (
 ) (index-at t) index.Post
 index-enum-told-2 t c = search needs
 
--- src/expressions.rt:611:9
 index-same-length-2 : (t : ℕ) → index-lts.Need-same-length-2 (
   expression-below t,
   expression.Post,
@@ -1104,7 +1232,6 @@ index-same-length-2 : (t : ℕ) → index-lts.Need-same-length-2 (
 ) (index-at t) index.Post
 index-same-length-2 t c = search needs
 
--- src/expressions.rt:611:9
 index-returns-2 : (t : ℕ) → index-lts.Need-returns-2 (
   expression-below t,
   expression.Post,
@@ -1115,9 +1242,14 @@ index-returns-2 : (t : ℕ) → index-lts.Need-returns-2 (
   put-reads.Asked,
   put-reads.Learnt,
 ) (index-at t) index.Post
-index-returns-2 t c = index-open (primaryG (wordsIn (c .before .before .before .before .before .before .before .before .before .before .before .before .before .before .before .args .reserved .now) (c .before .before .before .before .before .before .before .before .before .before .before .before .before .before .before .args .currencies .now) (c .before .before .before .before .before .before .before .before .before .before .before .before .before .before .before .args .counters .now)) (c .before .before .before .before .before .before .before .before .before .before .before .before .before .before .before .args .depth)) (primary-law (wordsIn (c .before .before .before .before .before .before .before .before .before .before .before .before .before .before .before .args .reserved .now) (c .before .before .before .before .before .before .before .before .before .before .before .before .before .before .before .args .currencies .now) (c .before .before .before .before .before .before .before .before .before .before .before .before .before .before .before .args .counters .now)) (c .before .before .before .before .before .before .before .before .before .before .before .before .before .before .before .args .depth)) (primary-size (wordsIn (c .before .before .before .before .before .before .before .before .before .before .before .before .before .before .before .args .reserved .now) (c .before .before .before .before .before .before .before .before .before .before .before .before .before .before .before .args .currencies .now) (c .before .before .before .before .before .before .before .before .before .before .before .before .before .before .before .args .counters .now)) (c .before .before .before .before .before .before .before .before .before .before .before .before .before .before .before .args .depth)) (c .before .before .before .before .before .before .before .before .before .before .before .before .before .before .before .args .s .now) (c .before .before .before .before .before .before .before .before .before .before .before .before .before .before .before .args .c) (c .before .before .before .before .before .before .before .before .before .before .before .before .before .before .before .args .n) (c .before .before .before .before .before .before .before .before .before .before .before .before .before .before .before .args .m) (c .before .before .before .before .before .before .before .before .before .before .before .before .before .before .before .args .out .now) _ _ _ _ (done-reads _ _ _ _ (c .before .before .before .before .before .before .before .before .expression .result) _ _ _ _ (c .before .before .before .before .r .given .1) (c .before .before .before .before .before .before .before .before .expression .ensures)) (c .before .before .take .result) _ (c .enum-told2 .given .1) (c .before .before .take .ensures) (c .before .before .before .before .before .before .before .before .before .before .before .before .before .before .before .args .out .now)
+index-returns-2 t c =
+    let at-take = c .before .before in
+    let at-r = at-take .before .before in
+    let at-expression = at-r .before .before .before .before in
+    let args = at-expression .before .before .before .before .before .before .before .args in
+    let words = wordsIn (args .reserved .now) (args .currencies .now) (args .counters .now) in
+    index-open (primaryG words (args .depth)) (primary-law words (args .depth)) (primary-size words (args .depth)) (args .s .now) (args .c) (args .n) (args .m) (args .out .now) _ _ _ _ (done-reads _ _ _ _ (at-expression .expression .result) _ _ _ _ (at-r .r .given .1) (at-expression .expression .ensures)) (at-take .take .result) _ (c .enum-told2 .given .1) (at-take .take .ensures) (args .out .now)
 
--- src/expressions.rt:613:27
 index-sub-plain : (t : ℕ) → index-lts.Need-sub-plain (
   expression-below t,
   expression.Post,
@@ -1128,9 +1260,16 @@ index-sub-plain : (t : ℕ) → index-lts.Need-sub-plain (
   put-reads.Asked,
   put-reads.Learnt,
 ) (index-at t) index.Post
-index-sub-plain t c = omega (arith, index-numbers (primaryG (wordsIn (c .before .before .before .before .before .before .before .before .before .before .before .before .before .before .before .before .before .args .reserved .now) (c .before .before .before .before .before .before .before .before .before .before .before .before .before .before .before .before .before .args .currencies .now) (c .before .before .before .before .before .before .before .before .before .before .before .before .before .before .before .before .before .args .counters .now)) (c .before .before .before .before .before .before .before .before .before .before .before .before .before .before .before .before .before .args .depth)) (primary-law (wordsIn (c .before .before .before .before .before .before .before .before .before .before .before .before .before .before .before .before .before .args .reserved .now) (c .before .before .before .before .before .before .before .before .before .before .before .before .before .before .before .before .before .args .currencies .now) (c .before .before .before .before .before .before .before .before .before .before .before .before .before .before .before .before .before .args .counters .now)) (c .before .before .before .before .before .before .before .before .before .before .before .before .before .before .before .before .before .args .depth)) (primary-size (wordsIn (c .before .before .before .before .before .before .before .before .before .before .before .before .before .before .before .before .before .args .reserved .now) (c .before .before .before .before .before .before .before .before .before .before .before .before .before .before .before .before .before .args .currencies .now) (c .before .before .before .before .before .before .before .before .before .before .before .before .before .before .before .before .before .args .counters .now)) (c .before .before .before .before .before .before .before .before .before .before .before .before .before .before .before .before .before .args .depth)) (c .before .before .before .before .before .before .before .before .before .before .before .before .before .before .before .before .before .args .s .now) (c .before .before .before .before .before .before .before .before .before .before .before .before .before .before .before .before .before .args .c) (c .before .before .before .before .before .before .before .before .before .before .before .before .before .before .before .before .before .args .n) (c .before .before .before .before .before .before .before .before .before .before .before .before .before .before .before .before .before .args .m) (c .before .before .before .before .before .before .before .before .before .before .before .before .before .before .before .before .before .args .out .now) _ _ _ _ (done-reads _ _ _ _ (c .before .before .before .before .before .before .before .before .before .before .expression .result) _ _ _ _ (c .before .before .before .before .before .before .r .given .1) (c .before .before .before .before .before .before .before .before .before .before .expression .ensures)) (c .before .before .before .before .before .before .before .before .before .before .before .before .before .before .before .before .before .pre .1 .0 .1) (c .before .before .before .before .before .before .before .before .before .before .before .before .before .before .before .before .before .pre .1 .2) (c .before .before .before .before .take .result) _ (c .before .before .e .given .1) (c .before .before .before .before .take .ensures))
+index-sub-plain t c =
+    let at-e = c .before .before in
+    let at-take = at-e .before .before in
+    let at-r = at-take .before .before in
+    let at-expression = at-r .before .before .before .before in
+    let start = at-expression .before .before .before .before .before .before .before in
+    let args = start .args in
+    let words = wordsIn (args .reserved .now) (args .currencies .now) (args .counters .now) in
+    omega (arith, index-numbers (primaryG words (args .depth)) (primary-law words (args .depth)) (primary-size words (args .depth)) (args .s .now) (args .c) (args .n) (args .m) (args .out .now) _ _ _ _ (done-reads _ _ _ _ (at-expression .expression .result) _ _ _ _ (at-r .r .given .1) (at-expression .expression .ensures)) (start .pre .1 .0 .1) (start .pre .1 .2) (at-take .take .result) _ (at-e .e .given .1) (at-take .take .ensures))
 
--- src/expressions.rt:613:27
 index-add-plain : (t : ℕ) → index-lts.Need-add-plain (
   expression-below t,
   expression.Post,
@@ -1141,9 +1280,16 @@ index-add-plain : (t : ℕ) → index-lts.Need-add-plain (
   put-reads.Asked,
   put-reads.Learnt,
 ) (index-at t) index.Post
-index-add-plain t c = omega (arith, index-numbers (primaryG (wordsIn (c .before .before .before .before .before .before .before .before .before .before .before .before .before .before .before .before .before .args .reserved .now) (c .before .before .before .before .before .before .before .before .before .before .before .before .before .before .before .before .before .args .currencies .now) (c .before .before .before .before .before .before .before .before .before .before .before .before .before .before .before .before .before .args .counters .now)) (c .before .before .before .before .before .before .before .before .before .before .before .before .before .before .before .before .before .args .depth)) (primary-law (wordsIn (c .before .before .before .before .before .before .before .before .before .before .before .before .before .before .before .before .before .args .reserved .now) (c .before .before .before .before .before .before .before .before .before .before .before .before .before .before .before .before .before .args .currencies .now) (c .before .before .before .before .before .before .before .before .before .before .before .before .before .before .before .before .before .args .counters .now)) (c .before .before .before .before .before .before .before .before .before .before .before .before .before .before .before .before .before .args .depth)) (primary-size (wordsIn (c .before .before .before .before .before .before .before .before .before .before .before .before .before .before .before .before .before .args .reserved .now) (c .before .before .before .before .before .before .before .before .before .before .before .before .before .before .before .before .before .args .currencies .now) (c .before .before .before .before .before .before .before .before .before .before .before .before .before .before .before .before .before .args .counters .now)) (c .before .before .before .before .before .before .before .before .before .before .before .before .before .before .before .before .before .args .depth)) (c .before .before .before .before .before .before .before .before .before .before .before .before .before .before .before .before .before .args .s .now) (c .before .before .before .before .before .before .before .before .before .before .before .before .before .before .before .before .before .args .c) (c .before .before .before .before .before .before .before .before .before .before .before .before .before .before .before .before .before .args .n) (c .before .before .before .before .before .before .before .before .before .before .before .before .before .before .before .before .before .args .m) (c .before .before .before .before .before .before .before .before .before .before .before .before .before .before .before .before .before .args .out .now) _ _ _ _ (done-reads _ _ _ _ (c .before .before .before .before .before .before .before .before .before .before .expression .result) _ _ _ _ (c .before .before .before .before .before .before .r .given .1) (c .before .before .before .before .before .before .before .before .before .before .expression .ensures)) (c .before .before .before .before .before .before .before .before .before .before .before .before .before .before .before .before .before .pre .1 .0 .1) (c .before .before .before .before .before .before .before .before .before .before .before .before .before .before .before .before .before .pre .1 .2) (c .before .before .before .before .take .result) _ (c .before .before .e .given .1) (c .before .before .before .before .take .ensures))
+index-add-plain t c =
+    let at-e = c .before .before in
+    let at-take = at-e .before .before in
+    let at-r = at-take .before .before in
+    let at-expression = at-r .before .before .before .before in
+    let start = at-expression .before .before .before .before .before .before .before in
+    let args = start .args in
+    let words = wordsIn (args .reserved .now) (args .currencies .now) (args .counters .now) in
+    omega (arith, index-numbers (primaryG words (args .depth)) (primary-law words (args .depth)) (primary-size words (args .depth)) (args .s .now) (args .c) (args .n) (args .m) (args .out .now) _ _ _ _ (done-reads _ _ _ _ (at-expression .expression .result) _ _ _ _ (at-r .r .given .1) (at-expression .expression .ensures)) (start .pre .1 .0 .1) (start .pre .1 .2) (at-take .take .result) _ (at-e .e .given .1) (at-take .take .ensures))
 
--- src/expressions.rt:613:17
 index-plain-requires : (t : ℕ) → index-lts.Need-plain-requires (
   expression-below t,
   expression.Post,
@@ -1156,7 +1302,6 @@ index-plain-requires : (t : ℕ) → index-lts.Need-plain-requires (
 ) (index-at t) index.Post
 index-plain-requires t c κs = search needs
 
--- src/expressions.rt:613:5
 index-put-requires : (t : ℕ) → index-lts.Need-put-requires (
   expression-below t,
   expression.Post,
@@ -1169,7 +1314,6 @@ index-put-requires : (t : ℕ) → index-lts.Need-put-requires (
 ) (index-at t) index.Post
 index-put-requires t c κs = search needs
 
--- src/expressions.rt:614:19
 index-add-t21 : (t : ℕ) → index-lts.Need-add-t21 (
   expression-below t,
   expression.Post,
@@ -1180,9 +1324,16 @@ index-add-t21 : (t : ℕ) → index-lts.Need-add-t21 (
   put-reads.Asked,
   put-reads.Learnt,
 ) (index-at t) index.Post
-index-add-t21 t c = omega (arith, index-numbers (primaryG (wordsIn (c .before .before .before .before .before .before .before .before .before .before .before .before .before .before .before .before .before .before .before .before .before .args .reserved .now) (c .before .before .before .before .before .before .before .before .before .before .before .before .before .before .before .before .before .before .before .before .before .args .currencies .now) (c .before .before .before .before .before .before .before .before .before .before .before .before .before .before .before .before .before .before .before .before .before .args .counters .now)) (c .before .before .before .before .before .before .before .before .before .before .before .before .before .before .before .before .before .before .before .before .before .args .depth)) (primary-law (wordsIn (c .before .before .before .before .before .before .before .before .before .before .before .before .before .before .before .before .before .before .before .before .before .args .reserved .now) (c .before .before .before .before .before .before .before .before .before .before .before .before .before .before .before .before .before .before .before .before .before .args .currencies .now) (c .before .before .before .before .before .before .before .before .before .before .before .before .before .before .before .before .before .before .before .before .before .args .counters .now)) (c .before .before .before .before .before .before .before .before .before .before .before .before .before .before .before .before .before .before .before .before .before .args .depth)) (primary-size (wordsIn (c .before .before .before .before .before .before .before .before .before .before .before .before .before .before .before .before .before .before .before .before .before .args .reserved .now) (c .before .before .before .before .before .before .before .before .before .before .before .before .before .before .before .before .before .before .before .before .before .args .currencies .now) (c .before .before .before .before .before .before .before .before .before .before .before .before .before .before .before .before .before .before .before .before .before .args .counters .now)) (c .before .before .before .before .before .before .before .before .before .before .before .before .before .before .before .before .before .before .before .before .before .args .depth)) (c .before .before .before .before .before .before .before .before .before .before .before .before .before .before .before .before .before .before .before .before .before .args .s .now) (c .before .before .before .before .before .before .before .before .before .before .before .before .before .before .before .before .before .before .before .before .before .args .c) (c .before .before .before .before .before .before .before .before .before .before .before .before .before .before .before .before .before .before .before .before .before .args .n) (c .before .before .before .before .before .before .before .before .before .before .before .before .before .before .before .before .before .before .before .before .before .args .m) (c .before .before .before .before .before .before .before .before .before .before .before .before .before .before .before .before .before .before .before .before .before .args .out .now) _ _ _ _ (done-reads _ _ _ _ (c .before .before .before .before .before .before .before .before .before .before .before .before .before .before .expression .result) _ _ _ _ (c .before .before .before .before .before .before .before .before .before .before .r .given .1) (c .before .before .before .before .before .before .before .before .before .before .before .before .before .before .expression .ensures)) (c .before .before .before .before .before .before .before .before .before .before .before .before .before .before .before .before .before .before .before .before .before .pre .1 .0 .1) (c .before .before .before .before .before .before .before .before .before .before .before .before .before .before .before .before .before .before .before .before .before .pre .1 .2) (c .before .before .before .before .before .before .before .before .take .result) _ (c .before .before .before .before .before .before .e .given .1) (c .before .before .before .before .before .before .before .before .take .ensures))
+index-add-t21 t c =
+    let at-e = c .before .before .before .before .before .before in
+    let at-take = at-e .before .before in
+    let at-r = at-take .before .before in
+    let at-expression = at-r .before .before .before .before in
+    let start = at-expression .before .before .before .before .before .before .before in
+    let args = start .args in
+    let words = wordsIn (args .reserved .now) (args .currencies .now) (args .counters .now) in
+    omega (arith, index-numbers (primaryG words (args .depth)) (primary-law words (args .depth)) (primary-size words (args .depth)) (args .s .now) (args .c) (args .n) (args .m) (args .out .now) _ _ _ _ (done-reads _ _ _ _ (at-expression .expression .result) _ _ _ _ (at-r .r .given .1) (at-expression .expression .ensures)) (start .pre .1 .0 .1) (start .pre .1 .2) (at-take .take .result) _ (at-e .e .given .1) (at-take .take .ensures))
 
--- src/expressions.rt:592:1
 index-same-length-3 : (t : ℕ) → index-lts.Need-same-length-3 (
   expression-below t,
   expression.Post,
@@ -1195,7 +1346,6 @@ index-same-length-3 : (t : ℕ) → index-lts.Need-same-length-3 (
 ) (index-at t) index.Post
 index-same-length-3 t c = search needs
 
--- src/expressions.rt:592:1
 index-returns-3 : (t : ℕ) → index-lts.Need-returns-3 (
   expression-below t,
   expression.Post,
@@ -1206,7 +1356,16 @@ index-returns-3 : (t : ℕ) → index-lts.Need-returns-3 (
   put-reads.Asked,
   put-reads.Learnt,
 ) (index-at t) index.Post
-index-returns-3 t c = index-reads (primaryG (wordsIn (c .before .before .before .before .before .before .before .before .before .before .before .before .before .before .before .before .before .before .before .before .before .args .reserved .now) (c .before .before .before .before .before .before .before .before .before .before .before .before .before .before .before .before .before .before .before .before .before .args .currencies .now) (c .before .before .before .before .before .before .before .before .before .before .before .before .before .before .before .before .before .before .before .before .before .args .counters .now)) (c .before .before .before .before .before .before .before .before .before .before .before .before .before .before .before .before .before .before .before .before .before .args .depth)) (primary-law (wordsIn (c .before .before .before .before .before .before .before .before .before .before .before .before .before .before .before .before .before .before .before .before .before .args .reserved .now) (c .before .before .before .before .before .before .before .before .before .before .before .before .before .before .before .before .before .before .before .before .before .args .currencies .now) (c .before .before .before .before .before .before .before .before .before .before .before .before .before .before .before .before .before .before .before .before .before .args .counters .now)) (c .before .before .before .before .before .before .before .before .before .before .before .before .before .before .before .before .before .before .before .before .before .args .depth)) (primary-size (wordsIn (c .before .before .before .before .before .before .before .before .before .before .before .before .before .before .before .before .before .before .before .before .before .args .reserved .now) (c .before .before .before .before .before .before .before .before .before .before .before .before .before .before .before .before .before .before .before .before .before .args .currencies .now) (c .before .before .before .before .before .before .before .before .before .before .before .before .before .before .before .before .before .before .before .before .before .args .counters .now)) (c .before .before .before .before .before .before .before .before .before .before .before .before .before .before .before .before .before .before .before .before .before .args .depth)) (c .before .before .before .before .before .before .before .before .before .before .before .before .before .before .before .before .before .before .before .before .before .args .s .now) (c .before .before .before .before .before .before .before .before .before .before .before .before .before .before .before .before .before .before .before .before .before .args .c) (c .before .before .before .before .before .before .before .before .before .before .before .before .before .before .before .before .before .before .before .before .before .args .n) (c .before .before .before .before .before .before .before .before .before .before .before .before .before .before .before .before .before .before .before .before .before .args .m) (c .before .before .before .before .before .before .before .before .before .before .before .before .before .before .before .before .before .before .before .before .before .args .out .now) _ _ _ _ (done-reads _ _ _ _ (c .before .before .before .before .before .before .before .before .before .before .before .before .before .before .expression .result) _ _ _ _ (c .before .before .before .before .before .before .before .before .before .before .r .given .1) (c .before .before .before .before .before .before .before .before .before .before .before .before .before .before .expression .ensures)) (c .before .before .before .before .before .before .before .before .before .before .before .before .before .before .before .before .before .before .before .before .before .pre .1 .0 .1) (c .before .before .before .before .before .before .before .before .before .before .before .before .before .before .before .before .before .before .before .before .before .pre .1 .2) (c .before .before .before .before .before .before .before .before .take .result) _ (c .before .before .before .before .before .before .e .given .1) (c .before .before .before .before .before .before .before .before .take .ensures) _ (put-fields _ _ _ _ _ _ _ _ _ (c .before .before .before .plain .ensures) (c .before .before .put .ensures))
+index-returns-3 t c =
+    let at-put = c .before .before in
+    let at-e = at-put .before .before .before .before in
+    let at-take = at-e .before .before in
+    let at-r = at-take .before .before in
+    let at-expression = at-r .before .before .before .before in
+    let start = at-expression .before .before .before .before .before .before .before in
+    let args = start .args in
+    let words = wordsIn (args .reserved .now) (args .currencies .now) (args .counters .now) in
+    index-reads (primaryG words (args .depth)) (primary-law words (args .depth)) (primary-size words (args .depth)) (args .s .now) (args .c) (args .n) (args .m) (args .out .now) _ _ _ _ (done-reads _ _ _ _ (at-expression .expression .result) _ _ _ _ (at-r .r .given .1) (at-expression .expression .ensures)) (start .pre .1 .0 .1) (start .pre .1 .2) (at-take .take .result) _ (at-e .e .given .1) (at-take .take .ensures) _ (put-fields _ _ _ _ _ _ _ _ _ (at-put .before .plain .ensures) (at-put .put .ensures))
 
 abbrev items-Inv-loop : items-lts.InvT-loop
 items-Inv-loop s reserved currencies counters close depth out₀ n at₀ m₀ count₀ texts₀ out at m count texts = (length out ≡ length out₀) × ItemChain close (G.primary (wordsIn reserved currencies counters) depth) s (itemsBy close (G.primary (wordsIn reserved currencies counters) depth) (toksAt s (at₀ .start))) n out₀ at m count texts out
@@ -1214,7 +1373,6 @@ items-Inv-loop s reserved currencies counters close depth out₀ n at₀ m₀ co
 abbrev items-μ-loop : items-lts.MeasureT-loop
 items-μ-loop s reserved currencies counters close depth out₀ n at₀ m₀ count₀ texts₀ out at m count texts = length (toksAt s (at .start))
 
--- src/expressions.rt:485:5
 items-loop-holds : (t : ℕ) → items-lts.Need-loop-holds (
   expression-below t,
   expression.Post,
@@ -1225,9 +1383,12 @@ items-loop-holds : (t : ℕ) → items-lts.Need-loop-holds (
   shown-reads.Asked,
   shown-reads.Learnt,
 ) (items-at t) items.Post items-Inv-loop items-μ-loop
-items-loop-holds t c = (refl, items-start (c .before .before .before .before .before .args .close) (G.primary (wordsIn (c .before .before .before .before .before .args .reserved .now) (c .before .before .before .before .before .args .currencies .now) (c .before .before .before .before .before .args .counters .now)) (c .before .before .before .before .before .args .depth)) (primary-law (wordsIn (c .before .before .before .before .before .args .reserved .now) (c .before .before .before .before .before .args .currencies .now) (c .before .before .before .before .before .args .counters .now)) (c .before .before .before .before .before .args .depth)) (primary-size (wordsIn (c .before .before .before .before .before .args .reserved .now) (c .before .before .before .before .before .args .currencies .now) (c .before .before .before .before .before .args .counters .now)) (c .before .before .before .before .before .args .depth)) (c .before .before .before .before .before .args .s .now) _ _ _ (c .before .before .before .before .before .pre .1 .0))
+items-loop-holds t c =
+    let start = c .before .before .before .before .before in
+    let args = start .args in
+    let words = wordsIn (args .reserved .now) (args .currencies .now) (args .counters .now) in
+    (refl, items-start (args .close) (G.primary words (args .depth)) (primary-law words (args .depth)) (primary-size words (args .depth)) (args .s .now) _ _ _ (start .pre .1 .0))
 
--- src/expressions.rt:487:13
 items-same-length : (t : ℕ) → items-lts.Need-same-length (
   expression-below t,
   expression.Post,
@@ -1240,7 +1401,6 @@ items-same-length : (t : ℕ) → items-lts.Need-same-length (
 ) (items-at t) items.Post items-Inv-loop items-μ-loop
 items-same-length t c = c .before .before .loop .inv .0
 
--- src/expressions.rt:487:13
 items-returns : (t : ℕ) → items-lts.Need-returns (
   expression-below t,
   expression.Post,
@@ -1251,9 +1411,12 @@ items-returns : (t : ℕ) → items-lts.Need-returns (
   shown-reads.Asked,
   shown-reads.Learnt,
 ) (items-at t) items.Post items-Inv-loop items-μ-loop
-items-returns t c = (items-exit (c .before .before .before .before .before .before .before .before .args .close) (G.primary (wordsIn (c .before .before .before .before .before .before .before .before .args .reserved .now) (c .before .before .before .before .before .before .before .before .args .currencies .now) (c .before .before .before .before .before .before .before .before .args .counters .now)) (c .before .before .before .before .before .before .before .before .args .depth)) (primary-law (wordsIn (c .before .before .before .before .before .before .before .before .args .reserved .now) (c .before .before .before .before .before .before .before .before .args .currencies .now) (c .before .before .before .before .before .before .before .before .args .counters .now)) (c .before .before .before .before .before .before .before .before .args .depth)) (primary-size (wordsIn (c .before .before .before .before .before .before .before .before .args .reserved .now) (c .before .before .before .before .before .before .before .before .args .currencies .now) (c .before .before .before .before .before .before .before .before .args .counters .now)) (c .before .before .before .before .before .before .before .before .args .depth)) (c .before .before .before .before .before .before .before .before .args .s .now) _ _ _ _ _ _ _ _ (c .before .before .loop .inv .1) (c .if1 .taken), c .if1 .taken)
+items-returns t c =
+    let at-loop = c .before .before in
+    let args = at-loop .before .before .before .before .before .before .args in
+    let words = wordsIn (args .reserved .now) (args .currencies .now) (args .counters .now) in
+    (items-exit (args .close) (G.primary words (args .depth)) (primary-law words (args .depth)) (primary-size words (args .depth)) (args .s .now) _ _ _ _ _ _ _ _ (at-loop .loop .inv .1) (c .if1 .taken), c .if1 .taken)
 
--- src/expressions.rt:489:13
 items-expression-requires : (t : ℕ) → items-lts.Need-expression-requires (
   expression-below t,
   expression.Post,
@@ -1264,9 +1427,13 @@ items-expression-requires : (t : ℕ) → items-lts.Need-expression-requires (
   shown-reads.Asked,
   shown-reads.Learnt,
 ) (items-at t) items.Post items-Inv-loop items-μ-loop
-items-expression-requires t c κs = (omega (arith, c .before .before .before .before .before .before .before .before .before .pre .0), (items-ready (c .before .before .before .before .before .before .before .before .before .args .close) (G.primary (wordsIn (c .before .before .before .before .before .before .before .before .before .args .reserved .now) (c .before .before .before .before .before .before .before .before .before .args .currencies .now) (c .before .before .before .before .before .before .before .before .before .args .counters .now)) (c .before .before .before .before .before .before .before .before .before .args .depth)) (primary-law (wordsIn (c .before .before .before .before .before .before .before .before .before .args .reserved .now) (c .before .before .before .before .before .before .before .before .before .args .currencies .now) (c .before .before .before .before .before .before .before .before .before .args .counters .now)) (c .before .before .before .before .before .before .before .before .before .args .depth)) (primary-size (wordsIn (c .before .before .before .before .before .before .before .before .before .args .reserved .now) (c .before .before .before .before .before .before .before .before .before .args .currencies .now) (c .before .before .before .before .before .before .before .before .before .args .counters .now)) (c .before .before .before .before .before .before .before .before .before .args .depth)) (c .before .before .before .before .before .before .before .before .before .args .s .now) _ _ _ _ _ _ _ _ (c .before .before .before .loop .inv .1), c .before .before .before .before .before .before .before .before .before .pre .1 .1))
+items-expression-requires t c κs =
+    let at-loop = c .before .before .before in
+    let start = at-loop .before .before .before .before .before .before in
+    let args = start .args in
+    let words = wordsIn (args .reserved .now) (args .currencies .now) (args .counters .now) in
+    (omega (arith, start .pre .0), (items-ready (args .close) (G.primary words (args .depth)) (primary-law words (args .depth)) (primary-size words (args .depth)) (args .s .now) _ _ _ _ _ _ _ _ (at-loop .loop .inv .1), start .pre .1 .1))
 
--- src/expressions.rt:490:24
 items-enum-known-r : (t : ℕ) → items-lts.Need-enum-known-r (
   expression-below t,
   expression.Post,
@@ -1279,7 +1446,6 @@ items-enum-known-r : (t : ℕ) → items-lts.Need-enum-known-r (
 ) (items-at t) items.Post items-Inv-loop items-μ-loop
 items-enum-known-r t c = search needs
 
--- src/expressions.rt:491:13
 items-enum-told : (t : ℕ) → items-lts.Need-enum-told (
   expression-below t,
   expression.Post,
@@ -1292,7 +1458,6 @@ items-enum-told : (t : ℕ) → items-lts.Need-enum-told (
 ) (items-at t) items.Post items-Inv-loop items-μ-loop
 items-enum-told t c = search needs
 
--- src/expressions.rt:491:13
 items-refused-requires : (t : ℕ) → items-lts.Need-refused-requires (
   expression-below t,
   expression.Post,
@@ -1305,7 +1470,6 @@ items-refused-requires : (t : ℕ) → items-lts.Need-refused-requires (
 ) (items-at t) items.Post items-Inv-loop items-μ-loop
 items-refused-requires t c κs = search needs
 
--- src/expressions.rt:491:13
 items-same-length-2 : (t : ℕ) → items-lts.Need-same-length-2 (
   expression-below t,
   expression.Post,
@@ -1316,9 +1480,10 @@ items-same-length-2 : (t : ℕ) → items-lts.Need-same-length-2 (
   shown-reads.Asked,
   shown-reads.Learnt,
 ) (items-at t) items.Post items-Inv-loop items-μ-loop
-items-same-length-2 t c = c .before .before .before .before .before .expression .kept .1 .1 .1 .1 .1 .1 .0 ∙ c .before .before .before .before .before .before .before .before .before .loop .inv .0
+items-same-length-2 t c =
+    let at-expression = c .before .before .before .before .before in
+    at-expression .expression .kept .1 .1 .1 .1 .1 .1 .0 ∙ at-expression .before .before .before .before .loop .inv .0
 
--- src/expressions.rt:491:13
 items-returns-2 : (t : ℕ) → items-lts.Need-returns-2 (
   expression-below t,
   expression.Post,
@@ -1329,9 +1494,14 @@ items-returns-2 : (t : ℕ) → items-lts.Need-returns-2 (
   shown-reads.Asked,
   shown-reads.Learnt,
 ) (items-at t) items.Post items-Inv-loop items-μ-loop
-items-returns-2 t c = parts-refusal _ _ _ _ _ _ (c .refused .result) _ _ _ _ _ _ _ (c .before .enum-told .given .1) (c .before .before .before .before .before .expression .ensures) (c .refused .ensures) (items-refused (c .before .before .before .before .before .before .before .before .before .before .before .before .before .before .before .args .close) (G.primary (wordsIn (c .before .before .before .before .before .before .before .before .before .before .before .before .before .before .before .args .reserved .now) (c .before .before .before .before .before .before .before .before .before .before .before .before .before .before .before .args .currencies .now) (c .before .before .before .before .before .before .before .before .before .before .before .before .before .before .before .args .counters .now)) (c .before .before .before .before .before .before .before .before .before .before .before .before .before .before .before .args .depth)) (primary-law (wordsIn (c .before .before .before .before .before .before .before .before .before .before .before .before .before .before .before .args .reserved .now) (c .before .before .before .before .before .before .before .before .before .before .before .before .before .before .before .args .currencies .now) (c .before .before .before .before .before .before .before .before .before .before .before .before .before .before .before .args .counters .now)) (c .before .before .before .before .before .before .before .before .before .before .before .before .before .before .before .args .depth)) (primary-size (wordsIn (c .before .before .before .before .before .before .before .before .before .before .before .before .before .before .before .args .reserved .now) (c .before .before .before .before .before .before .before .before .before .before .before .before .before .before .before .args .currencies .now) (c .before .before .before .before .before .before .before .before .before .before .before .before .before .before .before .args .counters .now)) (c .before .before .before .before .before .before .before .before .before .before .before .before .before .before .before .args .depth)) (c .before .before .before .before .before .before .before .before .before .before .before .before .before .before .before .args .s .now) _ _ _ _ _ _ _ _ (c .before .before .before .before .before .before .before .before .before .loop .inv .1) (c .before .before .before .before .before .before .before .if1 .left) _ _)
+items-returns-2 t c =
+    let at-expression = c .before .before .before .before .before in
+    let at-if1 = at-expression .before .before in
+    let at-loop = at-if1 .before .before in
+    let args = at-loop .before .before .before .before .before .before .args in
+    let words = wordsIn (args .reserved .now) (args .currencies .now) (args .counters .now) in
+    parts-refusal _ _ _ _ _ _ (c .refused .result) _ _ _ _ _ _ _ (c .before .enum-told .given .1) (at-expression .expression .ensures) (c .refused .ensures) (items-refused (args .close) (G.primary words (args .depth)) (primary-law words (args .depth)) (primary-size words (args .depth)) (args .s .now) _ _ _ _ _ _ _ _ (at-loop .loop .inv .1) (at-if1 .if1 .left) _ _)
 
--- src/expressions.rt:493:29
 items-follow-requires : (t : ℕ) → items-lts.Need-follow-requires (
   expression-below t,
   expression.Post,
@@ -1342,9 +1512,10 @@ items-follow-requires : (t : ℕ) → items-lts.Need-follow-requires (
   shown-reads.Asked,
   shown-reads.Learnt,
 ) (items-at t) items.Post items-Inv-loop items-μ-loop
-items-follow-requires t c κs = (done-reads _ _ _ _ _ _ _ _ _ (c .before .r .given .1) (c .before .before .before .before .before .expression .ensures) .holds, c .before .before .before .before .before .before .before .before .before .before .before .before .before .before .before .pre .1 .2)
+items-follow-requires t c κs =
+    let at-expression = c .before .before .before .before .before in
+    (done-reads _ _ _ _ _ _ _ _ _ (c .before .r .given .1) (at-expression .expression .ensures) .holds, at-expression .before .before .before .before .before .before .before .before .before .before .pre .1 .2)
 
--- src/expressions.rt:493:24
 items-enum-known-f : (t : ℕ) → items-lts.Need-enum-known-f (
   expression-below t,
   expression.Post,
@@ -1357,7 +1528,6 @@ items-enum-known-f : (t : ℕ) → items-lts.Need-enum-known-f (
 ) (items-at t) items.Post items-Inv-loop items-μ-loop
 items-enum-known-f t c = search needs
 
--- src/expressions.rt:494:13
 items-enum-told-2 : (t : ℕ) → items-lts.Need-enum-told-2 (
   expression-below t,
   expression.Post,
@@ -1370,7 +1540,6 @@ items-enum-told-2 : (t : ℕ) → items-lts.Need-enum-told-2 (
 ) (items-at t) items.Post items-Inv-loop items-μ-loop
 items-enum-told-2 t c = search needs
 
--- src/expressions.rt:494:13
 items-same-length-3 : (t : ℕ) → items-lts.Need-same-length-3 (
   expression-below t,
   expression.Post,
@@ -1381,9 +1550,10 @@ items-same-length-3 : (t : ℕ) → items-lts.Need-same-length-3 (
   shown-reads.Asked,
   shown-reads.Learnt,
 ) (items-at t) items.Post items-Inv-loop items-μ-loop
-items-same-length-3 t c = c .before .before .before .before .before .before .before .before .expression .kept .1 .1 .1 .1 .1 .1 .0 ∙ c .before .before .before .before .before .before .before .before .before .before .before .before .loop .inv .0
+items-same-length-3 t c =
+    let at-expression = c .before .before .before .before .before .before .before .before in
+    at-expression .expression .kept .1 .1 .1 .1 .1 .1 .0 ∙ at-expression .before .before .before .before .loop .inv .0
 
--- src/expressions.rt:494:13
 items-returns-3 : (t : ℕ) → items-lts.Need-returns-3 (
   expression-below t,
   expression.Post,
@@ -1394,9 +1564,16 @@ items-returns-3 : (t : ℕ) → items-lts.Need-returns-3 (
   shown-reads.Asked,
   shown-reads.Learnt,
 ) (items-at t) items.Post items-Inv-loop items-μ-loop
-items-returns-3 t c = (items-wrong (c .before .before .before .before .before .before .before .before .before .before .before .before .before .before .before .before .before .before .args .close) (G.primary (wordsIn (c .before .before .before .before .before .before .before .before .before .before .before .before .before .before .before .before .before .before .args .reserved .now) (c .before .before .before .before .before .before .before .before .before .before .before .before .before .before .before .before .before .before .args .currencies .now) (c .before .before .before .before .before .before .before .before .before .before .before .before .before .before .before .before .before .before .args .counters .now)) (c .before .before .before .before .before .before .before .before .before .before .before .before .before .before .before .before .before .before .args .depth)) (primary-law (wordsIn (c .before .before .before .before .before .before .before .before .before .before .before .before .before .before .before .before .before .before .args .reserved .now) (c .before .before .before .before .before .before .before .before .before .before .before .before .before .before .before .before .before .before .args .currencies .now) (c .before .before .before .before .before .before .before .before .before .before .before .before .before .before .before .before .before .before .args .counters .now)) (c .before .before .before .before .before .before .before .before .before .before .before .before .before .before .before .before .before .before .args .depth)) (primary-size (wordsIn (c .before .before .before .before .before .before .before .before .before .before .before .before .before .before .before .before .before .before .args .reserved .now) (c .before .before .before .before .before .before .before .before .before .before .before .before .before .before .before .before .before .before .args .currencies .now) (c .before .before .before .before .before .before .before .before .before .before .before .before .before .before .before .before .before .before .args .counters .now)) (c .before .before .before .before .before .before .before .before .before .before .before .before .before .before .before .before .before .before .args .depth)) (c .before .before .before .before .before .before .before .before .before .before .before .before .before .before .before .before .before .before .args .s .now) _ _ _ _ _ _ _ _ (c .before .before .before .before .before .before .before .before .before .before .before .before .loop .inv .1) (c .before .before .before .before .before .before .before .before .before .before .if1 .left) _ _ _ _ (done-reads _ _ _ _ _ _ _ _ _ (c .before .before .before .before .r .given .1) (c .before .before .before .before .before .before .before .before .expression .ensures)) _ (follows-as _ _ _ _ _ (c .enum-told2 .given .1) (c .before .before .follow .ensures)), tt)
+items-returns-3 t c =
+    let at-follow = c .before .before in
+    let at-r = at-follow .before .before in
+    let at-expression = at-r .before .before .before .before in
+    let at-if1 = at-expression .before .before in
+    let at-loop = at-if1 .before .before in
+    let args = at-loop .before .before .before .before .before .before .args in
+    let words = wordsIn (args .reserved .now) (args .currencies .now) (args .counters .now) in
+    (items-wrong (args .close) (G.primary words (args .depth)) (primary-law words (args .depth)) (primary-size words (args .depth)) (args .s .now) _ _ _ _ _ _ _ _ (at-loop .loop .inv .1) (at-if1 .if1 .left) _ _ _ _ (done-reads _ _ _ _ _ _ _ _ _ (at-r .r .given .1) (at-expression .expression .ensures)) _ (follows-as _ _ _ _ _ (c .enum-told2 .given .1) (at-follow .follow .ensures)), tt)
 
--- src/expressions.rt:496:9
 items-shown-requires : (t : ℕ) → items-lts.Need-shown-requires (
   expression-below t,
   expression.Post,
@@ -1409,7 +1586,6 @@ items-shown-requires : (t : ℕ) → items-lts.Need-shown-requires (
 ) (items-at t) items.Post items-Inv-loop items-μ-loop
 items-shown-requires t c κs = search needs
 
--- src/expressions.rt:499:9
 items-add-count : (t : ℕ) → items-lts.Need-add-count (
   expression-below t,
   expression.Post,
@@ -1420,9 +1596,15 @@ items-add-count : (t : ℕ) → items-lts.Need-add-count (
   shown-reads.Asked,
   shown-reads.Learnt,
 ) (items-at t) items.Post items-Inv-loop items-μ-loop
-items-add-count t c = omega (arith, items-numbers (c .before .before .before .before .before .before .before .before .before .before .before .before .before .before .before .before .before .before .before .before .args .close) (G.primary (wordsIn (c .before .before .before .before .before .before .before .before .before .before .before .before .before .before .before .before .before .before .before .before .args .reserved .now) (c .before .before .before .before .before .before .before .before .before .before .before .before .before .before .before .before .before .before .before .before .args .currencies .now) (c .before .before .before .before .before .before .before .before .before .before .before .before .before .before .before .before .before .before .before .before .args .counters .now)) (c .before .before .before .before .before .before .before .before .before .before .before .before .before .before .before .before .before .before .before .before .args .depth)) (primary-law (wordsIn (c .before .before .before .before .before .before .before .before .before .before .before .before .before .before .before .before .before .before .before .before .args .reserved .now) (c .before .before .before .before .before .before .before .before .before .before .before .before .before .before .before .before .before .before .before .before .args .currencies .now) (c .before .before .before .before .before .before .before .before .before .before .before .before .before .before .before .before .before .before .before .before .args .counters .now)) (c .before .before .before .before .before .before .before .before .before .before .before .before .before .before .before .before .before .before .before .before .args .depth)) (primary-size (wordsIn (c .before .before .before .before .before .before .before .before .before .before .before .before .before .before .before .before .before .before .before .before .args .reserved .now) (c .before .before .before .before .before .before .before .before .before .before .before .before .before .before .before .before .before .before .before .before .args .currencies .now) (c .before .before .before .before .before .before .before .before .before .before .before .before .before .before .before .before .before .before .before .before .args .counters .now)) (c .before .before .before .before .before .before .before .before .before .before .before .before .before .before .before .before .before .before .before .before .args .depth)) (c .before .before .before .before .before .before .before .before .before .before .before .before .before .before .before .before .before .before .before .before .args .s .now) _ _ _ _ _ _ _ _ (c .before .before .before .before .before .before .before .before .before .before .before .before .before .before .loop .inv .1) (c .before .before .before .before .before .before .before .before .before .before .before .before .if1 .left) _ _ _ _ (done-reads _ _ _ _ _ _ _ _ _ (c .before .before .before .before .before .before .r .given .1) (c .before .before .before .before .before .before .before .before .before .before .expression .ensures)))
+items-add-count t c =
+    let at-r = c .before .before .before .before .before .before in
+    let at-expression = at-r .before .before .before .before in
+    let at-if1 = at-expression .before .before in
+    let at-loop = at-if1 .before .before in
+    let args = at-loop .before .before .before .before .before .before .args in
+    let words = wordsIn (args .reserved .now) (args .currencies .now) (args .counters .now) in
+    omega (arith, items-numbers (args .close) (G.primary words (args .depth)) (primary-law words (args .depth)) (primary-size words (args .depth)) (args .s .now) _ _ _ _ _ _ _ _ (at-loop .loop .inv .1) (at-if1 .if1 .left) _ _ _ _ (done-reads _ _ _ _ _ _ _ _ _ (at-r .r .given .1) (at-expression .expression .ensures)))
 
--- src/expressions.rt:485:5
 items-loop-less : (t : ℕ) → items-lts.Need-loop-less (
   expression-below t,
   expression.Post,
@@ -1433,9 +1615,17 @@ items-loop-less : (t : ℕ) → items-lts.Need-loop-less (
   shown-reads.Asked,
   shown-reads.Learnt,
 ) (items-at t) items.Post items-Inv-loop items-μ-loop
-items-loop-less t c = items-less (c .before .before .before .before .before .before .before .before .before .before .before .before .before .before .before .before .before .before .before .before .args .close) (G.primary (wordsIn (c .before .before .before .before .before .before .before .before .before .before .before .before .before .before .before .before .before .before .before .before .args .reserved .now) (c .before .before .before .before .before .before .before .before .before .before .before .before .before .before .before .before .before .before .before .before .args .currencies .now) (c .before .before .before .before .before .before .before .before .before .before .before .before .before .before .before .before .before .before .before .before .args .counters .now)) (c .before .before .before .before .before .before .before .before .before .before .before .before .before .before .before .before .before .before .before .before .args .depth)) (primary-law (wordsIn (c .before .before .before .before .before .before .before .before .before .before .before .before .before .before .before .before .before .before .before .before .args .reserved .now) (c .before .before .before .before .before .before .before .before .before .before .before .before .before .before .before .before .before .before .before .before .args .currencies .now) (c .before .before .before .before .before .before .before .before .before .before .before .before .before .before .before .before .before .before .before .before .args .counters .now)) (c .before .before .before .before .before .before .before .before .before .before .before .before .before .before .before .before .before .before .before .before .args .depth)) (primary-size (wordsIn (c .before .before .before .before .before .before .before .before .before .before .before .before .before .before .before .before .before .before .before .before .args .reserved .now) (c .before .before .before .before .before .before .before .before .before .before .before .before .before .before .before .before .before .before .before .before .args .currencies .now) (c .before .before .before .before .before .before .before .before .before .before .before .before .before .before .before .before .before .before .before .before .args .counters .now)) (c .before .before .before .before .before .before .before .before .before .before .before .before .before .before .before .before .before .before .before .before .args .depth)) (c .before .before .before .before .before .before .before .before .before .before .before .before .before .before .before .before .before .before .before .before .args .s .now) _ _ _ _ _ _ _ _ (c .before .before .before .before .before .before .before .before .before .before .before .before .before .before .loop .inv .1) (c .before .before .before .before .before .before .before .before .before .before .before .before .if1 .left) _ _ _ _ (done-reads _ _ _ _ _ _ _ _ _ (c .before .before .before .before .before .before .r .given .1) (c .before .before .before .before .before .before .before .before .before .before .expression .ensures)) (c .before .before .f .given .0 .0) (follows-as _ _ _ _ _ (c .before .before .f .given .1) (c .before .before .before .before .follow .ensures))
+items-loop-less t c =
+    let at-f = c .before .before in
+    let at-follow = at-f .before .before in
+    let at-r = at-follow .before .before in
+    let at-expression = at-r .before .before .before .before in
+    let at-if1 = at-expression .before .before in
+    let at-loop = at-if1 .before .before in
+    let args = at-loop .before .before .before .before .before .before .args in
+    let words = wordsIn (args .reserved .now) (args .currencies .now) (args .counters .now) in
+    items-less (args .close) (G.primary words (args .depth)) (primary-law words (args .depth)) (primary-size words (args .depth)) (args .s .now) _ _ _ _ _ _ _ _ (at-loop .loop .inv .1) (at-if1 .if1 .left) _ _ _ _ (done-reads _ _ _ _ _ _ _ _ _ (at-r .r .given .1) (at-expression .expression .ensures)) (at-f .f .given .0 .0) (follows-as _ _ _ _ _ (at-f .f .given .1) (at-follow .follow .ensures))
 
--- src/expressions.rt:485:5
 items-loop-again : (t : ℕ) → items-lts.Need-loop-again (
   expression-below t,
   expression.Post,
@@ -1446,9 +1636,17 @@ items-loop-again : (t : ℕ) → items-lts.Need-loop-again (
   shown-reads.Asked,
   shown-reads.Learnt,
 ) (items-at t) items.Post items-Inv-loop items-μ-loop
-items-loop-again t c = (c .before .before .before .before .before .before .before .before .before .before .expression .kept .1 .1 .1 .1 .1 .1 .0 ∙ c .before .before .before .before .before .before .before .before .before .before .before .before .before .before .loop .inv .0, items-next (c .before .before .before .before .before .before .before .before .before .before .before .before .before .before .before .before .before .before .before .before .args .close) (G.primary (wordsIn (c .before .before .before .before .before .before .before .before .before .before .before .before .before .before .before .before .before .before .before .before .args .reserved .now) (c .before .before .before .before .before .before .before .before .before .before .before .before .before .before .before .before .before .before .before .before .args .currencies .now) (c .before .before .before .before .before .before .before .before .before .before .before .before .before .before .before .before .before .before .before .before .args .counters .now)) (c .before .before .before .before .before .before .before .before .before .before .before .before .before .before .before .before .before .before .before .before .args .depth)) (primary-law (wordsIn (c .before .before .before .before .before .before .before .before .before .before .before .before .before .before .before .before .before .before .before .before .args .reserved .now) (c .before .before .before .before .before .before .before .before .before .before .before .before .before .before .before .before .before .before .before .before .args .currencies .now) (c .before .before .before .before .before .before .before .before .before .before .before .before .before .before .before .before .before .before .before .before .args .counters .now)) (c .before .before .before .before .before .before .before .before .before .before .before .before .before .before .before .before .before .before .before .before .args .depth)) (primary-size (wordsIn (c .before .before .before .before .before .before .before .before .before .before .before .before .before .before .before .before .before .before .before .before .args .reserved .now) (c .before .before .before .before .before .before .before .before .before .before .before .before .before .before .before .before .before .before .before .before .args .currencies .now) (c .before .before .before .before .before .before .before .before .before .before .before .before .before .before .before .before .before .before .before .before .args .counters .now)) (c .before .before .before .before .before .before .before .before .before .before .before .before .before .before .before .before .before .before .before .before .args .depth)) (c .before .before .before .before .before .before .before .before .before .before .before .before .before .before .before .before .before .before .before .before .args .s .now) _ _ _ _ _ _ _ _ (c .before .before .before .before .before .before .before .before .before .before .before .before .before .before .loop .inv .1) (c .before .before .before .before .before .before .before .before .before .before .before .before .if1 .left) _ _ _ _ (done-reads _ _ _ _ _ _ _ _ _ (c .before .before .before .before .before .before .r .given .1) (c .before .before .before .before .before .before .before .before .before .before .expression .ensures)) (c .before .before .f .given .0 .0) (follows-as _ _ _ _ _ (c .before .before .f .given .1) (c .before .before .before .before .follow .ensures)) (c .shown .result) (c .shown .ensures))
+items-loop-again t c =
+    let at-f = c .before .before in
+    let at-follow = at-f .before .before in
+    let at-r = at-follow .before .before in
+    let at-expression = at-r .before .before .before .before in
+    let at-if1 = at-expression .before .before in
+    let at-loop = at-if1 .before .before in
+    let args = at-loop .before .before .before .before .before .before .args in
+    let words = wordsIn (args .reserved .now) (args .currencies .now) (args .counters .now) in
+    (at-expression .expression .kept .1 .1 .1 .1 .1 .1 .0 ∙ at-loop .loop .inv .0, items-next (args .close) (G.primary words (args .depth)) (primary-law words (args .depth)) (primary-size words (args .depth)) (args .s .now) _ _ _ _ _ _ _ _ (at-loop .loop .inv .1) (at-if1 .if1 .left) _ _ _ _ (done-reads _ _ _ _ _ _ _ _ _ (at-r .r .given .1) (at-expression .expression .ensures)) (at-f .f .given .0 .0) (follows-as _ _ _ _ _ (at-f .f .given .1) (at-follow .follow .ensures)) (c .shown .result) (c .shown .ensures))
 
--- src/expressions.rt:309:9
 list-returns : (t : ℕ) → list-lts.Need-returns (
   items-below t,
   items.Post,
@@ -1463,9 +1661,11 @@ list-returns : (t : ℕ) → list-lts.Need-returns (
   postfixes-below t,
   postfixes.Post,
 ) (list-at t) list.Post
-list-returns t c = list-0 (wordsIn (c .before .before .before .before .before .before .args .reserved .now) (c .before .before .before .before .before .before .args .currencies .now) (c .before .before .before .before .before .before .args .counters .now)) (c .before .before .before .before .before .before .args .depth) (c .before .before .before .before .before .before .args .s .now) (c .before .before .before .before .before .before .args .c) (c .before .before .before .before .before .before .args .d) (c .before .before .before .before .before .before .pre .1 .1) (c .before .before .before .before .before .before .pre .1 .2) (c .if1 .taken)
+list-returns t c =
+    let start = c .before .before .before .before .before .before in
+    let args = start .args in
+    list-0 (wordsIn (args .reserved .now) (args .currencies .now) (args .counters .now)) (args .depth) (args .s .now) (args .c) (args .d) (start .pre .1 .1) (start .pre .1 .2) (c .if1 .taken)
 
--- src/expressions.rt:318:9
 list-sub-items : (t : ℕ) → list-lts.Need-sub-items (
   items-below t,
   items.Post,
@@ -1482,7 +1682,6 @@ list-sub-items : (t : ℕ) → list-lts.Need-sub-items (
 ) (list-at t) list.Post
 list-sub-items t c = omega (arith, c .if1 .left)
 
--- src/expressions.rt:311:9
 list-items-requires : (t : ℕ) → list-lts.Need-items-requires (
   items-below t,
   items.Post,
@@ -1497,9 +1696,12 @@ list-items-requires : (t : ℕ) → list-lts.Need-items-requires (
   postfixes-below t,
   postfixes.Post,
 ) (list-at t) list.Post
-list-items-requires t c κs = (omega (arith, c .before .before .before .before .before .before .before .pre .0, c .before .if1 .left), (list-ready (wordsIn (c .before .before .before .before .before .before .before .args .reserved .now) (c .before .before .before .before .before .before .before .args .currencies .now) (c .before .before .before .before .before .before .before .args .counters .now)) (c .before .before .before .before .before .before .before .args .depth) (c .before .before .before .before .before .before .before .args .s .now) (c .before .before .before .before .before .before .before .args .c) (c .before .before .before .before .before .before .before .args .d) (c .before .before .before .before .before .before .before .pre .1 .1) (c .before .before .before .before .before .before .before .pre .1 .2) (c .before .if1 .left) _ (c .before .before .before .before .before .before .before .pre .1 .0 .1), c .before .before .before .before .before .before .before .pre .1 .3, inr refl))
+list-items-requires t c κs =
+    let start = c .before .before .before .before .before .before .before in
+    let pre = start .pre in
+    let args = start .args in
+    (omega (arith, pre .0, c .before .if1 .left), (list-ready (wordsIn (args .reserved .now) (args .currencies .now) (args .counters .now)) (args .depth) (args .s .now) (args .c) (args .d) (pre .1 .1) (pre .1 .2) (c .before .if1 .left) _ (pre .1 .0 .1), pre .1 .3, inr refl))
 
--- src/expressions.rt:322:21
 list-enum-known-r : (t : ℕ) → list-lts.Need-enum-known-r (
   items-below t,
   items.Post,
@@ -1516,7 +1718,6 @@ list-enum-known-r : (t : ℕ) → list-lts.Need-enum-known-r (
 ) (list-at t) list.Post
 list-enum-known-r t c = search needs
 
--- src/expressions.rt:323:9
 list-enum-told : (t : ℕ) → list-lts.Need-enum-told (
   items-below t,
   items.Post,
@@ -1533,7 +1734,6 @@ list-enum-told : (t : ℕ) → list-lts.Need-enum-told (
 ) (list-at t) list.Post
 list-enum-told t c = search needs
 
--- src/expressions.rt:323:9
 list-refusal-requires : (t : ℕ) → list-lts.Need-refusal-requires (
   items-below t,
   items.Post,
@@ -1550,7 +1750,6 @@ list-refusal-requires : (t : ℕ) → list-lts.Need-refusal-requires (
 ) (list-at t) list.Post
 list-refusal-requires t c κs = search needs
 
--- src/expressions.rt:323:9
 list-same-length : (t : ℕ) → list-lts.Need-same-length (
   items-below t,
   items.Post,
@@ -1567,7 +1766,6 @@ list-same-length : (t : ℕ) → list-lts.Need-same-length (
 ) (list-at t) list.Post
 list-same-length t c = c .before .before .before .before .before .items .kept .1 .1 .1 .1 .1 .1 .1 .0
 
--- src/expressions.rt:323:9
 list-returns-2 : (t : ℕ) → list-lts.Need-returns-2 (
   items-below t,
   items.Post,
@@ -1582,9 +1780,13 @@ list-returns-2 : (t : ℕ) → list-lts.Need-returns-2 (
   postfixes-below t,
   postfixes.Post,
 ) (list-at t) list.Post
-list-returns-2 t c = refusal-on _ _ _ _ _ _ (c .refusal .result) _ _ _ _ _ _ (c .before .enum-told .given .1) (c .before .before .before .before .before .items .ensures .0) (c .refusal .ensures) (list-refused (wordsIn (c .before .before .before .before .before .before .before .before .before .before .before .before .before .args .reserved .now) (c .before .before .before .before .before .before .before .before .before .before .before .before .before .args .currencies .now) (c .before .before .before .before .before .before .before .before .before .before .before .before .before .args .counters .now)) (c .before .before .before .before .before .before .before .before .before .before .before .before .before .args .depth) (c .before .before .before .before .before .before .before .before .before .before .before .before .before .args .s .now) (c .before .before .before .before .before .before .before .before .before .before .before .before .before .args .c) (c .before .before .before .before .before .before .before .before .before .before .before .before .before .args .d) (c .before .before .before .before .before .before .before .before .before .before .before .before .before .pre .1 .1) (c .before .before .before .before .before .before .before .before .before .before .before .before .before .pre .1 .2) (c .before .before .before .before .before .before .before .if1 .left) _ _)
+list-returns-2 t c =
+    let at-items = c .before .before .before .before .before in
+    let at-if1 = at-items .before .before in
+    let start = at-if1 .before .before .before .before .before .before in
+    let args = start .args in
+    refusal-on _ _ _ _ _ _ (c .refusal .result) _ _ _ _ _ _ (c .before .enum-told .given .1) (at-items .items .ensures .0) (c .refusal .ensures) (list-refused (wordsIn (args .reserved .now) (args .currencies .now) (args .counters .now)) (args .depth) (args .s .now) (args .c) (args .d) (start .pre .1 .1) (start .pre .1 .2) (at-if1 .if1 .left) _ _)
 
--- src/expressions.rt:325:9
 list-next-requires : (t : ℕ) → list-lts.Need-next-requires (
   items-below t,
   items.Post,
@@ -1599,9 +1801,8 @@ list-next-requires : (t : ℕ) → list-lts.Need-next-requires (
   postfixes-below t,
   postfixes.Post,
 ) (list-at t) list.Post
-list-next-requires t c κs = done-items _ _ _ _ _ _ _ _ _ _ (c .before .r .given .1) (c .before .before .before .before .before .items .ensures .0) .holds
+list-next-requires t c κs = (done-items _ _ _ _ _ _ _ _ _ _ (c .before .r .given .1) (c .before .before .before .before .before .items .ensures .0)) .holds
 
--- src/expressions.rt:326:26
 list-sub-plain : (t : ℕ) → list-lts.Need-sub-plain (
   items-below t,
   items.Post,
@@ -1616,9 +1817,15 @@ list-sub-plain : (t : ℕ) → list-lts.Need-sub-plain (
   postfixes-below t,
   postfixes.Post,
 ) (list-at t) list.Post
-list-sub-plain t c = omega (arith, list-numbers (wordsIn (c .before .before .before .before .before .before .before .before .before .before .before .before .before .before .before .args .reserved .now) (c .before .before .before .before .before .before .before .before .before .before .before .before .before .before .before .args .currencies .now) (c .before .before .before .before .before .before .before .before .before .before .before .before .before .before .before .args .counters .now)) (c .before .before .before .before .before .before .before .before .before .before .before .before .before .before .before .args .depth) (c .before .before .before .before .before .before .before .before .before .before .before .before .before .before .before .args .s .now) (c .before .before .before .before .before .before .before .before .before .before .before .before .before .before .before .args .c) (c .before .before .before .before .before .before .before .before .before .before .before .before .before .before .before .args .d) (c .before .before .before .before .before .before .before .before .before .before .before .before .before .before .before .pre .1 .1) (c .before .before .before .before .before .before .before .before .before .before .before .before .before .before .before .pre .1 .2) (c .before .before .before .before .before .before .before .before .before .if1 .left) _ (c .before .before .before .before .before .before .before .before .before .before .before .before .before .before .before .pre .1 .0 .1) _ _ _ _ _ _ (done-items _ _ _ _ _ _ _ _ _ _ (c .before .before .before .r .given .1) (c .before .before .before .before .before .before .before .items .ensures .0)))
+list-sub-plain t c =
+    let at-r = c .before .before .before in
+    let at-items = at-r .before .before .before .before in
+    let at-if1 = at-items .before .before in
+    let start = at-if1 .before .before .before .before .before .before in
+    let args = start .args in
+    let pre = start .pre in
+    omega (arith, list-numbers (wordsIn (args .reserved .now) (args .currencies .now) (args .counters .now)) (args .depth) (args .s .now) (args .c) (args .d) (pre .1 .1) (pre .1 .2) (at-if1 .if1 .left) _ (pre .1 .0 .1) _ _ _ _ _ _ (done-items _ _ _ _ _ _ _ _ _ _ (at-r .r .given .1) (at-items .items .ensures .0)))
 
--- src/expressions.rt:326:26
 list-add-plain : (t : ℕ) → list-lts.Need-add-plain (
   items-below t,
   items.Post,
@@ -1633,9 +1840,15 @@ list-add-plain : (t : ℕ) → list-lts.Need-add-plain (
   postfixes-below t,
   postfixes.Post,
 ) (list-at t) list.Post
-list-add-plain t c = omega (arith, list-numbers (wordsIn (c .before .before .before .before .before .before .before .before .before .before .before .before .before .before .before .args .reserved .now) (c .before .before .before .before .before .before .before .before .before .before .before .before .before .before .before .args .currencies .now) (c .before .before .before .before .before .before .before .before .before .before .before .before .before .before .before .args .counters .now)) (c .before .before .before .before .before .before .before .before .before .before .before .before .before .before .before .args .depth) (c .before .before .before .before .before .before .before .before .before .before .before .before .before .before .before .args .s .now) (c .before .before .before .before .before .before .before .before .before .before .before .before .before .before .before .args .c) (c .before .before .before .before .before .before .before .before .before .before .before .before .before .before .before .args .d) (c .before .before .before .before .before .before .before .before .before .before .before .before .before .before .before .pre .1 .1) (c .before .before .before .before .before .before .before .before .before .before .before .before .before .before .before .pre .1 .2) (c .before .before .before .before .before .before .before .before .before .if1 .left) _ (c .before .before .before .before .before .before .before .before .before .before .before .before .before .before .before .pre .1 .0 .1) _ _ _ _ _ _ (done-items _ _ _ _ _ _ _ _ _ _ (c .before .before .before .r .given .1) (c .before .before .before .before .before .before .before .items .ensures .0)))
+list-add-plain t c =
+    let at-r = c .before .before .before in
+    let at-items = at-r .before .before .before .before in
+    let at-if1 = at-items .before .before in
+    let start = at-if1 .before .before .before .before .before .before in
+    let args = start .args in
+    let pre = start .pre in
+    omega (arith, list-numbers (wordsIn (args .reserved .now) (args .currencies .now) (args .counters .now)) (args .depth) (args .s .now) (args .c) (args .d) (pre .1 .1) (pre .1 .2) (at-if1 .if1 .left) _ (pre .1 .0 .1) _ _ _ _ _ _ (done-items _ _ _ _ _ _ _ _ _ _ (at-r .r .given .1) (at-items .items .ensures .0)))
 
--- src/expressions.rt:326:17
 list-plain-requires : (t : ℕ) → list-lts.Need-plain-requires (
   items-below t,
   items.Post,
@@ -1652,7 +1865,6 @@ list-plain-requires : (t : ℕ) → list-lts.Need-plain-requires (
 ) (list-at t) list.Post
 list-plain-requires t c κs = search needs
 
--- src/expressions.rt:326:5
 list-put-requires : (t : ℕ) → list-lts.Need-put-requires (
   items-below t,
   items.Post,
@@ -1669,7 +1881,6 @@ list-put-requires : (t : ℕ) → list-lts.Need-put-requires (
 ) (list-at t) list.Post
 list-put-requires t c κs = search needs
 
--- src/expressions.rt:327:68
 list-add-postfixes : (t : ℕ) → list-lts.Need-add-postfixes (
   items-below t,
   items.Post,
@@ -1684,9 +1895,15 @@ list-add-postfixes : (t : ℕ) → list-lts.Need-add-postfixes (
   postfixes-below t,
   postfixes.Post,
 ) (list-at t) list.Post
-list-add-postfixes t c = omega (arith, list-numbers (wordsIn (c .before .before .before .before .before .before .before .before .before .before .before .before .before .before .before .before .before .before .before .before .args .reserved .now) (c .before .before .before .before .before .before .before .before .before .before .before .before .before .before .before .before .before .before .before .before .args .currencies .now) (c .before .before .before .before .before .before .before .before .before .before .before .before .before .before .before .before .before .before .before .before .args .counters .now)) (c .before .before .before .before .before .before .before .before .before .before .before .before .before .before .before .before .before .before .before .before .args .depth) (c .before .before .before .before .before .before .before .before .before .before .before .before .before .before .before .before .before .before .before .before .args .s .now) (c .before .before .before .before .before .before .before .before .before .before .before .before .before .before .before .before .before .before .before .before .args .c) (c .before .before .before .before .before .before .before .before .before .before .before .before .before .before .before .before .before .before .before .before .args .d) (c .before .before .before .before .before .before .before .before .before .before .before .before .before .before .before .before .before .before .before .before .pre .1 .1) (c .before .before .before .before .before .before .before .before .before .before .before .before .before .before .before .before .before .before .before .before .pre .1 .2) (c .before .before .before .before .before .before .before .before .before .before .before .before .before .before .if1 .left) _ (c .before .before .before .before .before .before .before .before .before .before .before .before .before .before .before .before .before .before .before .before .pre .1 .0 .1) _ _ _ _ _ _ (done-items _ _ _ _ _ _ _ _ _ _ (c .before .before .before .before .before .before .before .before .r .given .1) (c .before .before .before .before .before .before .before .before .before .before .before .before .items .ensures .0)))
+list-add-postfixes t c =
+    let at-r = c .before .before .before .before .before .before .before .before in
+    let at-items = at-r .before .before .before .before in
+    let at-if1 = at-items .before .before in
+    let start = at-if1 .before .before .before .before .before .before in
+    let args = start .args in
+    let pre = start .pre in
+    omega (arith, list-numbers (wordsIn (args .reserved .now) (args .currencies .now) (args .counters .now)) (args .depth) (args .s .now) (args .c) (args .d) (pre .1 .1) (pre .1 .2) (at-if1 .if1 .left) _ (pre .1 .0 .1) _ _ _ _ _ _ (done-items _ _ _ _ _ _ _ _ _ _ (at-r .r .given .1) (at-items .items .ensures .0)))
 
--- src/expressions.rt:327:5
 list-postfixes-requires : (t : ℕ) → list-lts.Need-postfixes-requires (
   items-below t,
   items.Post,
@@ -1701,9 +1918,19 @@ list-postfixes-requires : (t : ℕ) → list-lts.Need-postfixes-requires (
   postfixes-below t,
   postfixes.Post,
 ) (list-at t) list.Post
-list-postfixes-requires t c κs = (omega (arith, c .before .before .before .before .before .before .before .before .before .before .before .before .before .before .before .before .before .before .before .before .pre .0), (list-after (wordsIn (c .before .before .before .before .before .before .before .before .before .before .before .before .before .before .before .before .before .before .before .before .args .reserved .now) (c .before .before .before .before .before .before .before .before .before .before .before .before .before .before .before .before .before .before .before .before .args .currencies .now) (c .before .before .before .before .before .before .before .before .before .before .before .before .before .before .before .before .before .before .before .before .args .counters .now)) (c .before .before .before .before .before .before .before .before .before .before .before .before .before .before .before .before .before .before .before .before .args .depth) (c .before .before .before .before .before .before .before .before .before .before .before .before .before .before .before .before .before .before .before .before .args .s .now) (c .before .before .before .before .before .before .before .before .before .before .before .before .before .before .before .before .before .before .before .before .args .c) (c .before .before .before .before .before .before .before .before .before .before .before .before .before .before .before .before .before .before .before .before .args .d) (c .before .before .before .before .before .before .before .before .before .before .before .before .before .before .before .before .before .before .before .before .pre .1 .1) (c .before .before .before .before .before .before .before .before .before .before .before .before .before .before .before .before .before .before .before .before .pre .1 .2) (c .before .before .before .before .before .before .before .before .before .before .before .before .before .before .if1 .left) _ (c .before .before .before .before .before .before .before .before .before .before .before .before .before .before .before .before .before .before .before .before .pre .1 .0 .1) _ _ _ _ _ _ (done-items _ _ _ _ _ _ _ _ _ _ (c .before .before .before .before .before .before .before .before .r .given .1) (c .before .before .before .before .before .before .before .before .before .before .before .before .items .ensures .0)) (closed-code _ _ _ _ _ _ (c .before .before .before .before .before .before .before .before .r .given .1) (c .before .before .before .before .before .before .before .before .before .before .before .before .items .ensures .1)) (c .before .before .before .before .before .before .next .result) (c .before .before .before .before .before .before .next .ensures), c .before .before .before .before .before .before .before .before .before .before .before .before .before .before .before .before .before .before .before .before .pre .1 .3, omega (arith, list-numbers (wordsIn (c .before .before .before .before .before .before .before .before .before .before .before .before .before .before .before .before .before .before .before .before .args .reserved .now) (c .before .before .before .before .before .before .before .before .before .before .before .before .before .before .before .before .before .before .before .before .args .currencies .now) (c .before .before .before .before .before .before .before .before .before .before .before .before .before .before .before .before .before .before .before .before .args .counters .now)) (c .before .before .before .before .before .before .before .before .before .before .before .before .before .before .before .before .before .before .before .before .args .depth) (c .before .before .before .before .before .before .before .before .before .before .before .before .before .before .before .before .before .before .before .before .args .s .now) (c .before .before .before .before .before .before .before .before .before .before .before .before .before .before .before .before .before .before .before .before .args .c) (c .before .before .before .before .before .before .before .before .before .before .before .before .before .before .before .before .before .before .before .before .args .d) (c .before .before .before .before .before .before .before .before .before .before .before .before .before .before .before .before .before .before .before .before .pre .1 .1) (c .before .before .before .before .before .before .before .before .before .before .before .before .before .before .before .before .before .before .before .before .pre .1 .2) (c .before .before .before .before .before .before .before .before .before .before .before .before .before .before .if1 .left) _ (c .before .before .before .before .before .before .before .before .before .before .before .before .before .before .before .before .before .before .before .before .pre .1 .0 .1) _ _ _ _ _ _ (done-items _ _ _ _ _ _ _ _ _ _ (c .before .before .before .before .before .before .before .before .r .given .1) (c .before .before .before .before .before .before .before .before .before .before .before .before .items .ensures .0)))))
+list-postfixes-requires t c κs =
+    let at-next = c .before .before .before .before .before .before in
+    let at-r = at-next .before .before in
+    let at-items = at-r .before .before .before .before in
+    let at-if1 = at-items .before .before in
+    let start = at-if1 .before .before .before .before .before .before in
+    let pre = start .pre in
+    let args = start .args in
+    let r = at-r .r in
+    let items = at-items .items in
+    let words = wordsIn (args .reserved .now) (args .currencies .now) (args .counters .now) in
+    (omega (arith, pre .0), (list-after words (args .depth) (args .s .now) (args .c) (args .d) (pre .1 .1) (pre .1 .2) (at-if1 .if1 .left) _ (pre .1 .0 .1) _ _ _ _ _ _ (done-items _ _ _ _ _ _ _ _ _ _ (r .given .1) (items .ensures .0)) (closed-code _ _ _ _ _ _ (r .given .1) (items .ensures .1)) (at-next .next .result) (at-next .next .ensures), pre .1 .3, omega (arith, list-numbers words (args .depth) (args .s .now) (args .c) (args .d) (pre .1 .1) (pre .1 .2) (at-if1 .if1 .left) _ (pre .1 .0 .1) _ _ _ _ _ _ (done-items _ _ _ _ _ _ _ _ _ _ (r .given .1) (items .ensures .0)))))
 
--- src/expressions.rt:294:1
 list-same-length-2 : (t : ℕ) → list-lts.Need-same-length-2 (
   items-below t,
   items.Post,
@@ -1718,9 +1945,11 @@ list-same-length-2 : (t : ℕ) → list-lts.Need-same-length-2 (
   postfixes-below t,
   postfixes.Post,
 ) (list-at t) list.Post
-list-same-length-2 t c = c .before .before .postfixes .kept .1 .1 .1 .1 .1 .1 .0 ∙ (c .before .before .before .before .before .before .put .kept .0 ∙ c .before .before .before .before .before .before .before .before .before .before .before .before .before .before .before .items .kept .1 .1 .1 .1 .1 .1 .1 .0)
+list-same-length-2 t c =
+    let at-postfixes = c .before .before in
+    let at-put = at-postfixes .before .before .before .before in
+    at-postfixes .postfixes .kept .1 .1 .1 .1 .1 .1 .0 ∙ (at-put .put .kept .0 ∙ at-put .before .before .before .before .before .before .before .before .before .items .kept .1 .1 .1 .1 .1 .1 .1 .0)
 
--- src/expressions.rt:294:1
 list-returns-3 : (t : ℕ) → list-lts.Need-returns-3 (
   items-below t,
   items.Post,
@@ -1735,9 +1964,21 @@ list-returns-3 : (t : ℕ) → list-lts.Need-returns-3 (
   postfixes-below t,
   postfixes.Post,
 ) (list-at t) list.Post
-list-returns-3 t c = meets-as _ _ _ _ _ (c .before .before .postfixes .result) _ (list-done (wordsIn (c .before .before .before .before .before .before .before .before .before .before .before .before .before .before .before .before .before .before .before .before .before .before .before .args .reserved .now) (c .before .before .before .before .before .before .before .before .before .before .before .before .before .before .before .before .before .before .before .before .before .before .before .args .currencies .now) (c .before .before .before .before .before .before .before .before .before .before .before .before .before .before .before .before .before .before .before .before .before .before .before .args .counters .now)) (c .before .before .before .before .before .before .before .before .before .before .before .before .before .before .before .before .before .before .before .before .before .before .before .args .depth) (c .before .before .before .before .before .before .before .before .before .before .before .before .before .before .before .before .before .before .before .before .before .before .before .args .s .now) (c .before .before .before .before .before .before .before .before .before .before .before .before .before .before .before .before .before .before .before .before .before .before .before .args .c) (c .before .before .before .before .before .before .before .before .before .before .before .before .before .before .before .before .before .before .before .before .before .before .before .args .d) (c .before .before .before .before .before .before .before .before .before .before .before .before .before .before .before .before .before .before .before .before .before .before .before .pre .1 .1) (c .before .before .before .before .before .before .before .before .before .before .before .before .before .before .before .before .before .before .before .before .before .before .before .pre .1 .2) (c .before .before .before .before .before .before .before .before .before .before .before .before .before .before .before .before .before .if1 .left) _ (c .before .before .before .before .before .before .before .before .before .before .before .before .before .before .before .before .before .before .before .before .before .before .before .pre .1 .0 .1) _ _ _ _ _ _ (done-items _ _ _ _ _ _ _ _ _ _ (c .before .before .before .before .before .before .before .before .before .before .before .r .given .1) (c .before .before .before .before .before .before .before .before .before .before .before .before .before .before .before .items .ensures .0)) (closed-code _ _ _ _ _ _ (c .before .before .before .before .before .before .before .before .before .before .before .r .given .1) (c .before .before .before .before .before .before .before .before .before .before .before .before .before .before .before .items .ensures .1)) (c .before .before .before .before .before .before .before .before .before .next .result) (c .before .before .before .before .before .before .before .before .before .next .ensures)) (c .before .before .postfixes .ensures _ _ (list-tops (wordsIn (c .before .before .before .before .before .before .before .before .before .before .before .before .before .before .before .before .before .before .before .before .before .before .before .args .reserved .now) (c .before .before .before .before .before .before .before .before .before .before .before .before .before .before .before .before .before .before .before .before .before .before .before .args .currencies .now) (c .before .before .before .before .before .before .before .before .before .before .before .before .before .before .before .before .before .before .before .before .before .before .before .args .counters .now)) (c .before .before .before .before .before .before .before .before .before .before .before .before .before .before .before .before .before .before .before .before .before .before .before .args .depth) (c .before .before .before .before .before .before .before .before .before .before .before .before .before .before .before .before .before .before .before .before .before .before .before .args .s .now) (c .before .before .before .before .before .before .before .before .before .before .before .before .before .before .before .before .before .before .before .before .before .before .before .args .c) (c .before .before .before .before .before .before .before .before .before .before .before .before .before .before .before .before .before .before .before .before .before .before .before .args .d) (c .before .before .before .before .before .before .before .before .before .before .before .before .before .before .before .before .before .before .before .before .before .before .before .pre .1 .1) (c .before .before .before .before .before .before .before .before .before .before .before .before .before .before .before .before .before .before .before .before .before .before .before .pre .1 .2) (c .before .before .before .before .before .before .before .before .before .before .before .before .before .before .before .before .before .if1 .left) _ (c .before .before .before .before .before .before .before .before .before .before .before .before .before .before .before .before .before .before .before .before .before .before .before .pre .1 .0 .1) _ _ _ _ _ _ (done-items _ _ _ _ _ _ _ _ _ _ (c .before .before .before .before .before .before .before .before .before .before .before .r .given .1) (c .before .before .before .before .before .before .before .before .before .before .before .before .before .before .before .items .ensures .0)) _ (put-fields _ _ _ _ _ _ _ _ _ (c .before .before .before .before .before .before .before .plain .ensures) (c .before .before .before .before .before .before .put .ensures))))
+list-returns-3 t c =
+    let at-postfixes = c .before .before in
+    let at-put = at-postfixes .before .before .before .before in
+    let at-next = at-put .before .before .before in
+    let at-r = at-next .before .before in
+    let at-items = at-r .before .before .before .before in
+    let at-if1 = at-items .before .before in
+    let start = at-if1 .before .before .before .before .before .before in
+    let args = start .args in
+    let pre = start .pre in
+    let r = at-r .r in
+    let items = at-items .items in
+    let words = wordsIn (args .reserved .now) (args .currencies .now) (args .counters .now) in
+    meets-as _ _ _ _ _ (at-postfixes .postfixes .result) _ (list-done words (args .depth) (args .s .now) (args .c) (args .d) (pre .1 .1) (pre .1 .2) (at-if1 .if1 .left) _ (pre .1 .0 .1) _ _ _ _ _ _ (done-items _ _ _ _ _ _ _ _ _ _ (r .given .1) (items .ensures .0)) (closed-code _ _ _ _ _ _ (r .given .1) (items .ensures .1)) (at-next .next .result) (at-next .next .ensures)) (at-postfixes .postfixes .ensures _ _ (list-tops words (args .depth) (args .s .now) (args .c) (args .d) (pre .1 .1) (pre .1 .2) (at-if1 .if1 .left) _ (pre .1 .0 .1) _ _ _ _ _ _ (done-items _ _ _ _ _ _ _ _ _ _ (r .given .1) (items .ensures .0)) _ (put-fields _ _ _ _ _ _ _ _ _ (at-put .before .plain .ensures) (at-put .put .ensures))))
 
--- src/expressions.rt:574:25
 method-take-requires : (t : ℕ) → method-lts.Need-take-requires (
   take-reads.Asked,
   take-reads.Learnt,
@@ -1754,7 +1995,6 @@ method-take-requires : (t : ℕ) → method-lts.Need-take-requires (
 ) (method-at t) method.Post
 method-take-requires t c κs = search needs
 
--- src/expressions.rt:574:20
 method-enum-known-d : (t : ℕ) → method-lts.Need-enum-known-d (
   take-reads.Asked,
   take-reads.Learnt,
@@ -1771,7 +2011,6 @@ method-enum-known-d : (t : ℕ) → method-lts.Need-enum-known-d (
 ) (method-at t) method.Post
 method-enum-known-d t c = search needs
 
--- src/expressions.rt:575:9
 method-enum-told : (t : ℕ) → method-lts.Need-enum-told (
   take-reads.Asked,
   take-reads.Learnt,
@@ -1788,7 +2027,6 @@ method-enum-told : (t : ℕ) → method-lts.Need-enum-told (
 ) (method-at t) method.Post
 method-enum-told t c = search needs
 
--- src/expressions.rt:575:9
 method-returns : (t : ℕ) → method-lts.Need-returns (
   take-reads.Asked,
   take-reads.Learnt,
@@ -1803,9 +2041,13 @@ method-returns : (t : ℕ) → method-lts.Need-returns (
   put-reads.Asked,
   put-reads.Learnt,
 ) (method-at t) method.Post
-method-returns t c = method-unnamed (inner (wordsIn (c .before .before .before .before .before .before .before .before .args .reserved .now) (c .before .before .before .before .before .before .before .before .args .currencies .now) (c .before .before .before .before .before .before .before .before .args .counters .now)) (c .before .before .before .before .before .before .before .before .args .depth)) (inner-sized (wordsIn (c .before .before .before .before .before .before .before .before .args .reserved .now) (c .before .before .before .before .before .before .before .before .args .currencies .now) (c .before .before .before .before .before .before .before .before .args .counters .now)) (c .before .before .before .before .before .before .before .before .args .depth)) (c .before .before .before .before .before .before .before .before .args .s .now) (c .before .before .before .before .before .before .before .before .args .c) (c .before .before .before .before .before .before .before .before .pre .1 .0 .0) (c .before .before .before .before .before .before .before .before .args .n) (c .before .before .before .before .before .before .before .before .args .m) (c .before .before .before .before .before .before .before .before .args .out .now) (c .before .before .take .result) _ (c .enum-told .given .1) (c .before .before .take .ensures) (c .before .before .before .before .before .before .before .before .args .out .now)
+method-returns t c =
+    let at-take = c .before .before in
+    let start = at-take .before .before .before .before .before .before in
+    let args = start .args in
+    let words = wordsIn (args .reserved .now) (args .currencies .now) (args .counters .now) in
+    method-unnamed (inner words (args .depth)) (inner-sized words (args .depth)) (args .s .now) (args .c) (start .pre .1 .0 .0) (args .n) (args .m) (args .out .now) (at-take .take .result) _ (c .enum-told .given .1) (at-take .take .ensures) (args .out .now)
 
--- src/expressions.rt:577:9
 method-arguments-requires : (t : ℕ) → method-lts.Need-arguments-requires (
   take-reads.Asked,
   take-reads.Learnt,
@@ -1820,9 +2062,15 @@ method-arguments-requires : (t : ℕ) → method-lts.Need-arguments-requires (
   put-reads.Asked,
   put-reads.Learnt,
 ) (method-at t) method.Post
-method-arguments-requires t c κs = (omega arith, (method-ready (inner (wordsIn (c .before .before .before .before .before .before .before .before .before .before .args .reserved .now) (c .before .before .before .before .before .before .before .before .before .before .args .currencies .now) (c .before .before .before .before .before .before .before .before .before .before .args .counters .now)) (c .before .before .before .before .before .before .before .before .before .before .args .depth)) (inner-sized (wordsIn (c .before .before .before .before .before .before .before .before .before .before .args .reserved .now) (c .before .before .before .before .before .before .before .before .before .before .args .currencies .now) (c .before .before .before .before .before .before .before .before .before .before .args .counters .now)) (c .before .before .before .before .before .before .before .before .before .before .args .depth)) (c .before .before .before .before .before .before .before .before .before .before .args .s .now) (c .before .before .before .before .before .before .before .before .before .before .args .c) (c .before .before .before .before .before .before .before .before .before .before .pre .1 .0 .0) (c .before .before .before .before .before .before .before .before .before .before .args .n) (c .before .before .before .before .before .before .before .before .before .before .args .m) (c .before .before .before .before .before .before .before .before .before .before .args .out .now) (c .before .before .before .before .take .result) _ (c .before .before .d .given .1) (c .before .before .before .before .take .ensures) (c .before .before .before .before .before .before .before .before .before .before .pre .1 .0 .1), c .before .before .before .before .before .before .before .before .before .before .pre .1 .1))
+method-arguments-requires t c κs =
+    let at-d = c .before .before in
+    let at-take = at-d .before .before in
+    let start = at-take .before .before .before .before .before .before in
+    let args = start .args in
+    let pre = start .pre in
+    let words = wordsIn (args .reserved .now) (args .currencies .now) (args .counters .now) in
+    (omega arith, (method-ready (inner words (args .depth)) (inner-sized words (args .depth)) (args .s .now) (args .c) (pre .1 .0 .0) (args .n) (args .m) (args .out .now) (at-take .take .result) _ (at-d .d .given .1) (at-take .take .ensures) (pre .1 .0 .1), pre .1 .1))
 
--- src/expressions.rt:578:21
 method-enum-known-r : (t : ℕ) → method-lts.Need-enum-known-r (
   take-reads.Asked,
   take-reads.Learnt,
@@ -1839,7 +2087,6 @@ method-enum-known-r : (t : ℕ) → method-lts.Need-enum-known-r (
 ) (method-at t) method.Post
 method-enum-known-r t c = search needs
 
--- src/expressions.rt:579:9
 method-enum-told-2 : (t : ℕ) → method-lts.Need-enum-told-2 (
   take-reads.Asked,
   take-reads.Learnt,
@@ -1856,7 +2103,6 @@ method-enum-told-2 : (t : ℕ) → method-lts.Need-enum-told-2 (
 ) (method-at t) method.Post
 method-enum-told-2 t c = search needs
 
--- src/expressions.rt:579:9
 method-refusal-requires : (t : ℕ) → method-lts.Need-refusal-requires (
   take-reads.Asked,
   take-reads.Learnt,
@@ -1873,7 +2119,6 @@ method-refusal-requires : (t : ℕ) → method-lts.Need-refusal-requires (
 ) (method-at t) method.Post
 method-refusal-requires t c κs = search needs
 
--- src/expressions.rt:579:9
 method-same-length : (t : ℕ) → method-lts.Need-same-length (
   take-reads.Asked,
   take-reads.Learnt,
@@ -1890,7 +2135,6 @@ method-same-length : (t : ℕ) → method-lts.Need-same-length (
 ) (method-at t) method.Post
 method-same-length t c = search needs
 
--- src/expressions.rt:579:9
 method-returns-2 : (t : ℕ) → method-lts.Need-returns-2 (
   take-reads.Asked,
   take-reads.Learnt,
@@ -1905,9 +2149,15 @@ method-returns-2 : (t : ℕ) → method-lts.Need-returns-2 (
   put-reads.Asked,
   put-reads.Learnt,
 ) (method-at t) method.Post
-method-returns-2 t c = method-refuses (inner (wordsIn (c .before .before .before .before .before .before .before .before .before .before .before .before .before .before .before .before .args .reserved .now) (c .before .before .before .before .before .before .before .before .before .before .before .before .before .before .before .before .args .currencies .now) (c .before .before .before .before .before .before .before .before .before .before .before .before .before .before .before .before .args .counters .now)) (c .before .before .before .before .before .before .before .before .before .before .before .before .before .before .before .before .args .depth)) (inner-sized (wordsIn (c .before .before .before .before .before .before .before .before .before .before .before .before .before .before .before .before .args .reserved .now) (c .before .before .before .before .before .before .before .before .before .before .before .before .before .before .before .before .args .currencies .now) (c .before .before .before .before .before .before .before .before .before .before .before .before .before .before .before .before .args .counters .now)) (c .before .before .before .before .before .before .before .before .before .before .before .before .before .before .before .before .args .depth)) (c .before .before .before .before .before .before .before .before .before .before .before .before .before .before .before .before .args .s .now) (c .before .before .before .before .before .before .before .before .before .before .before .before .before .before .before .before .args .c) (c .before .before .before .before .before .before .before .before .before .before .before .before .before .before .before .before .pre .1 .0 .0) (c .before .before .before .before .before .before .before .before .before .before .before .before .before .before .before .before .args .n) (c .before .before .before .before .before .before .before .before .before .before .before .before .before .before .before .before .args .m) (c .before .before .before .before .before .before .before .before .before .before .before .before .before .before .before .before .args .out .now) (c .before .before .before .before .before .before .before .before .before .before .take .result) _ (c .before .before .before .before .before .before .before .before .d .given .1) (c .before .before .before .before .before .before .before .before .before .before .take .ensures) _ (c .before .before .before .before .before .arguments .result) (c .refusal .result) _ _ (c .before .enum-told2 .given .1) (c .refusal .ensures) (c .before .before .before .before .before .arguments .ensures)
+method-returns-2 t c =
+    let at-arguments = c .before .before .before .before .before in
+    let at-d = at-arguments .before .before .before in
+    let at-take = at-d .before .before in
+    let start = at-take .before .before .before .before .before .before in
+    let args = start .args in
+    let words = wordsIn (args .reserved .now) (args .currencies .now) (args .counters .now) in
+    method-refuses (inner words (args .depth)) (inner-sized words (args .depth)) (args .s .now) (args .c) (start .pre .1 .0 .0) (args .n) (args .m) (args .out .now) (at-take .take .result) _ (at-d .d .given .1) (at-take .take .ensures) _ (at-arguments .arguments .result) (c .refusal .result) _ _ (c .before .enum-told2 .given .1) (c .refusal .ensures) (at-arguments .arguments .ensures)
 
--- src/expressions.rt:581:13
 method-cast-a : (t : ℕ) → method-lts.Need-cast-a (
   take-reads.Asked,
   take-reads.Learnt,
@@ -1924,7 +2174,6 @@ method-cast-a : (t : ℕ) → method-lts.Need-cast-a (
 ) (method-at t) method.Post
 method-cast-a t c = search needs
 
--- src/expressions.rt:582:13
 method-cast-b : (t : ℕ) → method-lts.Need-cast-b (
   take-reads.Asked,
   take-reads.Learnt,
@@ -1941,7 +2190,6 @@ method-cast-b : (t : ℕ) → method-lts.Need-cast-b (
 ) (method-at t) method.Post
 method-cast-b t c = search needs
 
--- src/expressions.rt:583:26
 method-sub-method-of : (t : ℕ) → method-lts.Need-sub-method-of (
   take-reads.Asked,
   take-reads.Learnt,
@@ -1956,9 +2204,10 @@ method-sub-method-of : (t : ℕ) → method-lts.Need-sub-method-of (
   put-reads.Asked,
   put-reads.Learnt,
 ) (method-at t) method.Post
-method-sub-method-of t c = omega (arith, start-in (c .before .before .before .before .before .before .before .before .before .before .before .before .before .before .before .before .before .before .pre .1 .0 .0), end-in (c .before .before .before .before .before .before .before .before .before .before .before .before .before .before .before .before .before .before .pre .1 .0 .0))
+method-sub-method-of t c =
+    let start = c .before .before .before .before .before .before .before .before .before .before .before .before .before .before .before .before .before .before in
+    omega (arith, start-in (start .pre .1 .0 .0), end-in (start .pre .1 .0 .0))
 
--- src/expressions.rt:583:26
 method-part-method-of-start : (t : ℕ) → method-lts.Need-part-method-of-start (
   take-reads.Asked,
   take-reads.Learnt,
@@ -1973,9 +2222,10 @@ method-part-method-of-start : (t : ℕ) → method-lts.Need-part-method-of-start
   put-reads.Asked,
   put-reads.Learnt,
 ) (method-at t) method.Post
-method-part-method-of-start t c = omega (arith, start-in (c .before .before .before .before .before .before .before .before .before .before .before .before .before .before .before .before .before .before .pre .1 .0 .0), end-in (c .before .before .before .before .before .before .before .before .before .before .before .before .before .before .before .before .before .before .pre .1 .0 .0))
+method-part-method-of-start t c =
+    let start = c .before .before .before .before .before .before .before .before .before .before .before .before .before .before .before .before .before .before in
+    omega (arith, start-in (start .pre .1 .0 .0), end-in (start .pre .1 .0 .0))
 
--- src/expressions.rt:583:26
 method-part-method-of-end : (t : ℕ) → method-lts.Need-part-method-of-end (
   take-reads.Asked,
   take-reads.Learnt,
@@ -1990,9 +2240,10 @@ method-part-method-of-end : (t : ℕ) → method-lts.Need-part-method-of-end (
   put-reads.Asked,
   put-reads.Learnt,
 ) (method-at t) method.Post
-method-part-method-of-end t c = omega (arith, start-in (c .before .before .before .before .before .before .before .before .before .before .before .before .before .before .before .before .before .before .pre .1 .0 .0), end-in (c .before .before .before .before .before .before .before .before .before .before .before .before .before .before .before .before .before .before .pre .1 .0 .0))
+method-part-method-of-end t c =
+    let start = c .before .before .before .before .before .before .before .before .before .before .before .before .before .before .before .before .before .before in
+    omega (arith, start-in (start .pre .1 .0 .0), end-in (start .pre .1 .0 .0))
 
--- src/expressions.rt:583:9
 method-method-of-requires : (t : ℕ) → method-lts.Need-method-of-requires (
   take-reads.Asked,
   take-reads.Learnt,
@@ -2009,7 +2260,6 @@ method-method-of-requires : (t : ℕ) → method-lts.Need-method-of-requires (
 ) (method-at t) method.Post
 method-method-of-requires t c κs = search needs
 
--- src/expressions.rt:585:9
 method-same-length-2 : (t : ℕ) → method-lts.Need-same-length-2 (
   take-reads.Asked,
   take-reads.Learnt,
@@ -2026,7 +2276,6 @@ method-same-length-2 : (t : ℕ) → method-lts.Need-same-length-2 (
 ) (method-at t) method.Post
 method-same-length-2 t c = search needs
 
--- src/expressions.rt:585:9
 method-returns-3 : (t : ℕ) → method-lts.Need-returns-3 (
   take-reads.Asked,
   take-reads.Learnt,
@@ -2041,9 +2290,16 @@ method-returns-3 : (t : ℕ) → method-lts.Need-returns-3 (
   put-reads.Asked,
   put-reads.Learnt,
 ) (method-at t) method.Post
-method-returns-3 t c = method-none (inner (wordsIn (c .before .before .before .before .before .before .before .before .before .before .before .before .before .before .before .before .before .before .before .before .before .args .reserved .now) (c .before .before .before .before .before .before .before .before .before .before .before .before .before .before .before .before .before .before .before .before .before .args .currencies .now) (c .before .before .before .before .before .before .before .before .before .before .before .before .before .before .before .before .before .before .before .before .before .args .counters .now)) (c .before .before .before .before .before .before .before .before .before .before .before .before .before .before .before .before .before .before .before .before .before .args .depth)) (inner-sized (wordsIn (c .before .before .before .before .before .before .before .before .before .before .before .before .before .before .before .before .before .before .before .before .before .args .reserved .now) (c .before .before .before .before .before .before .before .before .before .before .before .before .before .before .before .before .before .before .before .before .before .args .currencies .now) (c .before .before .before .before .before .before .before .before .before .before .before .before .before .before .before .before .before .before .before .before .before .args .counters .now)) (c .before .before .before .before .before .before .before .before .before .before .before .before .before .before .before .before .before .before .before .before .before .args .depth)) (c .before .before .before .before .before .before .before .before .before .before .before .before .before .before .before .before .before .before .before .before .before .args .s .now) (c .before .before .before .before .before .before .before .before .before .before .before .before .before .before .before .before .before .before .before .before .before .args .c) (c .before .before .before .before .before .before .before .before .before .before .before .before .before .before .before .before .before .before .before .before .before .pre .1 .0 .0) (c .before .before .before .before .before .before .before .before .before .before .before .before .before .before .before .before .before .before .before .before .before .args .n) (c .before .before .before .before .before .before .before .before .before .before .before .before .before .before .before .before .before .before .before .before .before .args .m) (c .before .before .before .before .before .before .before .before .before .before .before .before .before .before .before .before .before .before .before .before .before .args .out .now) (c .before .before .before .before .before .before .before .before .before .before .before .before .before .before .before .take .result) _ (c .before .before .before .before .before .before .before .before .before .before .before .before .before .d .given .1) (c .before .before .before .before .before .before .before .before .before .before .before .before .before .before .before .take .ensures) _ _ _ _ _ (done-items _ _ _ _ (c .before .before .before .before .before .before .before .before .before .before .arguments .result) _ _ _ _ _ (c .before .before .before .before .before .before .r .given .1) (c .before .before .before .before .before .before .before .before .before .before .arguments .ensures)) _ (c .before .method-of .ensures) (c .if1 .taken) (c .before .before .before .before .before .before .before .before .before .before .before .before .before .before .before .before .before .before .before .before .before .args .out .now)
+method-returns-3 t c =
+    let at-r = c .before .before .before .before .before .before in
+    let at-arguments = at-r .before .before .before .before in
+    let at-d = at-arguments .before .before .before in
+    let at-take = at-d .before .before in
+    let start = at-take .before .before .before .before .before .before in
+    let args = start .args in
+    let words = wordsIn (args .reserved .now) (args .currencies .now) (args .counters .now) in
+    method-none (inner words (args .depth)) (inner-sized words (args .depth)) (args .s .now) (args .c) (start .pre .1 .0 .0) (args .n) (args .m) (args .out .now) (at-take .take .result) _ (at-d .d .given .1) (at-take .take .ensures) _ _ _ _ _ (done-items _ _ _ _ (at-arguments .arguments .result) _ _ _ _ _ (at-r .r .given .1) (at-arguments .arguments .ensures)) _ (c .before .method-of .ensures) (c .if1 .taken) (args .out .now)
 
--- src/expressions.rt:587:29
 method-sub-plain : (t : ℕ) → method-lts.Need-sub-plain (
   take-reads.Asked,
   take-reads.Learnt,
@@ -2058,9 +2314,17 @@ method-sub-plain : (t : ℕ) → method-lts.Need-sub-plain (
   put-reads.Asked,
   put-reads.Learnt,
 ) (method-at t) method.Post
-method-sub-plain t c = omega (arith, method-numbers (inner (wordsIn (c .before .before .before .before .before .before .before .before .before .before .before .before .before .before .before .before .before .before .before .before .before .before .args .reserved .now) (c .before .before .before .before .before .before .before .before .before .before .before .before .before .before .before .before .before .before .before .before .before .before .args .currencies .now) (c .before .before .before .before .before .before .before .before .before .before .before .before .before .before .before .before .before .before .before .before .before .before .args .counters .now)) (c .before .before .before .before .before .before .before .before .before .before .before .before .before .before .before .before .before .before .before .before .before .before .args .depth)) (inner-sized (wordsIn (c .before .before .before .before .before .before .before .before .before .before .before .before .before .before .before .before .before .before .before .before .before .before .args .reserved .now) (c .before .before .before .before .before .before .before .before .before .before .before .before .before .before .before .before .before .before .before .before .before .before .args .currencies .now) (c .before .before .before .before .before .before .before .before .before .before .before .before .before .before .before .before .before .before .before .before .before .before .args .counters .now)) (c .before .before .before .before .before .before .before .before .before .before .before .before .before .before .before .before .before .before .before .before .before .before .args .depth)) (c .before .before .before .before .before .before .before .before .before .before .before .before .before .before .before .before .before .before .before .before .before .before .args .s .now) (c .before .before .before .before .before .before .before .before .before .before .before .before .before .before .before .before .before .before .before .before .before .before .args .c) (c .before .before .before .before .before .before .before .before .before .before .before .before .before .before .before .before .before .before .before .before .before .before .pre .1 .0 .0) (c .before .before .before .before .before .before .before .before .before .before .before .before .before .before .before .before .before .before .before .before .before .before .args .n) (c .before .before .before .before .before .before .before .before .before .before .before .before .before .before .before .before .before .before .before .before .before .before .args .m) (c .before .before .before .before .before .before .before .before .before .before .before .before .before .before .before .before .before .before .before .before .before .before .args .out .now) (c .before .before .before .before .before .before .before .before .before .before .before .before .before .before .before .before .take .result) _ (c .before .before .before .before .before .before .before .before .before .before .before .before .before .before .d .given .1) (c .before .before .before .before .before .before .before .before .before .before .before .before .before .before .before .before .take .ensures) _ _ _ _ _ (done-items _ _ _ _ (c .before .before .before .before .before .before .before .before .before .before .before .arguments .result) _ _ _ _ _ (c .before .before .before .before .before .before .before .r .given .1) (c .before .before .before .before .before .before .before .before .before .before .before .arguments .ensures)) (c .before .before .before .before .before .before .before .before .before .before .before .before .before .before .before .before .before .before .before .before .before .before .pre .1 .0 .1) (c .before .before .before .before .before .before .before .before .before .before .before .before .before .before .before .before .before .before .before .before .before .before .pre .1 .2))
+method-sub-plain t c =
+    let at-r = c .before .before .before .before .before .before .before in
+    let at-arguments = at-r .before .before .before .before in
+    let at-d = at-arguments .before .before .before in
+    let at-take = at-d .before .before in
+    let start = at-take .before .before .before .before .before .before in
+    let args = start .args in
+    let pre = start .pre in
+    let words = wordsIn (args .reserved .now) (args .currencies .now) (args .counters .now) in
+    omega (arith, method-numbers (inner words (args .depth)) (inner-sized words (args .depth)) (args .s .now) (args .c) (pre .1 .0 .0) (args .n) (args .m) (args .out .now) (at-take .take .result) _ (at-d .d .given .1) (at-take .take .ensures) _ _ _ _ _ (done-items _ _ _ _ (at-arguments .arguments .result) _ _ _ _ _ (at-r .r .given .1) (at-arguments .arguments .ensures)) (pre .1 .0 .1) (pre .1 .2))
 
--- src/expressions.rt:587:29
 method-add-plain : (t : ℕ) → method-lts.Need-add-plain (
   take-reads.Asked,
   take-reads.Learnt,
@@ -2075,9 +2339,17 @@ method-add-plain : (t : ℕ) → method-lts.Need-add-plain (
   put-reads.Asked,
   put-reads.Learnt,
 ) (method-at t) method.Post
-method-add-plain t c = omega (arith, method-numbers (inner (wordsIn (c .before .before .before .before .before .before .before .before .before .before .before .before .before .before .before .before .before .before .before .before .before .before .args .reserved .now) (c .before .before .before .before .before .before .before .before .before .before .before .before .before .before .before .before .before .before .before .before .before .before .args .currencies .now) (c .before .before .before .before .before .before .before .before .before .before .before .before .before .before .before .before .before .before .before .before .before .before .args .counters .now)) (c .before .before .before .before .before .before .before .before .before .before .before .before .before .before .before .before .before .before .before .before .before .before .args .depth)) (inner-sized (wordsIn (c .before .before .before .before .before .before .before .before .before .before .before .before .before .before .before .before .before .before .before .before .before .before .args .reserved .now) (c .before .before .before .before .before .before .before .before .before .before .before .before .before .before .before .before .before .before .before .before .before .before .args .currencies .now) (c .before .before .before .before .before .before .before .before .before .before .before .before .before .before .before .before .before .before .before .before .before .before .args .counters .now)) (c .before .before .before .before .before .before .before .before .before .before .before .before .before .before .before .before .before .before .before .before .before .before .args .depth)) (c .before .before .before .before .before .before .before .before .before .before .before .before .before .before .before .before .before .before .before .before .before .before .args .s .now) (c .before .before .before .before .before .before .before .before .before .before .before .before .before .before .before .before .before .before .before .before .before .before .args .c) (c .before .before .before .before .before .before .before .before .before .before .before .before .before .before .before .before .before .before .before .before .before .before .pre .1 .0 .0) (c .before .before .before .before .before .before .before .before .before .before .before .before .before .before .before .before .before .before .before .before .before .before .args .n) (c .before .before .before .before .before .before .before .before .before .before .before .before .before .before .before .before .before .before .before .before .before .before .args .m) (c .before .before .before .before .before .before .before .before .before .before .before .before .before .before .before .before .before .before .before .before .before .before .args .out .now) (c .before .before .before .before .before .before .before .before .before .before .before .before .before .before .before .before .take .result) _ (c .before .before .before .before .before .before .before .before .before .before .before .before .before .before .d .given .1) (c .before .before .before .before .before .before .before .before .before .before .before .before .before .before .before .before .take .ensures) _ _ _ _ _ (done-items _ _ _ _ (c .before .before .before .before .before .before .before .before .before .before .before .arguments .result) _ _ _ _ _ (c .before .before .before .before .before .before .before .r .given .1) (c .before .before .before .before .before .before .before .before .before .before .before .arguments .ensures)) (c .before .before .before .before .before .before .before .before .before .before .before .before .before .before .before .before .before .before .before .before .before .before .pre .1 .0 .1) (c .before .before .before .before .before .before .before .before .before .before .before .before .before .before .before .before .before .before .before .before .before .before .pre .1 .2))
+method-add-plain t c =
+    let at-r = c .before .before .before .before .before .before .before in
+    let at-arguments = at-r .before .before .before .before in
+    let at-d = at-arguments .before .before .before in
+    let at-take = at-d .before .before in
+    let start = at-take .before .before .before .before .before .before in
+    let args = start .args in
+    let pre = start .pre in
+    let words = wordsIn (args .reserved .now) (args .currencies .now) (args .counters .now) in
+    omega (arith, method-numbers (inner words (args .depth)) (inner-sized words (args .depth)) (args .s .now) (args .c) (pre .1 .0 .0) (args .n) (args .m) (args .out .now) (at-take .take .result) _ (at-d .d .given .1) (at-take .take .ensures) _ _ _ _ _ (done-items _ _ _ _ (at-arguments .arguments .result) _ _ _ _ _ (at-r .r .given .1) (at-arguments .arguments .ensures)) (pre .1 .0 .1) (pre .1 .2))
 
--- src/expressions.rt:587:40
 method-add-plain-2 : (t : ℕ) → method-lts.Need-add-plain-2 (
   take-reads.Asked,
   take-reads.Learnt,
@@ -2092,9 +2364,17 @@ method-add-plain-2 : (t : ℕ) → method-lts.Need-add-plain-2 (
   put-reads.Asked,
   put-reads.Learnt,
 ) (method-at t) method.Post
-method-add-plain-2 t c = omega (arith, method-numbers (inner (wordsIn (c .before .before .before .before .before .before .before .before .before .before .before .before .before .before .before .before .before .before .before .before .before .before .args .reserved .now) (c .before .before .before .before .before .before .before .before .before .before .before .before .before .before .before .before .before .before .before .before .before .before .args .currencies .now) (c .before .before .before .before .before .before .before .before .before .before .before .before .before .before .before .before .before .before .before .before .before .before .args .counters .now)) (c .before .before .before .before .before .before .before .before .before .before .before .before .before .before .before .before .before .before .before .before .before .before .args .depth)) (inner-sized (wordsIn (c .before .before .before .before .before .before .before .before .before .before .before .before .before .before .before .before .before .before .before .before .before .before .args .reserved .now) (c .before .before .before .before .before .before .before .before .before .before .before .before .before .before .before .before .before .before .before .before .before .before .args .currencies .now) (c .before .before .before .before .before .before .before .before .before .before .before .before .before .before .before .before .before .before .before .before .before .before .args .counters .now)) (c .before .before .before .before .before .before .before .before .before .before .before .before .before .before .before .before .before .before .before .before .before .before .args .depth)) (c .before .before .before .before .before .before .before .before .before .before .before .before .before .before .before .before .before .before .before .before .before .before .args .s .now) (c .before .before .before .before .before .before .before .before .before .before .before .before .before .before .before .before .before .before .before .before .before .before .args .c) (c .before .before .before .before .before .before .before .before .before .before .before .before .before .before .before .before .before .before .before .before .before .before .pre .1 .0 .0) (c .before .before .before .before .before .before .before .before .before .before .before .before .before .before .before .before .before .before .before .before .before .before .args .n) (c .before .before .before .before .before .before .before .before .before .before .before .before .before .before .before .before .before .before .before .before .before .before .args .m) (c .before .before .before .before .before .before .before .before .before .before .before .before .before .before .before .before .before .before .before .before .before .before .args .out .now) (c .before .before .before .before .before .before .before .before .before .before .before .before .before .before .before .before .take .result) _ (c .before .before .before .before .before .before .before .before .before .before .before .before .before .before .d .given .1) (c .before .before .before .before .before .before .before .before .before .before .before .before .before .before .before .before .take .ensures) _ _ _ _ _ (done-items _ _ _ _ (c .before .before .before .before .before .before .before .before .before .before .before .arguments .result) _ _ _ _ _ (c .before .before .before .before .before .before .before .r .given .1) (c .before .before .before .before .before .before .before .before .before .before .before .arguments .ensures)) (c .before .before .before .before .before .before .before .before .before .before .before .before .before .before .before .before .before .before .before .before .before .before .pre .1 .0 .1) (c .before .before .before .before .before .before .before .before .before .before .before .before .before .before .before .before .before .before .before .before .before .before .pre .1 .2))
+method-add-plain-2 t c =
+    let at-r = c .before .before .before .before .before .before .before in
+    let at-arguments = at-r .before .before .before .before in
+    let at-d = at-arguments .before .before .before in
+    let at-take = at-d .before .before in
+    let start = at-take .before .before .before .before .before .before in
+    let args = start .args in
+    let pre = start .pre in
+    let words = wordsIn (args .reserved .now) (args .currencies .now) (args .counters .now) in
+    omega (arith, method-numbers (inner words (args .depth)) (inner-sized words (args .depth)) (args .s .now) (args .c) (pre .1 .0 .0) (args .n) (args .m) (args .out .now) (at-take .take .result) _ (at-d .d .given .1) (at-take .take .ensures) _ _ _ _ _ (done-items _ _ _ _ (at-arguments .arguments .result) _ _ _ _ _ (at-r .r .given .1) (at-arguments .arguments .ensures)) (pre .1 .0 .1) (pre .1 .2))
 
--- src/expressions.rt:587:17
 method-plain-requires : (t : ℕ) → method-lts.Need-plain-requires (
   take-reads.Asked,
   take-reads.Learnt,
@@ -2111,7 +2391,6 @@ method-plain-requires : (t : ℕ) → method-lts.Need-plain-requires (
 ) (method-at t) method.Post
 method-plain-requires t c κs = search needs
 
--- src/expressions.rt:587:5
 method-put-requires : (t : ℕ) → method-lts.Need-put-requires (
   take-reads.Asked,
   take-reads.Learnt,
@@ -2128,7 +2407,6 @@ method-put-requires : (t : ℕ) → method-lts.Need-put-requires (
 ) (method-at t) method.Post
 method-put-requires t c κs = search needs
 
--- src/expressions.rt:588:19
 method-add-t30 : (t : ℕ) → method-lts.Need-add-t30 (
   take-reads.Asked,
   take-reads.Learnt,
@@ -2143,9 +2421,17 @@ method-add-t30 : (t : ℕ) → method-lts.Need-add-t30 (
   put-reads.Asked,
   put-reads.Learnt,
 ) (method-at t) method.Post
-method-add-t30 t c = omega (arith, method-numbers (inner (wordsIn (c .before .before .before .before .before .before .before .before .before .before .before .before .before .before .before .before .before .before .before .before .before .before .before .before .before .before .args .reserved .now) (c .before .before .before .before .before .before .before .before .before .before .before .before .before .before .before .before .before .before .before .before .before .before .before .before .before .before .args .currencies .now) (c .before .before .before .before .before .before .before .before .before .before .before .before .before .before .before .before .before .before .before .before .before .before .before .before .before .before .args .counters .now)) (c .before .before .before .before .before .before .before .before .before .before .before .before .before .before .before .before .before .before .before .before .before .before .before .before .before .before .args .depth)) (inner-sized (wordsIn (c .before .before .before .before .before .before .before .before .before .before .before .before .before .before .before .before .before .before .before .before .before .before .before .before .before .before .args .reserved .now) (c .before .before .before .before .before .before .before .before .before .before .before .before .before .before .before .before .before .before .before .before .before .before .before .before .before .before .args .currencies .now) (c .before .before .before .before .before .before .before .before .before .before .before .before .before .before .before .before .before .before .before .before .before .before .before .before .before .before .args .counters .now)) (c .before .before .before .before .before .before .before .before .before .before .before .before .before .before .before .before .before .before .before .before .before .before .before .before .before .before .args .depth)) (c .before .before .before .before .before .before .before .before .before .before .before .before .before .before .before .before .before .before .before .before .before .before .before .before .before .before .args .s .now) (c .before .before .before .before .before .before .before .before .before .before .before .before .before .before .before .before .before .before .before .before .before .before .before .before .before .before .args .c) (c .before .before .before .before .before .before .before .before .before .before .before .before .before .before .before .before .before .before .before .before .before .before .before .before .before .before .pre .1 .0 .0) (c .before .before .before .before .before .before .before .before .before .before .before .before .before .before .before .before .before .before .before .before .before .before .before .before .before .before .args .n) (c .before .before .before .before .before .before .before .before .before .before .before .before .before .before .before .before .before .before .before .before .before .before .before .before .before .before .args .m) (c .before .before .before .before .before .before .before .before .before .before .before .before .before .before .before .before .before .before .before .before .before .before .before .before .before .before .args .out .now) (c .before .before .before .before .before .before .before .before .before .before .before .before .before .before .before .before .before .before .before .before .take .result) _ (c .before .before .before .before .before .before .before .before .before .before .before .before .before .before .before .before .before .before .d .given .1) (c .before .before .before .before .before .before .before .before .before .before .before .before .before .before .before .before .before .before .before .before .take .ensures) _ _ _ _ _ (done-items _ _ _ _ (c .before .before .before .before .before .before .before .before .before .before .before .before .before .before .before .arguments .result) _ _ _ _ _ (c .before .before .before .before .before .before .before .before .before .before .before .r .given .1) (c .before .before .before .before .before .before .before .before .before .before .before .before .before .before .before .arguments .ensures)) (c .before .before .before .before .before .before .before .before .before .before .before .before .before .before .before .before .before .before .before .before .before .before .before .before .before .before .pre .1 .0 .1) (c .before .before .before .before .before .before .before .before .before .before .before .before .before .before .before .before .before .before .before .before .before .before .before .before .before .before .pre .1 .2))
+method-add-t30 t c =
+    let at-r = c .before .before .before .before .before .before .before .before .before .before .before in
+    let at-arguments = at-r .before .before .before .before in
+    let at-d = at-arguments .before .before .before in
+    let at-take = at-d .before .before in
+    let start = at-take .before .before .before .before .before .before in
+    let args = start .args in
+    let pre = start .pre in
+    let words = wordsIn (args .reserved .now) (args .currencies .now) (args .counters .now) in
+    omega (arith, method-numbers (inner words (args .depth)) (inner-sized words (args .depth)) (args .s .now) (args .c) (pre .1 .0 .0) (args .n) (args .m) (args .out .now) (at-take .take .result) _ (at-d .d .given .1) (at-take .take .ensures) _ _ _ _ _ (done-items _ _ _ _ (at-arguments .arguments .result) _ _ _ _ _ (at-r .r .given .1) (at-arguments .arguments .ensures)) (pre .1 .0 .1) (pre .1 .2))
 
--- src/expressions.rt:560:1
 method-same-length-3 : (t : ℕ) → method-lts.Need-same-length-3 (
   take-reads.Asked,
   take-reads.Learnt,
@@ -2162,7 +2448,6 @@ method-same-length-3 : (t : ℕ) → method-lts.Need-same-length-3 (
 ) (method-at t) method.Post
 method-same-length-3 t c = search needs
 
--- src/expressions.rt:560:1
 method-returns-4 : (t : ℕ) → method-lts.Need-returns-4 (
   take-reads.Asked,
   take-reads.Learnt,
@@ -2177,9 +2462,19 @@ method-returns-4 : (t : ℕ) → method-lts.Need-returns-4 (
   put-reads.Asked,
   put-reads.Learnt,
 ) (method-at t) method.Post
-method-returns-4 t c = method-reads (inner (wordsIn (c .before .before .before .before .before .before .before .before .before .before .before .before .before .before .before .before .before .before .before .before .before .before .before .before .before .before .args .reserved .now) (c .before .before .before .before .before .before .before .before .before .before .before .before .before .before .before .before .before .before .before .before .before .before .before .before .before .before .args .currencies .now) (c .before .before .before .before .before .before .before .before .before .before .before .before .before .before .before .before .before .before .before .before .before .before .before .before .before .before .args .counters .now)) (c .before .before .before .before .before .before .before .before .before .before .before .before .before .before .before .before .before .before .before .before .before .before .before .before .before .before .args .depth)) (inner-sized (wordsIn (c .before .before .before .before .before .before .before .before .before .before .before .before .before .before .before .before .before .before .before .before .before .before .before .before .before .before .args .reserved .now) (c .before .before .before .before .before .before .before .before .before .before .before .before .before .before .before .before .before .before .before .before .before .before .before .before .before .before .args .currencies .now) (c .before .before .before .before .before .before .before .before .before .before .before .before .before .before .before .before .before .before .before .before .before .before .before .before .before .before .args .counters .now)) (c .before .before .before .before .before .before .before .before .before .before .before .before .before .before .before .before .before .before .before .before .before .before .before .before .before .before .args .depth)) (c .before .before .before .before .before .before .before .before .before .before .before .before .before .before .before .before .before .before .before .before .before .before .before .before .before .before .args .s .now) (c .before .before .before .before .before .before .before .before .before .before .before .before .before .before .before .before .before .before .before .before .before .before .before .before .before .before .args .c) (c .before .before .before .before .before .before .before .before .before .before .before .before .before .before .before .before .before .before .before .before .before .before .before .before .before .before .pre .1 .0 .0) (c .before .before .before .before .before .before .before .before .before .before .before .before .before .before .before .before .before .before .before .before .before .before .before .before .before .before .args .n) (c .before .before .before .before .before .before .before .before .before .before .before .before .before .before .before .before .before .before .before .before .before .before .before .before .before .before .args .m) (c .before .before .before .before .before .before .before .before .before .before .before .before .before .before .before .before .before .before .before .before .before .before .before .before .before .before .args .out .now) (c .before .before .before .before .before .before .before .before .before .before .before .before .before .before .before .before .before .before .before .before .take .result) _ (c .before .before .before .before .before .before .before .before .before .before .before .before .before .before .before .before .before .before .d .given .1) (c .before .before .before .before .before .before .before .before .before .before .before .before .before .before .before .before .before .before .before .before .take .ensures) _ _ _ _ _ (done-items _ _ _ _ (c .before .before .before .before .before .before .before .before .before .before .before .before .before .before .before .arguments .result) _ _ _ _ _ (c .before .before .before .before .before .before .before .before .before .before .before .r .given .1) (c .before .before .before .before .before .before .before .before .before .before .before .before .before .before .before .arguments .ensures)) (c .before .before .before .before .before .before .before .before .before .before .before .before .before .before .before .before .before .before .before .before .before .before .before .before .before .before .pre .1 .0 .1) (c .before .before .before .before .before .before .before .before .before .before .before .before .before .before .before .before .before .before .before .before .before .before .before .before .before .before .pre .1 .2) _ (c .before .before .before .before .before .before .method-of .ensures) (c .before .before .before .before .before .if1 .left) _ (put-fields _ _ _ _ _ _ _ _ _ (c .before .before .before .plain .ensures) (c .before .before .put .ensures))
+method-returns-4 t c =
+    let at-put = c .before .before in
+    let at-if1 = at-put .before .before .before in
+    let at-r = at-if1 .before .before .before .before .before .before in
+    let at-arguments = at-r .before .before .before .before in
+    let at-d = at-arguments .before .before .before in
+    let at-take = at-d .before .before in
+    let start = at-take .before .before .before .before .before .before in
+    let args = start .args in
+    let pre = start .pre in
+    let words = wordsIn (args .reserved .now) (args .currencies .now) (args .counters .now) in
+    method-reads (inner words (args .depth)) (inner-sized words (args .depth)) (args .s .now) (args .c) (pre .1 .0 .0) (args .n) (args .m) (args .out .now) (at-take .take .result) _ (at-d .d .given .1) (at-take .take .ensures) _ _ _ _ _ (done-items _ _ _ _ (at-arguments .arguments .result) _ _ _ _ _ (at-r .r .given .1) (at-arguments .arguments .ensures)) (pre .1 .0 .1) (pre .1 .2) _ (at-if1 .before .method-of .ensures) (at-if1 .if1 .left) _ (put-fields _ _ _ _ _ _ _ _ _ (at-put .before .plain .ensures) (at-put .put .ensures))
 
--- src/expressions.rt:380:13
 name-cast-a : (t : ℕ) → name-lts.Need-cast-a (
   call-of-reads.Asked,
   call-of-reads.Learnt,
@@ -2194,7 +2489,6 @@ name-cast-a : (t : ℕ) → name-lts.Need-cast-a (
 ) (name-at t) name.Post
 name-cast-a t c = search needs
 
--- src/expressions.rt:381:13
 name-cast-e : (t : ℕ) → name-lts.Need-cast-e (
   call-of-reads.Asked,
   call-of-reads.Learnt,
@@ -2209,7 +2503,6 @@ name-cast-e : (t : ℕ) → name-lts.Need-cast-e (
 ) (name-at t) name.Post
 name-cast-e t c = search needs
 
--- src/expressions.rt:382:24
 name-sub-call-of : (t : ℕ) → name-lts.Need-sub-call-of (
   call-of-reads.Asked,
   call-of-reads.Learnt,
@@ -2222,9 +2515,10 @@ name-sub-call-of : (t : ℕ) → name-lts.Need-sub-call-of (
   call-below t,
   call.Post,
 ) (name-at t) name.Post
-name-sub-call-of t c = omega (arith, start-in (c .before .before .before .before .before .before .before .pre .1 .0 .0), end-in (c .before .before .before .before .before .before .before .pre .1 .0 .0))
+name-sub-call-of t c =
+    let start = c .before .before .before .before .before .before .before in
+    omega (arith, start-in (start .pre .1 .0 .0), end-in (start .pre .1 .0 .0))
 
--- src/expressions.rt:382:24
 name-part-call-of-start : (t : ℕ) → name-lts.Need-part-call-of-start (
   call-of-reads.Asked,
   call-of-reads.Learnt,
@@ -2237,9 +2531,10 @@ name-part-call-of-start : (t : ℕ) → name-lts.Need-part-call-of-start (
   call-below t,
   call.Post,
 ) (name-at t) name.Post
-name-part-call-of-start t c = omega (arith, start-in (c .before .before .before .before .before .before .before .pre .1 .0 .0), end-in (c .before .before .before .before .before .before .before .pre .1 .0 .0))
+name-part-call-of-start t c =
+    let start = c .before .before .before .before .before .before .before in
+    omega (arith, start-in (start .pre .1 .0 .0), end-in (start .pre .1 .0 .0))
 
--- src/expressions.rt:382:24
 name-part-call-of-end : (t : ℕ) → name-lts.Need-part-call-of-end (
   call-of-reads.Asked,
   call-of-reads.Learnt,
@@ -2252,9 +2547,10 @@ name-part-call-of-end : (t : ℕ) → name-lts.Need-part-call-of-end (
   call-below t,
   call.Post,
 ) (name-at t) name.Post
-name-part-call-of-end t c = omega (arith, start-in (c .before .before .before .before .before .before .before .pre .1 .0 .0), end-in (c .before .before .before .before .before .before .before .pre .1 .0 .0))
+name-part-call-of-end t c =
+    let start = c .before .before .before .before .before .before .before in
+    omega (arith, start-in (start .pre .1 .0 .0), end-in (start .pre .1 .0 .0))
 
--- src/expressions.rt:382:9
 name-call-of-requires : (t : ℕ) → name-lts.Need-call-of-requires (
   call-of-reads.Asked,
   call-of-reads.Learnt,
@@ -2269,7 +2565,6 @@ name-call-of-requires : (t : ℕ) → name-lts.Need-call-of-requires (
 ) (name-at t) name.Post
 name-call-of-requires t c κs = search needs
 
--- src/expressions.rt:384:13
 name-variable-at-requires : (t : ℕ) → name-lts.Need-variable-at-requires (
   call-of-reads.Asked,
   call-of-reads.Learnt,
@@ -2284,7 +2579,6 @@ name-variable-at-requires : (t : ℕ) → name-lts.Need-variable-at-requires (
 ) (name-at t) name.Post
 name-variable-at-requires t c κs = search needs
 
--- src/expressions.rt:385:24
 name-enum-known-r : (t : ℕ) → name-lts.Need-enum-known-r (
   call-of-reads.Asked,
   call-of-reads.Learnt,
@@ -2299,7 +2593,6 @@ name-enum-known-r : (t : ℕ) → name-lts.Need-enum-known-r (
 ) (name-at t) name.Post
 name-enum-known-r t c = search needs
 
--- src/expressions.rt:386:13
 name-enum-told : (t : ℕ) → name-lts.Need-enum-told (
   call-of-reads.Asked,
   call-of-reads.Learnt,
@@ -2314,7 +2607,6 @@ name-enum-told : (t : ℕ) → name-lts.Need-enum-told (
 ) (name-at t) name.Post
 name-enum-told t c = search needs
 
--- src/expressions.rt:386:13
 name-same-length : (t : ℕ) → name-lts.Need-same-length (
   call-of-reads.Asked,
   call-of-reads.Learnt,
@@ -2329,7 +2621,6 @@ name-same-length : (t : ℕ) → name-lts.Need-same-length (
 ) (name-at t) name.Post
 name-same-length t c = search needs
 
--- src/expressions.rt:386:13
 name-returns : (t : ℕ) → name-lts.Need-returns (
   call-of-reads.Asked,
   call-of-reads.Learnt,
@@ -2342,9 +2633,12 @@ name-returns : (t : ℕ) → name-lts.Need-returns (
   call-below t,
   call.Post,
 ) (name-at t) name.Post
-name-returns t c = name-refuses (c .before .before .before .before .before .before .before .before .before .before .before .before .before .before .before .before .args .reserved .now) (c .before .before .before .before .before .before .before .before .before .before .before .before .before .before .before .before .args .currencies .now) (c .before .before .before .before .before .before .before .before .before .before .before .before .before .before .before .before .args .counters .now) (inner (wordsIn (c .before .before .before .before .before .before .before .before .before .before .before .before .before .before .before .before .args .reserved .now) (c .before .before .before .before .before .before .before .before .before .before .before .before .before .before .before .before .args .currencies .now) (c .before .before .before .before .before .before .before .before .before .before .before .before .before .before .before .before .args .counters .now)) (c .before .before .before .before .before .before .before .before .before .before .before .before .before .before .before .before .args .depth)) (c .before .before .before .before .before .before .before .before .before .before .before .before .before .before .before .before .args .s .now) (c .before .before .before .before .before .before .before .before .before .before .before .before .before .before .before .before .args .c) (c .before .before .before .before .before .before .before .before .before .before .before .before .before .before .before .before .args .d) (c .before .before .before .before .before .before .before .before .before .before .before .before .before .before .before .before .args .n) (c .before .before .before .before .before .before .before .before .before .before .before .before .before .before .before .before .args .out .now) (c .before .before .before .before .before .before .before .call-of .result) (c .before .before .before .before .before .before .before .call-of .ensures) (c .before .before .before .before .before .before .if1 .taken) _ (c .before .before .before .before .variable-at .result) _ _ (c .enum-told .given .1) (c .before .before .before .before .variable-at .ensures)
+name-returns t c =
+    let at-variable-at = c .before .before .before .before in
+    let at-if1 = at-variable-at .before .before in
+    let args = at-if1 .before .before .before .before .before .before .before .before .before .before .args in
+    name-refuses (args .reserved .now) (args .currencies .now) (args .counters .now) (inner (wordsIn (args .reserved .now) (args .currencies .now) (args .counters .now)) (args .depth)) (args .s .now) (args .c) (args .d) (args .n) (args .out .now) (at-if1 .before .call-of .result) (at-if1 .before .call-of .ensures) (at-if1 .if1 .taken) _ (at-variable-at .variable-at .result) _ _ (c .enum-told .given .1) (at-variable-at .variable-at .ensures)
 
--- src/expressions.rt:388:9
 name-postfixes-requires : (t : ℕ) → name-lts.Need-postfixes-requires (
   call-of-reads.Asked,
   call-of-reads.Learnt,
@@ -2358,10 +2652,15 @@ name-postfixes-requires : (t : ℕ) → name-lts.Need-postfixes-requires (
   call.Post,
 ) (name-at t) name.Post
 name-postfixes-requires t c κs =
-    let g = name-numbers (c .before .before .before .before .before .before .before .before .before .before .before .before .before .before .before .before .before .before .args .reserved .now) (c .before .before .before .before .before .before .before .before .before .before .before .before .before .before .before .before .before .before .args .currencies .now) (c .before .before .before .before .before .before .before .before .before .before .before .before .before .before .before .before .before .before .args .counters .now) (inner (wordsIn (c .before .before .before .before .before .before .before .before .before .before .before .before .before .before .before .before .before .before .args .reserved .now) (c .before .before .before .before .before .before .before .before .before .before .before .before .before .before .before .before .before .before .args .currencies .now) (c .before .before .before .before .before .before .before .before .before .before .before .before .before .before .before .before .before .before .args .counters .now)) (c .before .before .before .before .before .before .before .before .before .before .before .before .before .before .before .before .before .before .args .depth)) (c .before .before .before .before .before .before .before .before .before .before .before .before .before .before .before .before .before .before .args .s .now) (c .before .before .before .before .before .before .before .before .before .before .before .before .before .before .before .before .before .before .args .c) (c .before .before .before .before .before .before .before .before .before .before .before .before .before .before .before .before .before .before .args .d) (c .before .before .before .before .before .before .before .before .before .before .before .before .before .before .before .before .before .before .args .n) (c .before .before .before .before .before .before .before .before .before .before .before .before .before .before .before .before .before .before .args .out .now) (c .before .before .before .before .before .before .before .before .before .call-of .result) (c .before .before .before .before .before .before .before .before .before .call-of .ensures) _ _ _ _ (done-reads _ _ _ _ (c .before .before .before .before .before .before .variable-at .result) _ _ _ _ (c .before .before .r .given .1) (c .before .before .before .before .before .before .variable-at .ensures)) (c .before .before .before .before .before .before .before .before .before .before .before .before .before .before .before .before .before .before .pre .1 .0 .1) (c .before .before .before .before .before .before .before .before .before .before .before .before .before .before .before .before .before .before .pre .1 .1) (c .before .before .before .before .before .before .before .before .before .before .before .before .before .before .before .before .before .before .pre .1 .2) in
-    (omega arith, (g .0, c .before .before .before .before .before .before .before .before .before .before .before .before .before .before .before .before .before .before .pre .1 .3, g .1))
+    let at-r = c .before .before in
+    let at-variable-at = at-r .before .before .before .before in
+    let at-call-of = at-variable-at .before .before .before in
+    let start = at-call-of .before .before .before .before .before .before .before .before .before in
+    let args = start .args in
+    let pre = start .pre in
+    let g = name-numbers (args .reserved .now) (args .currencies .now) (args .counters .now) (inner (wordsIn (args .reserved .now) (args .currencies .now) (args .counters .now)) (args .depth)) (args .s .now) (args .c) (args .d) (args .n) (args .out .now) (at-call-of .call-of .result) (at-call-of .call-of .ensures) _ _ _ _ (done-reads _ _ _ _ (at-variable-at .variable-at .result) _ _ _ _ (at-r .r .given .1) (at-variable-at .variable-at .ensures)) (pre .1 .0 .1) (pre .1 .1) (pre .1 .2) in
+    (omega arith, (g .0, pre .1 .3, g .1))
 
--- src/expressions.rt:388:9
 name-same-length-2 : (t : ℕ) → name-lts.Need-same-length-2 (
   call-of-reads.Asked,
   call-of-reads.Learnt,
@@ -2376,7 +2675,6 @@ name-same-length-2 : (t : ℕ) → name-lts.Need-same-length-2 (
 ) (name-at t) name.Post
 name-same-length-2 t c = search needs
 
--- src/expressions.rt:388:9
 name-returns-2 : (t : ℕ) → name-lts.Need-returns-2 (
   call-of-reads.Asked,
   call-of-reads.Learnt,
@@ -2389,9 +2687,14 @@ name-returns-2 : (t : ℕ) → name-lts.Need-returns-2 (
   call-below t,
   call.Post,
 ) (name-at t) name.Post
-name-returns-2 t c = name-reads (c .before .before .before .before .before .before .before .before .before .before .before .before .before .before .before .before .before .before .before .before .before .args .reserved .now) (c .before .before .before .before .before .before .before .before .before .before .before .before .before .before .before .before .before .before .before .before .before .args .currencies .now) (c .before .before .before .before .before .before .before .before .before .before .before .before .before .before .before .before .before .before .before .before .before .args .counters .now) (inner (wordsIn (c .before .before .before .before .before .before .before .before .before .before .before .before .before .before .before .before .before .before .before .before .before .args .reserved .now) (c .before .before .before .before .before .before .before .before .before .before .before .before .before .before .before .before .before .before .before .before .before .args .currencies .now) (c .before .before .before .before .before .before .before .before .before .before .before .before .before .before .before .before .before .before .before .before .before .args .counters .now)) (c .before .before .before .before .before .before .before .before .before .before .before .before .before .before .before .before .before .before .before .before .before .args .depth)) (c .before .before .before .before .before .before .before .before .before .before .before .before .before .before .before .before .before .before .before .before .before .args .s .now) (c .before .before .before .before .before .before .before .before .before .before .before .before .before .before .before .before .before .before .before .before .before .args .c) (c .before .before .before .before .before .before .before .before .before .before .before .before .before .before .before .before .before .before .before .before .before .args .d) (c .before .before .before .before .before .before .before .before .before .before .before .before .before .before .before .before .before .before .before .before .before .args .n) (c .before .before .before .before .before .before .before .before .before .before .before .before .before .before .before .before .before .before .before .before .before .args .out .now) (c .before .before .before .before .before .before .before .before .before .before .before .before .call-of .result) (c .before .before .before .before .before .before .before .before .before .before .before .before .call-of .ensures) _ _ _ _ (done-reads _ _ _ _ (c .before .before .before .before .before .before .before .before .before .variable-at .result) _ _ _ _ (c .before .before .before .before .before .r .given .1) (c .before .before .before .before .before .before .before .before .before .variable-at .ensures)) (c .before .before .before .before .before .before .before .before .before .before .before .if1 .taken) (c .before .before .postfixes .result) _ (c .before .before .postfixes .ensures)
+name-returns-2 t c =
+    let at-postfixes = c .before .before in
+    let at-r = at-postfixes .before .before .before in
+    let at-variable-at = at-r .before .before .before .before in
+    let at-if1 = at-variable-at .before .before in
+    let args = at-if1 .before .before .before .before .before .before .before .before .before .before .args in
+    name-reads (args .reserved .now) (args .currencies .now) (args .counters .now) (inner (wordsIn (args .reserved .now) (args .currencies .now) (args .counters .now)) (args .depth)) (args .s .now) (args .c) (args .d) (args .n) (args .out .now) (at-if1 .before .call-of .result) (at-if1 .before .call-of .ensures) _ _ _ _ (done-reads _ _ _ _ (at-variable-at .variable-at .result) _ _ _ _ (at-r .r .given .1) (at-variable-at .variable-at .ensures)) (at-if1 .if1 .taken) (at-postfixes .postfixes .result) _ (at-postfixes .postfixes .ensures)
 
--- src/expressions.rt:391:9
 name-special-requires : (t : ℕ) → name-lts.Need-special-requires (
   call-of-reads.Asked,
   call-of-reads.Learnt,
@@ -2404,9 +2707,12 @@ name-special-requires : (t : ℕ) → name-lts.Need-special-requires (
   call-below t,
   call.Post,
 ) (name-at t) name.Post
-name-special-requires t c κs = (ready-behind (c .before .before .before .before .before .before .before .before .before .before .before .before .args .s .now) (c .before .before .before .before .before .before .before .before .before .before .before .before .args .c) (c .before .before .before .before .before .before .before .before .before .before .before .before .args .d) (c .before .before .before .before .before .before .before .before .before .before .before .before .args .n) 0 (c .before .before .before .before .before .before .before .before .before .before .before .before .pre .1 .0 .1) (c .before .before .before .before .before .before .before .before .before .before .before .before .pre .1 .1) (c .before .before .before .before .before .before .before .before .before .before .before .before .pre .1 .2), c .before .before .before .before .before .before .before .before .before .before .before .before .pre .1 .3)
+name-special-requires t c κs =
+    let start = c .before .before .before .before .before .before .before .before .before .before .before .before in
+    let args = start .args in
+    let pre = start .pre in
+    (ready-behind (args .s .now) (args .c) (args .d) (args .n) 0 (pre .1 .0 .1) (pre .1 .1) (pre .1 .2), pre .1 .3)
 
--- src/expressions.rt:391:9
 name-same-length-3 : (t : ℕ) → name-lts.Need-same-length-3 (
   call-of-reads.Asked,
   call-of-reads.Learnt,
@@ -2421,7 +2727,6 @@ name-same-length-3 : (t : ℕ) → name-lts.Need-same-length-3 (
 ) (name-at t) name.Post
 name-same-length-3 t c = search needs
 
--- src/expressions.rt:391:9
 name-returns-3 : (t : ℕ) → name-lts.Need-returns-3 (
   call-of-reads.Asked,
   call-of-reads.Learnt,
@@ -2434,9 +2739,13 @@ name-returns-3 : (t : ℕ) → name-lts.Need-returns-3 (
   call-below t,
   call.Post,
 ) (name-at t) name.Post
-name-returns-3 t c = name-special (c .before .before .before .before .before .before .before .before .before .before .before .before .before .before .before .args .reserved .now) (c .before .before .before .before .before .before .before .before .before .before .before .before .before .before .before .args .currencies .now) (c .before .before .before .before .before .before .before .before .before .before .before .before .before .before .before .args .counters .now) (inner (wordsIn (c .before .before .before .before .before .before .before .before .before .before .before .before .before .before .before .args .reserved .now) (c .before .before .before .before .before .before .before .before .before .before .before .before .before .before .before .args .currencies .now) (c .before .before .before .before .before .before .before .before .before .before .before .before .before .before .before .args .counters .now)) (c .before .before .before .before .before .before .before .before .before .before .before .before .before .before .before .args .depth)) (c .before .before .before .before .before .before .before .before .before .before .before .before .before .before .before .args .s .now) (c .before .before .before .before .before .before .before .before .before .before .before .before .before .before .before .args .c) (c .before .before .before .before .before .before .before .before .before .before .before .before .before .before .before .args .d) (c .before .before .before .before .before .before .before .before .before .before .before .before .before .before .before .args .n) (c .before .before .before .before .before .before .before .before .before .before .before .before .before .before .before .args .out .now) (c .before .before .before .before .before .before .call-of .result) (c .before .before .before .before .before .before .call-of .ensures) (c .before .before .before .before .if2 .taken) (c .before .before .special .result) _ (c .before .before .special .ensures)
+name-returns-3 t c =
+    let at-special = c .before .before in
+    let at-if2 = at-special .before .before in
+    let at-call-of = at-if2 .before .before in
+    let args = at-call-of .before .before .before .before .before .before .before .before .before .args in
+    name-special (args .reserved .now) (args .currencies .now) (args .counters .now) (inner (wordsIn (args .reserved .now) (args .currencies .now) (args .counters .now)) (args .depth)) (args .s .now) (args .c) (args .d) (args .n) (args .out .now) (at-call-of .call-of .result) (at-call-of .call-of .ensures) (at-if2 .if2 .taken) (at-special .special .result) _ (at-special .special .ensures)
 
--- src/expressions.rt:393:5
 name-call-requires : (t : ℕ) → name-lts.Need-call-requires (
   call-of-reads.Asked,
   call-of-reads.Learnt,
@@ -2449,9 +2758,13 @@ name-call-requires : (t : ℕ) → name-lts.Need-call-requires (
   call-below t,
   call.Post,
 ) (name-at t) name.Post
-name-call-requires t c κs = (omega arith, (ready-behind (c .before .before .before .before .before .before .before .before .before .before .before .before .args .s .now) (c .before .before .before .before .before .before .before .before .before .before .before .before .args .c) (c .before .before .before .before .before .before .before .before .before .before .before .before .args .d) (c .before .before .before .before .before .before .before .before .before .before .before .before .args .n) 0 (c .before .before .before .before .before .before .before .before .before .before .before .before .pre .1 .0 .1) (c .before .before .before .before .before .before .before .before .before .before .before .before .pre .1 .1) (c .before .before .before .before .before .before .before .before .before .before .before .before .pre .1 .2), (c .before .before .before .before .before .before .before .before .before .before .before .before .pre .1 .0 .0), c .before .before .before .before .before .before .before .before .before .before .before .before .pre .1 .2, c .before .before .before .before .before .before .before .before .before .before .before .before .pre .1 .3, c .before .before .before .call-of .ensures, above _ (c .before .before .if1 .left), c .before .if2 .left))
+name-call-requires t c κs =
+    let at-if1 = c .before .before in
+    let start = at-if1 .before .before .before .before .before .before .before .before .before .before in
+    let args = start .args in
+    let pre = start .pre in
+    (omega arith, (ready-behind (args .s .now) (args .c) (args .d) (args .n) 0 (pre .1 .0 .1) (pre .1 .1) (pre .1 .2), (pre .1 .0 .0), pre .1 .2, pre .1 .3, at-if1 .before .call-of .ensures, above _ (at-if1 .if1 .left), c .before .if2 .left))
 
--- src/expressions.rt:366:1
 name-same-length-4 : (t : ℕ) → name-lts.Need-same-length-4 (
   call-of-reads.Asked,
   call-of-reads.Learnt,
@@ -2466,7 +2779,6 @@ name-same-length-4 : (t : ℕ) → name-lts.Need-same-length-4 (
 ) (name-at t) name.Post
 name-same-length-4 t c = search needs
 
--- src/expressions.rt:366:1
 name-returns-4 : (t : ℕ) → name-lts.Need-returns-4 (
   call-of-reads.Asked,
   call-of-reads.Learnt,
@@ -2479,18 +2791,24 @@ name-returns-4 : (t : ℕ) → name-lts.Need-returns-4 (
   call-below t,
   call.Post,
 ) (name-at t) name.Post
-name-returns-4 t c = name-call (c .before .before .before .before .before .before .before .before .before .before .before .before .before .before .before .args .reserved .now) (c .before .before .before .before .before .before .before .before .before .before .before .before .before .before .before .args .currencies .now) (c .before .before .before .before .before .before .before .before .before .before .before .before .before .before .before .args .counters .now) (inner (wordsIn (c .before .before .before .before .before .before .before .before .before .before .before .before .before .before .before .args .reserved .now) (c .before .before .before .before .before .before .before .before .before .before .before .before .before .before .before .args .currencies .now) (c .before .before .before .before .before .before .before .before .before .before .before .before .before .before .before .args .counters .now)) (c .before .before .before .before .before .before .before .before .before .before .before .before .before .before .before .args .depth)) (c .before .before .before .before .before .before .before .before .before .before .before .before .before .before .before .args .s .now) (c .before .before .before .before .before .before .before .before .before .before .before .before .before .before .before .args .c) (c .before .before .before .before .before .before .before .before .before .before .before .before .before .before .before .args .d) (c .before .before .before .before .before .before .before .before .before .before .before .before .before .before .before .args .n) (c .before .before .before .before .before .before .before .before .before .before .before .before .before .before .before .args .out .now) (c .before .before .before .before .before .before .call-of .result) (c .before .before .before .before .before .before .call-of .ensures) (c .before .before .before .before .before .if1 .left) (c .before .before .before .before .if2 .left) (c .before .before .call .result) _ (c .before .before .call .ensures)
+name-returns-4 t c =
+    let at-call = c .before .before in
+    let at-if2 = at-call .before .before in
+    let at-call-of = at-if2 .before .before in
+    let args = at-call-of .before .before .before .before .before .before .before .before .before .args in
+    name-call (args .reserved .now) (args .currencies .now) (args .counters .now) (inner (wordsIn (args .reserved .now) (args .currencies .now) (args .counters .now)) (args .depth)) (args .s .now) (args .c) (args .d) (args .n) (args .out .now) (at-call-of .call-of .result) (at-call-of .call-of .ensures) (at-if2 .before .if1 .left) (at-if2 .if2 .left) (at-call .call .result) _ (at-call .call .ensures)
 
--- src/expressions.rt:281:9
 parenthesis-returns : (t : ℕ) → parenthesis-lts.Need-returns (
   expression-below t,
   expression.Post,
   take-reads.Asked,
   take-reads.Learnt,
 ) (parenthesis-at t) parenthesis.Post
-parenthesis-returns t c = parenthesis-deep (wordsIn (c .before .before .before .before .before .before .args .reserved .now) (c .before .before .before .before .before .before .args .currencies .now) (c .before .before .before .before .before .before .args .counters .now)) (c .before .before .before .before .before .before .args .s .now) (c .before .before .before .before .before .before .args .c) (c .before .before .before .before .before .before .args .d) (c .before .before .before .before .before .before .args .n) (c .before .before .before .before .before .before .args .out .now) (c .before .before .before .before .before .before .args .depth) (c .before .before .before .before .before .before .pre .1 .1) (λ z. omega (arith, z, c .before .before .before .before .before .before .pre .1 .2)) (c .if1 .taken)
+parenthesis-returns t c =
+    let start = c .before .before .before .before .before .before in
+    let args = start .args in
+    parenthesis-deep (wordsIn (args .reserved .now) (args .currencies .now) (args .counters .now)) (args .s .now) (args .c) (args .d) (args .n) (args .out .now) (args .depth) (start .pre .1 .1) (λ z. omega (arith, z, start .pre .1 .2)) (c .if1 .taken)
 
--- src/expressions.rt:283:62
 parenthesis-sub-expression : (t : ℕ) → parenthesis-lts.Need-sub-expression (
   expression-below t,
   expression.Post,
@@ -2499,16 +2817,17 @@ parenthesis-sub-expression : (t : ℕ) → parenthesis-lts.Need-sub-expression (
 ) (parenthesis-at t) parenthesis.Post
 parenthesis-sub-expression t c = search needs
 
--- src/expressions.rt:283:9
 parenthesis-expression-requires : (t : ℕ) → parenthesis-lts.Need-expression-requires (
   expression-below t,
   expression.Post,
   take-reads.Asked,
   take-reads.Learnt,
 ) (parenthesis-at t) parenthesis.Post
-parenthesis-expression-requires t c κs = (omega arith, (follow-ready _ (c .before .before .before .before .before .before .before .args .c) (c .before .before .before .before .before .before .before .args .d) _ (λ z. omega (arith, z, c .before .before .before .before .before .before .before .pre .1 .2)) (c .before .before .before .before .before .before .before .pre .1 .1) (c .before .before .before .before .before .before .before .pre .1 .0) .0, c .before .before .before .before .before .before .before .pre .1 .3))
+parenthesis-expression-requires t c κs =
+    let start = c .before .before .before .before .before .before .before in
+    let pre = start .pre in
+    (omega arith, (follow-ready _ (start .args .c) (start .args .d) _ (λ z. omega (arith, z, pre .1 .2)) (pre .1 .1) (pre .1 .0) .0, pre .1 .3))
 
--- src/expressions.rt:284:20
 parenthesis-enum-known-r : (t : ℕ) → parenthesis-lts.Need-enum-known-r (
   expression-below t,
   expression.Post,
@@ -2517,7 +2836,6 @@ parenthesis-enum-known-r : (t : ℕ) → parenthesis-lts.Need-enum-known-r (
 ) (parenthesis-at t) parenthesis.Post
 parenthesis-enum-known-r t c = search needs
 
--- src/expressions.rt:285:9
 parenthesis-enum-told : (t : ℕ) → parenthesis-lts.Need-enum-told (
   expression-below t,
   expression.Post,
@@ -2526,7 +2844,6 @@ parenthesis-enum-told : (t : ℕ) → parenthesis-lts.Need-enum-told (
 ) (parenthesis-at t) parenthesis.Post
 parenthesis-enum-told t c = search needs
 
--- src/expressions.rt:285:9
 parenthesis-same-length : (t : ℕ) → parenthesis-lts.Need-same-length (
   expression-below t,
   expression.Post,
@@ -2535,16 +2852,19 @@ parenthesis-same-length : (t : ℕ) → parenthesis-lts.Need-same-length (
 ) (parenthesis-at t) parenthesis.Post
 parenthesis-same-length t c = search needs
 
--- src/expressions.rt:285:9
 parenthesis-returns-2 : (t : ℕ) → parenthesis-lts.Need-returns-2 (
   expression-below t,
   expression.Post,
   take-reads.Asked,
   take-reads.Learnt,
 ) (parenthesis-at t) parenthesis.Post
-parenthesis-returns-2 t c = refused-on _ _ _ _ _ _ _ _ _ _ _ _ (c .enum-told .given .1) (c .before .before .before .before .expression .ensures) (parenthesis-refused (wordsIn (c .before .before .before .before .before .before .before .before .before .before .before .before .args .reserved .now) (c .before .before .before .before .before .before .before .before .before .before .before .before .args .currencies .now) (c .before .before .before .before .before .before .before .before .before .before .before .before .args .counters .now)) (c .before .before .before .before .before .before .before .before .before .before .before .before .args .s .now) (c .before .before .before .before .before .before .before .before .before .before .before .before .args .c) (c .before .before .before .before .before .before .before .before .before .before .before .before .args .d) (c .before .before .before .before .before .before .before .before .before .before .before .before .args .n) (c .before .before .before .before .before .before .before .before .before .before .before .before .args .out .now) (c .before .before .before .before .before .before .before .before .before .before .before .before .args .depth) (c .before .before .before .before .before .before .before .before .before .before .before .before .pre .1 .1) (λ z. omega (arith, z, c .before .before .before .before .before .before .before .before .before .before .before .before .pre .1 .2)) (c .before .before .before .before .before .before .if1 .left) _ _)
+parenthesis-returns-2 t c =
+    let at-expression = c .before .before .before .before in
+    let at-if1 = at-expression .before .before in
+    let start = at-if1 .before .before .before .before .before .before in
+    let args = start .args in
+    refused-on _ _ _ _ _ _ _ _ _ _ _ _ (c .enum-told .given .1) (at-expression .expression .ensures) (parenthesis-refused (wordsIn (args .reserved .now) (args .currencies .now) (args .counters .now)) (args .s .now) (args .c) (args .d) (args .n) (args .out .now) (args .depth) (start .pre .1 .1) (λ z. omega (arith, z, start .pre .1 .2)) (at-if1 .if1 .left) _ _)
 
--- src/expressions.rt:287:11
 parenthesis-take-requires : (t : ℕ) → parenthesis-lts.Need-take-requires (
   expression-below t,
   expression.Post,
@@ -2553,7 +2873,6 @@ parenthesis-take-requires : (t : ℕ) → parenthesis-lts.Need-take-requires (
 ) (parenthesis-at t) parenthesis.Post
 parenthesis-take-requires t c κs = ((done-reads _ _ _ _ _ _ _ _ _ (c .before .r .given .1) (c .before .before .before .before .before .expression .ensures)) .holds, λ z. omega arith)
 
--- src/expressions.rt:288:19
 parenthesis-enum-known-b : (t : ℕ) → parenthesis-lts.Need-enum-known-b (
   expression-below t,
   expression.Post,
@@ -2562,7 +2881,6 @@ parenthesis-enum-known-b : (t : ℕ) → parenthesis-lts.Need-enum-known-b (
 ) (parenthesis-at t) parenthesis.Post
 parenthesis-enum-known-b t c = search needs
 
--- src/expressions.rt:289:20
 parenthesis-enum-known-f : (t : ℕ) → parenthesis-lts.Need-enum-known-f (
   expression-below t,
   expression.Post,
@@ -2571,7 +2889,6 @@ parenthesis-enum-known-f : (t : ℕ) → parenthesis-lts.Need-enum-known-f (
 ) (parenthesis-at t) parenthesis.Post
 parenthesis-enum-known-f t c = search needs
 
--- src/expressions.rt:266:1
 parenthesis-same-length-2 : (t : ℕ) → parenthesis-lts.Need-same-length-2 (
   expression-below t,
   expression.Post,
@@ -2580,16 +2897,21 @@ parenthesis-same-length-2 : (t : ℕ) → parenthesis-lts.Need-same-length-2 (
 ) (parenthesis-at t) parenthesis.Post
 parenthesis-same-length-2 t c = search needs
 
--- src/expressions.rt:266:1
 parenthesis-returns-3 : (t : ℕ) → parenthesis-lts.Need-returns-3 (
   expression-below t,
   expression.Post,
   take-reads.Asked,
   take-reads.Learnt,
 ) (parenthesis-at t) parenthesis.Post
-parenthesis-returns-3 t c = parenthesis-open (wordsIn (c .before .before .before .before .before .before .before .before .before .before .before .before .before .before .before .before .before .args .reserved .now) (c .before .before .before .before .before .before .before .before .before .before .before .before .before .before .before .before .before .args .currencies .now) (c .before .before .before .before .before .before .before .before .before .before .before .before .before .before .before .before .before .args .counters .now)) (c .before .before .before .before .before .before .before .before .before .before .before .before .before .before .before .before .before .args .s .now) (c .before .before .before .before .before .before .before .before .before .before .before .before .before .before .before .before .before .args .c) (c .before .before .before .before .before .before .before .before .before .before .before .before .before .before .before .before .before .args .d) (c .before .before .before .before .before .before .before .before .before .before .before .before .before .before .before .before .before .args .n) (c .before .before .before .before .before .before .before .before .before .before .before .before .before .before .before .before .before .args .out .now) (c .before .before .before .before .before .before .before .before .before .before .before .before .before .before .before .before .before .args .depth) (c .before .before .before .before .before .before .before .before .before .before .before .before .before .before .before .before .before .pre .1 .1) (λ z. omega (arith, z, c .before .before .before .before .before .before .before .before .before .before .before .before .before .before .before .before .before .pre .1 .2)) (c .before .before .before .before .before .before .before .before .before .before .before .if1 .left) _ _ _ _ (done-reads _ _ _ _ _ _ _ _ _ (c .before .before .before .before .before .r .given .1) (c .before .before .before .before .before .before .before .before .before .expression .ensures)) _ (takes-as _ _ _ (c .before .b .given .1) (c .before .before .before .take .ensures))
+parenthesis-returns-3 t c =
+    let at-take = c .before .before .before in
+    let at-r = at-take .before .before in
+    let at-expression = at-r .before .before .before .before in
+    let at-if1 = at-expression .before .before in
+    let start = at-if1 .before .before .before .before .before .before in
+    let args = start .args in
+    parenthesis-open (wordsIn (args .reserved .now) (args .currencies .now) (args .counters .now)) (args .s .now) (args .c) (args .d) (args .n) (args .out .now) (args .depth) (start .pre .1 .1) (λ z. omega (arith, z, start .pre .1 .2)) (at-if1 .if1 .left) _ _ _ _ (done-reads _ _ _ _ _ _ _ _ _ (at-r .r .given .1) (at-expression .expression .ensures)) _ (takes-as _ _ _ (c .before .b .given .1) (at-take .take .ensures))
 
--- src/expressions.rt:266:1
 parenthesis-same-length-3 : (t : ℕ) → parenthesis-lts.Need-same-length-3 (
   expression-below t,
   expression.Post,
@@ -2598,14 +2920,20 @@ parenthesis-same-length-3 : (t : ℕ) → parenthesis-lts.Need-same-length-3 (
 ) (parenthesis-at t) parenthesis.Post
 parenthesis-same-length-3 t c = search needs
 
--- src/expressions.rt:266:1
 parenthesis-returns-4 : (t : ℕ) → parenthesis-lts.Need-returns-4 (
   expression-below t,
   expression.Post,
   take-reads.Asked,
   take-reads.Learnt,
 ) (parenthesis-at t) parenthesis.Post
-parenthesis-returns-4 t c = parenthesis-closed (wordsIn (c .before .before .before .before .before .before .before .before .before .before .before .before .before .before .before .before .before .args .reserved .now) (c .before .before .before .before .before .before .before .before .before .before .before .before .before .before .before .before .before .args .currencies .now) (c .before .before .before .before .before .before .before .before .before .before .before .before .before .before .before .before .before .args .counters .now)) (c .before .before .before .before .before .before .before .before .before .before .before .before .before .before .before .before .before .args .s .now) (c .before .before .before .before .before .before .before .before .before .before .before .before .before .before .before .before .before .args .c) (c .before .before .before .before .before .before .before .before .before .before .before .before .before .before .before .before .before .args .d) (c .before .before .before .before .before .before .before .before .before .before .before .before .before .before .before .before .before .args .n) (c .before .before .before .before .before .before .before .before .before .before .before .before .before .before .before .before .before .args .out .now) (c .before .before .before .before .before .before .before .before .before .before .before .before .before .before .before .before .before .args .depth) (c .before .before .before .before .before .before .before .before .before .before .before .before .before .before .before .before .before .pre .1 .1) (λ z. omega (arith, z, c .before .before .before .before .before .before .before .before .before .before .before .before .before .before .before .before .before .pre .1 .2)) (c .before .before .before .before .before .before .before .before .before .before .before .if1 .left) _ _ _ _ (done-reads _ _ _ _ _ _ _ _ _ (c .before .before .before .before .before .r .given .1) (c .before .before .before .before .before .before .before .before .before .expression .ensures)) _ (takes-as _ _ _ (c .before .f .given .1) (c .before .before .before .take .ensures))
+parenthesis-returns-4 t c =
+    let at-take = c .before .before .before in
+    let at-r = at-take .before .before in
+    let at-expression = at-r .before .before .before .before in
+    let at-if1 = at-expression .before .before in
+    let start = at-if1 .before .before .before .before .before .before in
+    let args = start .args in
+    parenthesis-closed (wordsIn (args .reserved .now) (args .currencies .now) (args .counters .now)) (args .s .now) (args .c) (args .d) (args .n) (args .out .now) (args .depth) (start .pre .1 .1) (λ z. omega (arith, z, start .pre .1 .2)) (at-if1 .if1 .left) _ _ _ _ (done-reads _ _ _ _ _ _ _ _ _ (at-r .r .given .1) (at-expression .expression .ensures)) _ (takes-as _ _ _ (c .before .f .given .1) (at-take .take .ensures))
 
 abbrev pays-Inv-loop : pays-lts.InvT-loop
 pays-Inv-loop s reserved currencies counters depth out₀ n at₀ m₀ count₀ out at m count = (length out ≡ length out₀) × PayChain (wordsIn reserved currencies counters) (G.primary (wordsIn reserved currencies counters) (depth - 1)) s (G.payments (wordsIn reserved currencies counters) (G.primary (wordsIn reserved currencies counters) (depth - 1)) (toksAt s (at₀ .start))) n out₀ at m count out
@@ -2613,7 +2941,6 @@ pays-Inv-loop s reserved currencies counters depth out₀ n at₀ m₀ count₀ 
 abbrev pays-μ-loop : pays-lts.MeasureT-loop
 pays-μ-loop s reserved currencies counters depth out₀ n at₀ m₀ count₀ out at m count = length (toksAt s (at .start))
 
--- src/expressions.rt:346:9
 pays-returns : (t : ℕ) → pays-lts.Need-returns (
   stops-pays-reads.Asked,
   stops-pays-reads.Learnt,
@@ -2622,9 +2949,12 @@ pays-returns : (t : ℕ) → pays-lts.Need-returns (
   expression-below t,
   expression.Post,
 ) (pays-at t) pays.Post pays-Inv-loop pays-μ-loop
-pays-returns t c = pays-0 (wordsIn (c .before .before .before .before .before .before .args .reserved .now) (c .before .before .before .before .before .before .args .currencies .now) (c .before .before .before .before .before .before .args .counters .now)) (c .before .before .before .before .before .before .args .depth) (c .before .before .before .before .before .before .args .s .now) (c .before .before .before .before .before .before .args .c) (c .before .before .before .before .before .before .args .d) (c .before .before .before .before .before .before .pre .1 .0 .0) (c .before .before .before .before .before .before .pre .1 .1) (c .before .before .before .before .before .before .pre .1 .2) (c .if1 .taken)
+pays-returns t c =
+    let start = c .before .before .before .before .before .before in
+    let args = start .args in
+    let pre = start .pre in
+    pays-0 (wordsIn (args .reserved .now) (args .currencies .now) (args .counters .now)) (args .depth) (args .s .now) (args .c) (args .d) (pre .1 .0 .0) (pre .1 .1) (pre .1 .2) (c .if1 .taken)
 
--- src/expressions.rt:351:5
 pays-loop-holds : (t : ℕ) → pays-lts.Need-loop-holds (
   stops-pays-reads.Asked,
   stops-pays-reads.Learnt,
@@ -2633,9 +2963,13 @@ pays-loop-holds : (t : ℕ) → pays-lts.Need-loop-holds (
   expression-below t,
   expression.Post,
 ) (pays-at t) pays.Post pays-Inv-loop pays-μ-loop
-pays-loop-holds t c = (refl, pay-start (wordsIn (c .before .before .before .before .before .before .args .reserved .now) (c .before .before .before .before .before .before .args .currencies .now) (c .before .before .before .before .before .before .args .counters .now)) (G.primary (wordsIn (c .before .before .before .before .before .before .args .reserved .now) (c .before .before .before .before .before .before .args .currencies .now) (c .before .before .before .before .before .before .args .counters .now)) ((c .before .before .before .before .before .before .args .depth) - 1)) (primary-law (wordsIn (c .before .before .before .before .before .before .args .reserved .now) (c .before .before .before .before .before .before .args .currencies .now) (c .before .before .before .before .before .before .args .counters .now)) ((c .before .before .before .before .before .before .args .depth) - 1)) (primary-size (wordsIn (c .before .before .before .before .before .before .args .reserved .now) (c .before .before .before .before .before .before .args .currencies .now) (c .before .before .before .before .before .before .args .counters .now)) ((c .before .before .before .before .before .before .args .depth) - 1)) (c .before .before .before .before .before .before .args .s .now) _ _ _ (pays-ready (wordsIn (c .before .before .before .before .before .before .args .reserved .now) (c .before .before .before .before .before .before .args .currencies .now) (c .before .before .before .before .before .before .args .counters .now)) (c .before .before .before .before .before .before .args .depth) (c .before .before .before .before .before .before .args .s .now) (c .before .before .before .before .before .before .args .c) (c .before .before .before .before .before .before .args .d) (c .before .before .before .before .before .before .pre .1 .0 .0) (c .before .before .before .before .before .before .pre .1 .1) (c .before .before .before .before .before .before .pre .1 .2) _ (c .before .before .before .before .before .before .pre .1 .0 .1)))
+pays-loop-holds t c =
+    let start = c .before .before .before .before .before .before in
+    let args = start .args in
+    let pre = start .pre in
+    let words = wordsIn (args .reserved .now) (args .currencies .now) (args .counters .now) in
+    (refl, pay-start words (G.primary words ((args .depth) - 1)) (primary-law words ((args .depth) - 1)) (primary-size words ((args .depth) - 1)) (args .s .now) _ _ _ (pays-ready words (args .depth) (args .s .now) (args .c) (args .d) (pre .1 .0 .0) (pre .1 .1) (pre .1 .2) _ (pre .1 .0 .1)))
 
--- src/expressions.rt:352:12
 pays-stops-pays-requires : (t : ℕ) → pays-lts.Need-stops-pays-requires (
   stops-pays-reads.Asked,
   stops-pays-reads.Learnt,
@@ -2646,7 +2980,6 @@ pays-stops-pays-requires : (t : ℕ) → pays-lts.Need-stops-pays-requires (
 ) (pays-at t) pays.Post pays-Inv-loop pays-μ-loop
 pays-stops-pays-requires t c κs = search needs
 
--- src/expressions.rt:353:13
 pays-payday-at-requires : (t : ℕ) → pays-lts.Need-payday-at-requires (
   stops-pays-reads.Asked,
   stops-pays-reads.Learnt,
@@ -2656,10 +2989,13 @@ pays-payday-at-requires : (t : ℕ) → pays-lts.Need-payday-at-requires (
   expression.Post,
 ) (pays-at t) pays.Post pays-Inv-loop pays-μ-loop
 pays-payday-at-requires t c κs =
-    let r = pay-ready (wordsIn (c .before .before .before .before .before .before .before .before .before .before .args .reserved .now) (c .before .before .before .before .before .before .before .before .before .before .args .currencies .now) (c .before .before .before .before .before .before .before .before .before .before .args .counters .now)) (G.primary (wordsIn (c .before .before .before .before .before .before .before .before .before .before .args .reserved .now) (c .before .before .before .before .before .before .before .before .before .before .args .currencies .now) (c .before .before .before .before .before .before .before .before .before .before .args .counters .now)) ((c .before .before .before .before .before .before .before .before .before .before .args .depth) - 1)) (primary-law (wordsIn (c .before .before .before .before .before .before .before .before .before .before .args .reserved .now) (c .before .before .before .before .before .before .before .before .before .before .args .currencies .now) (c .before .before .before .before .before .before .before .before .before .before .args .counters .now)) ((c .before .before .before .before .before .before .before .before .before .before .args .depth) - 1)) (primary-size (wordsIn (c .before .before .before .before .before .before .before .before .before .before .args .reserved .now) (c .before .before .before .before .before .before .before .before .before .before .args .currencies .now) (c .before .before .before .before .before .before .before .before .before .before .args .counters .now)) ((c .before .before .before .before .before .before .before .before .before .before .args .depth) - 1)) (c .before .before .before .before .before .before .before .before .before .before .args .s .now) _ _ _ _ _ _ _ (c .before .before .before .loop .inv .1) in
-    (r .0, c .before .before .before .before .before .before .before .before .before .before .pre .1 .3, r .1)
+    let at-loop = c .before .before .before in
+    let start = at-loop .before .before .before .before .before .before .before in
+    let args = start .args in
+    let words = wordsIn (args .reserved .now) (args .currencies .now) (args .counters .now) in
+    let r = pay-ready words (G.primary words ((args .depth) - 1)) (primary-law words ((args .depth) - 1)) (primary-size words ((args .depth) - 1)) (args .s .now) _ _ _ _ _ _ _ (at-loop .loop .inv .1) in
+    (r .0, start .pre .1 .3, r .1)
 
--- src/expressions.rt:353:13
 pays-same-length : (t : ℕ) → pays-lts.Need-same-length (
   stops-pays-reads.Asked,
   stops-pays-reads.Learnt,
@@ -2668,9 +3004,10 @@ pays-same-length : (t : ℕ) → pays-lts.Need-same-length (
   expression-below t,
   expression.Post,
 ) (pays-at t) pays.Post pays-Inv-loop pays-μ-loop
-pays-same-length t c = c .before .before .payday-at .kept .1 .1 .1 .0 ∙ c .before .before .before .before .before .before .loop .inv .0
+pays-same-length t c =
+    let at-payday-at = c .before .before in
+    at-payday-at .payday-at .kept .1 .1 .1 .0 ∙ at-payday-at .before .before .before .before .loop .inv .0
 
--- src/expressions.rt:353:13
 pays-returns-2 : (t : ℕ) → pays-lts.Need-returns-2 (
   stops-pays-reads.Asked,
   stops-pays-reads.Learnt,
@@ -2679,9 +3016,15 @@ pays-returns-2 : (t : ℕ) → pays-lts.Need-returns-2 (
   expression-below t,
   expression.Post,
 ) (pays-at t) pays.Post pays-Inv-loop pays-μ-loop
-pays-returns-2 t c = pays-done (c .before .before .before .before .before .before .before .before .before .before .before .before .before .args .reserved .now) (c .before .before .before .before .before .before .before .before .before .before .before .before .before .args .counters .now) (c .before .before .before .before .before .before .before .before .before .before .before .before .before .args .currencies .now) (c .before .before .before .before .before .before .before .before .before .before .before .before .before .args .depth) (c .before .before .before .before .before .before .before .before .before .before .before .before .before .args .s .now) (c .before .before .before .before .before .before .before .before .before .before .before .before .before .args .c) (c .before .before .before .before .before .before .before .before .before .before .before .before .before .args .d) (c .before .before .before .before .before .before .before .before .before .before .before .before .before .pre .1 .0 .0) (c .before .before .before .before .before .before .before .before .before .before .before .before .before .pre .1 .1) (c .before .before .before .before .before .before .before .before .before .before .before .before .before .pre .1 .2) (c .before .before .before .before .before .before .before .if1 .left) _ _ _ _ _ _ (c .before .before .before .before .before .before .loop .inv .1) (sym (c .before .before .before .before .before .stops-pays .ensures) ∙ c .before .before .before .before .if2 .taken) (c .before .before .payday-at .result) _ (c .before .before .payday-at .ensures)
+pays-returns-2 t c =
+    let at-payday-at = c .before .before in
+    let at-if2 = at-payday-at .before .before in
+    let at-loop = at-if2 .before .before in
+    let start = at-loop .before .before .before .before .before .before .before in
+    let args = start .args in
+    let pre = start .pre in
+    pays-done (args .reserved .now) (args .counters .now) (args .currencies .now) (args .depth) (args .s .now) (args .c) (args .d) (pre .1 .0 .0) (pre .1 .1) (pre .1 .2) (at-loop .before .if1 .left) _ _ _ _ _ _ (at-loop .loop .inv .1) (sym (at-if2 .before .stops-pays .ensures) ∙ at-if2 .if2 .taken) (at-payday-at .payday-at .result) _ (at-payday-at .payday-at .ensures)
 
--- src/expressions.rt:355:67
 pays-sub-expression : (t : ℕ) → pays-lts.Need-sub-expression (
   stops-pays-reads.Asked,
   stops-pays-reads.Learnt,
@@ -2692,7 +3035,6 @@ pays-sub-expression : (t : ℕ) → pays-lts.Need-sub-expression (
 ) (pays-at t) pays.Post pays-Inv-loop pays-μ-loop
 pays-sub-expression t c = omega (arith, c .before .before .before .if1 .left)
 
--- src/expressions.rt:355:13
 pays-expression-requires : (t : ℕ) → pays-lts.Need-expression-requires (
   stops-pays-reads.Asked,
   stops-pays-reads.Learnt,
@@ -2701,9 +3043,13 @@ pays-expression-requires : (t : ℕ) → pays-lts.Need-expression-requires (
   expression-below t,
   expression.Post,
 ) (pays-at t) pays.Post pays-Inv-loop pays-μ-loop
-pays-expression-requires t c κs = (omega (arith, c .before .before .before .before .before .before .before .before .before .before .pre .0, c .before .before .before .before .if1 .left), (pay-ready (wordsIn (c .before .before .before .before .before .before .before .before .before .before .args .reserved .now) (c .before .before .before .before .before .before .before .before .before .before .args .currencies .now) (c .before .before .before .before .before .before .before .before .before .before .args .counters .now)) (G.primary (wordsIn (c .before .before .before .before .before .before .before .before .before .before .args .reserved .now) (c .before .before .before .before .before .before .before .before .before .before .args .currencies .now) (c .before .before .before .before .before .before .before .before .before .before .args .counters .now)) ((c .before .before .before .before .before .before .before .before .before .before .args .depth) - 1)) (primary-law (wordsIn (c .before .before .before .before .before .before .before .before .before .before .args .reserved .now) (c .before .before .before .before .before .before .before .before .before .before .args .currencies .now) (c .before .before .before .before .before .before .before .before .before .before .args .counters .now)) ((c .before .before .before .before .before .before .before .before .before .before .args .depth) - 1)) (primary-size (wordsIn (c .before .before .before .before .before .before .before .before .before .before .args .reserved .now) (c .before .before .before .before .before .before .before .before .before .before .args .currencies .now) (c .before .before .before .before .before .before .before .before .before .before .args .counters .now)) ((c .before .before .before .before .before .before .before .before .before .before .args .depth) - 1)) (c .before .before .before .before .before .before .before .before .before .before .args .s .now) _ _ _ _ _ _ _ (c .before .before .before .loop .inv .1) .0, c .before .before .before .before .before .before .before .before .before .before .pre .1 .3))
+pays-expression-requires t c κs =
+    let at-loop = c .before .before .before in
+    let start = at-loop .before .before .before .before .before .before .before in
+    let args = start .args in
+    let words = wordsIn (args .reserved .now) (args .currencies .now) (args .counters .now) in
+    (omega (arith, start .pre .0, at-loop .before .if1 .left), (pay-ready words (G.primary words ((args .depth) - 1)) (primary-law words ((args .depth) - 1)) (primary-size words ((args .depth) - 1)) (args .s .now) _ _ _ _ _ _ _ (at-loop .loop .inv .1) .0, start .pre .1 .3))
 
--- src/expressions.rt:356:24
 pays-enum-known-r : (t : ℕ) → pays-lts.Need-enum-known-r (
   stops-pays-reads.Asked,
   stops-pays-reads.Learnt,
@@ -2714,7 +3060,6 @@ pays-enum-known-r : (t : ℕ) → pays-lts.Need-enum-known-r (
 ) (pays-at t) pays.Post pays-Inv-loop pays-μ-loop
 pays-enum-known-r t c = search needs
 
--- src/expressions.rt:357:13
 pays-enum-told : (t : ℕ) → pays-lts.Need-enum-told (
   stops-pays-reads.Asked,
   stops-pays-reads.Learnt,
@@ -2725,7 +3070,6 @@ pays-enum-told : (t : ℕ) → pays-lts.Need-enum-told (
 ) (pays-at t) pays.Post pays-Inv-loop pays-μ-loop
 pays-enum-told t c = search needs
 
--- src/expressions.rt:357:13
 pays-same-length-2 : (t : ℕ) → pays-lts.Need-same-length-2 (
   stops-pays-reads.Asked,
   stops-pays-reads.Learnt,
@@ -2734,9 +3078,10 @@ pays-same-length-2 : (t : ℕ) → pays-lts.Need-same-length-2 (
   expression-below t,
   expression.Post,
 ) (pays-at t) pays.Post pays-Inv-loop pays-μ-loop
-pays-same-length-2 t c = c .before .before .before .before .expression .kept .1 .1 .1 .1 .1 .1 .0 ∙ c .before .before .before .before .before .before .before .before .loop .inv .0
+pays-same-length-2 t c =
+    let at-expression = c .before .before .before .before in
+    at-expression .expression .kept .1 .1 .1 .1 .1 .1 .0 ∙ at-expression .before .before .before .before .loop .inv .0
 
--- src/expressions.rt:357:13
 pays-returns-3 : (t : ℕ) → pays-lts.Need-returns-3 (
   stops-pays-reads.Asked,
   stops-pays-reads.Learnt,
@@ -2745,9 +3090,16 @@ pays-returns-3 : (t : ℕ) → pays-lts.Need-returns-3 (
   expression-below t,
   expression.Post,
 ) (pays-at t) pays.Post pays-Inv-loop pays-μ-loop
-pays-returns-3 t c = refused-on _ _ _ _ _ _ _ _ _ _ _ _ (c .enum-told .given .1) (c .before .before .before .before .expression .ensures) (λ q. pays-refused (wordsIn (c .before .before .before .before .before .before .before .before .before .before .before .before .before .before .before .args .reserved .now) (c .before .before .before .before .before .before .before .before .before .before .before .before .before .before .before .args .currencies .now) (c .before .before .before .before .before .before .before .before .before .before .before .before .before .before .before .args .counters .now)) (c .before .before .before .before .before .before .before .before .before .before .before .before .before .before .before .args .depth) (c .before .before .before .before .before .before .before .before .before .before .before .before .before .before .before .args .s .now) (c .before .before .before .before .before .before .before .before .before .before .before .before .before .before .before .args .c) (c .before .before .before .before .before .before .before .before .before .before .before .before .before .before .before .args .d) (c .before .before .before .before .before .before .before .before .before .before .before .before .before .before .before .pre .1 .0 .0) (c .before .before .before .before .before .before .before .before .before .before .before .before .before .before .before .pre .1 .1) (c .before .before .before .before .before .before .before .before .before .before .before .before .before .before .before .pre .1 .2) (c .before .before .before .before .before .before .before .before .before .if1 .left) _ _ (pay-refused (wordsIn (c .before .before .before .before .before .before .before .before .before .before .before .before .before .before .before .args .reserved .now) (c .before .before .before .before .before .before .before .before .before .before .before .before .before .before .before .args .currencies .now) (c .before .before .before .before .before .before .before .before .before .before .before .before .before .before .before .args .counters .now)) (G.primary (wordsIn (c .before .before .before .before .before .before .before .before .before .before .before .before .before .before .before .args .reserved .now) (c .before .before .before .before .before .before .before .before .before .before .before .before .before .before .before .args .currencies .now) (c .before .before .before .before .before .before .before .before .before .before .before .before .before .before .before .args .counters .now)) ((c .before .before .before .before .before .before .before .before .before .before .before .before .before .before .before .args .depth) - 1)) (primary-law (wordsIn (c .before .before .before .before .before .before .before .before .before .before .before .before .before .before .before .args .reserved .now) (c .before .before .before .before .before .before .before .before .before .before .before .before .before .before .before .args .currencies .now) (c .before .before .before .before .before .before .before .before .before .before .before .before .before .before .before .args .counters .now)) ((c .before .before .before .before .before .before .before .before .before .before .before .before .before .before .before .args .depth) - 1)) (primary-size (wordsIn (c .before .before .before .before .before .before .before .before .before .before .before .before .before .before .before .args .reserved .now) (c .before .before .before .before .before .before .before .before .before .before .before .before .before .before .before .args .currencies .now) (c .before .before .before .before .before .before .before .before .before .before .before .before .before .before .before .args .counters .now)) ((c .before .before .before .before .before .before .before .before .before .before .before .before .before .before .before .args .depth) - 1)) (c .before .before .before .before .before .before .before .before .before .before .before .before .before .before .before .args .s .now) _ _ _ _ _ _ _ (c .before .before .before .before .before .before .before .before .loop .inv .1) (sym (c .before .before .before .before .before .before .before .stops-pays .ensures) ∙ c .before .before .before .before .before .before .if2 .left) _ _ q))
+pays-returns-3 t c =
+    let at-expression = c .before .before .before .before in
+    let at-if2 = at-expression .before .before in
+    let at-loop = at-if2 .before .before in
+    let start = at-loop .before .before .before .before .before .before .before in
+    let args = start .args in
+    let pre = start .pre in
+    let words = wordsIn (args .reserved .now) (args .currencies .now) (args .counters .now) in
+    refused-on _ _ _ _ _ _ _ _ _ _ _ _ (c .enum-told .given .1) (at-expression .expression .ensures) (λ q. pays-refused words (args .depth) (args .s .now) (args .c) (args .d) (pre .1 .0 .0) (pre .1 .1) (pre .1 .2) (at-loop .before .if1 .left) _ _ (pay-refused words (G.primary words ((args .depth) - 1)) (primary-law words ((args .depth) - 1)) (primary-size words ((args .depth) - 1)) (args .s .now) _ _ _ _ _ _ _ (at-loop .loop .inv .1) (sym (at-if2 .before .stops-pays .ensures) ∙ at-if2 .if2 .left) _ _ q))
 
--- src/expressions.rt:361:9
 pays-add-count : (t : ℕ) → pays-lts.Need-add-count (
   stops-pays-reads.Asked,
   stops-pays-reads.Learnt,
@@ -2756,9 +3108,14 @@ pays-add-count : (t : ℕ) → pays-lts.Need-add-count (
   expression-below t,
   expression.Post,
 ) (pays-at t) pays.Post pays-Inv-loop pays-μ-loop
-pays-add-count t c = omega (arith, pay-numbers (wordsIn (c .before .before .before .before .before .before .before .before .before .before .before .before .before .before .before .before .args .reserved .now) (c .before .before .before .before .before .before .before .before .before .before .before .before .before .before .before .before .args .currencies .now) (c .before .before .before .before .before .before .before .before .before .before .before .before .before .before .before .before .args .counters .now)) (G.primary (wordsIn (c .before .before .before .before .before .before .before .before .before .before .before .before .before .before .before .before .args .reserved .now) (c .before .before .before .before .before .before .before .before .before .before .before .before .before .before .before .before .args .currencies .now) (c .before .before .before .before .before .before .before .before .before .before .before .before .before .before .before .before .args .counters .now)) ((c .before .before .before .before .before .before .before .before .before .before .before .before .before .before .before .before .args .depth) - 1)) (primary-law (wordsIn (c .before .before .before .before .before .before .before .before .before .before .before .before .before .before .before .before .args .reserved .now) (c .before .before .before .before .before .before .before .before .before .before .before .before .before .before .before .before .args .currencies .now) (c .before .before .before .before .before .before .before .before .before .before .before .before .before .before .before .before .args .counters .now)) ((c .before .before .before .before .before .before .before .before .before .before .before .before .before .before .before .before .args .depth) - 1)) (primary-size (wordsIn (c .before .before .before .before .before .before .before .before .before .before .before .before .before .before .before .before .args .reserved .now) (c .before .before .before .before .before .before .before .before .before .before .before .before .before .before .before .before .args .currencies .now) (c .before .before .before .before .before .before .before .before .before .before .before .before .before .before .before .before .args .counters .now)) ((c .before .before .before .before .before .before .before .before .before .before .before .before .before .before .before .before .args .depth) - 1)) (c .before .before .before .before .before .before .before .before .before .before .before .before .before .before .before .before .args .s .now) _ _ _ _ _ _ _ (c .before .before .before .before .before .before .before .before .before .loop .inv .1) (sym (c .before .before .before .before .before .before .before .before .stops-pays .ensures) ∙ c .before .before .before .before .before .before .before .if2 .left) _ _ _ _ (done-reads _ _ _ _ _ _ _ _ _ (c .before .r .given .1) (c .before .before .before .before .before .expression .ensures)))
+pays-add-count t c =
+    let at-expression = c .before .before .before .before .before in
+    let at-if2 = at-expression .before .before in
+    let at-loop = at-if2 .before .before in
+    let args = at-loop .before .before .before .before .before .before .before .args in
+    let words = wordsIn (args .reserved .now) (args .currencies .now) (args .counters .now) in
+    omega (arith, pay-numbers words (G.primary words ((args .depth) - 1)) (primary-law words ((args .depth) - 1)) (primary-size words ((args .depth) - 1)) (args .s .now) _ _ _ _ _ _ _ (at-loop .loop .inv .1) (sym (at-if2 .before .stops-pays .ensures) ∙ at-if2 .if2 .left) _ _ _ _ (done-reads _ _ _ _ _ _ _ _ _ (c .before .r .given .1) (at-expression .expression .ensures)))
 
--- src/expressions.rt:351:5
 pays-loop-less : (t : ℕ) → pays-lts.Need-loop-less (
   stops-pays-reads.Asked,
   stops-pays-reads.Learnt,
@@ -2767,9 +3124,14 @@ pays-loop-less : (t : ℕ) → pays-lts.Need-loop-less (
   expression-below t,
   expression.Post,
 ) (pays-at t) pays.Post pays-Inv-loop pays-μ-loop
-pays-loop-less t c = pay-less (wordsIn (c .before .before .before .before .before .before .before .before .before .before .before .before .before .before .before .before .args .reserved .now) (c .before .before .before .before .before .before .before .before .before .before .before .before .before .before .before .before .args .currencies .now) (c .before .before .before .before .before .before .before .before .before .before .before .before .before .before .before .before .args .counters .now)) (G.primary (wordsIn (c .before .before .before .before .before .before .before .before .before .before .before .before .before .before .before .before .args .reserved .now) (c .before .before .before .before .before .before .before .before .before .before .before .before .before .before .before .before .args .currencies .now) (c .before .before .before .before .before .before .before .before .before .before .before .before .before .before .before .before .args .counters .now)) ((c .before .before .before .before .before .before .before .before .before .before .before .before .before .before .before .before .args .depth) - 1)) (primary-law (wordsIn (c .before .before .before .before .before .before .before .before .before .before .before .before .before .before .before .before .args .reserved .now) (c .before .before .before .before .before .before .before .before .before .before .before .before .before .before .before .before .args .currencies .now) (c .before .before .before .before .before .before .before .before .before .before .before .before .before .before .before .before .args .counters .now)) ((c .before .before .before .before .before .before .before .before .before .before .before .before .before .before .before .before .args .depth) - 1)) (primary-size (wordsIn (c .before .before .before .before .before .before .before .before .before .before .before .before .before .before .before .before .args .reserved .now) (c .before .before .before .before .before .before .before .before .before .before .before .before .before .before .before .before .args .currencies .now) (c .before .before .before .before .before .before .before .before .before .before .before .before .before .before .before .before .args .counters .now)) ((c .before .before .before .before .before .before .before .before .before .before .before .before .before .before .before .before .args .depth) - 1)) (c .before .before .before .before .before .before .before .before .before .before .before .before .before .before .before .before .args .s .now) _ _ _ _ _ _ _ (c .before .before .before .before .before .before .before .before .before .loop .inv .1) (sym (c .before .before .before .before .before .before .before .before .stops-pays .ensures) ∙ c .before .before .before .before .before .before .before .if2 .left) _ _ _ _ (done-reads _ _ _ _ _ _ _ _ _ (c .before .r .given .1) (c .before .before .before .before .before .expression .ensures))
+pays-loop-less t c =
+    let at-expression = c .before .before .before .before .before in
+    let at-if2 = at-expression .before .before in
+    let at-loop = at-if2 .before .before in
+    let args = at-loop .before .before .before .before .before .before .before .args in
+    let words = wordsIn (args .reserved .now) (args .currencies .now) (args .counters .now) in
+    pay-less words (G.primary words ((args .depth) - 1)) (primary-law words ((args .depth) - 1)) (primary-size words ((args .depth) - 1)) (args .s .now) _ _ _ _ _ _ _ (at-loop .loop .inv .1) (sym (at-if2 .before .stops-pays .ensures) ∙ at-if2 .if2 .left) _ _ _ _ (done-reads _ _ _ _ _ _ _ _ _ (c .before .r .given .1) (at-expression .expression .ensures))
 
--- src/expressions.rt:351:5
 pays-loop-again : (t : ℕ) → pays-lts.Need-loop-again (
   stops-pays-reads.Asked,
   stops-pays-reads.Learnt,
@@ -2778,9 +3140,14 @@ pays-loop-again : (t : ℕ) → pays-lts.Need-loop-again (
   expression-below t,
   expression.Post,
 ) (pays-at t) pays.Post pays-Inv-loop pays-μ-loop
-pays-loop-again t c = (c .before .before .before .before .before .expression .kept .1 .1 .1 .1 .1 .1 .0 ∙ c .before .before .before .before .before .before .before .before .before .loop .inv .0, pay-next (wordsIn (c .before .before .before .before .before .before .before .before .before .before .before .before .before .before .before .before .args .reserved .now) (c .before .before .before .before .before .before .before .before .before .before .before .before .before .before .before .before .args .currencies .now) (c .before .before .before .before .before .before .before .before .before .before .before .before .before .before .before .before .args .counters .now)) (G.primary (wordsIn (c .before .before .before .before .before .before .before .before .before .before .before .before .before .before .before .before .args .reserved .now) (c .before .before .before .before .before .before .before .before .before .before .before .before .before .before .before .before .args .currencies .now) (c .before .before .before .before .before .before .before .before .before .before .before .before .before .before .before .before .args .counters .now)) ((c .before .before .before .before .before .before .before .before .before .before .before .before .before .before .before .before .args .depth) - 1)) (primary-law (wordsIn (c .before .before .before .before .before .before .before .before .before .before .before .before .before .before .before .before .args .reserved .now) (c .before .before .before .before .before .before .before .before .before .before .before .before .before .before .before .before .args .currencies .now) (c .before .before .before .before .before .before .before .before .before .before .before .before .before .before .before .before .args .counters .now)) ((c .before .before .before .before .before .before .before .before .before .before .before .before .before .before .before .before .args .depth) - 1)) (primary-size (wordsIn (c .before .before .before .before .before .before .before .before .before .before .before .before .before .before .before .before .args .reserved .now) (c .before .before .before .before .before .before .before .before .before .before .before .before .before .before .before .before .args .currencies .now) (c .before .before .before .before .before .before .before .before .before .before .before .before .before .before .before .before .args .counters .now)) ((c .before .before .before .before .before .before .before .before .before .before .before .before .before .before .before .before .args .depth) - 1)) (c .before .before .before .before .before .before .before .before .before .before .before .before .before .before .before .before .args .s .now) _ _ _ _ _ _ _ (c .before .before .before .before .before .before .before .before .before .loop .inv .1) (sym (c .before .before .before .before .before .before .before .before .stops-pays .ensures) ∙ c .before .before .before .before .before .before .before .if2 .left) _ _ _ _ (done-reads _ _ _ _ _ _ _ _ _ (c .before .r .given .1) (c .before .before .before .before .before .expression .ensures)))
+pays-loop-again t c =
+    let at-expression = c .before .before .before .before .before in
+    let at-if2 = at-expression .before .before in
+    let at-loop = at-if2 .before .before in
+    let args = at-loop .before .before .before .before .before .before .before .args in
+    let words = wordsIn (args .reserved .now) (args .currencies .now) (args .counters .now) in
+    (at-expression .expression .kept .1 .1 .1 .1 .1 .1 .0 ∙ at-loop .loop .inv .0, pay-next words (G.primary words ((args .depth) - 1)) (primary-law words ((args .depth) - 1)) (primary-size words ((args .depth) - 1)) (args .s .now) _ _ _ _ _ _ _ (at-loop .loop .inv .1) (sym (at-if2 .before .stops-pays .ensures) ∙ at-if2 .if2 .left) _ _ _ _ (done-reads _ _ _ _ _ _ _ _ _ (c .before .r .given .1) (at-expression .expression .ensures)))
 
--- src/expressions.rt:549:9
 postfix-next-requires : (t : ℕ) → postfix-lts.Need-next-requires (
   next-reads.Asked,
   next-reads.Learnt,
@@ -2791,7 +3158,6 @@ postfix-next-requires : (t : ℕ) → postfix-lts.Need-next-requires (
 ) (postfix-at t) postfix.Post
 postfix-next-requires t c κs = search needs
 
--- src/expressions.rt:551:9
 postfix-method-requires : (t : ℕ) → postfix-lts.Need-method-requires (
   next-reads.Asked,
   next-reads.Learnt,
@@ -2800,9 +3166,13 @@ postfix-method-requires : (t : ℕ) → postfix-lts.Need-method-requires (
   index-below t,
   index.Post,
 ) (postfix-at t) postfix.Post
-postfix-method-requires t c κs = (omega arith, (postfix-ready (wordsIn (c .before .before .before .before .before .before .before .before .before .args .reserved .now) (c .before .before .before .before .before .before .before .before .before .args .currencies .now) (c .before .before .before .before .before .before .before .before .before .args .counters .now)) (c .before .before .before .before .before .before .before .before .before .args .depth) (c .before .before .before .before .before .before .before .before .before .args .s .now) (c .before .before .before .before .before .before .before .before .before .args .c) (c .before .before .before .next .result) (c .before .before .before .before .before .before .before .before .before .pre .1 .0 .0) (c .before .before .before .next .ensures) (c .before .before .before .before .before .before .before .before .before .args .m) (c .before .before .before .before .before .before .before .before .before .pre .1 .3) (c .before .before .before .before .before .before .before .before .before .pre .1 .0 .1), c .before .before .before .before .before .before .before .before .before .pre .1 .1, c .before .before .before .before .before .before .before .before .before .pre .1 .2))
+postfix-method-requires t c κs =
+    let at-next = c .before .before .before in
+    let start = at-next .before .before .before .before .before .before in
+    let args = start .args in
+    let pre = start .pre in
+    (omega arith, (postfix-ready (wordsIn (args .reserved .now) (args .currencies .now) (args .counters .now)) (args .depth) (args .s .now) (args .c) (at-next .next .result) (pre .1 .0 .0) (at-next .next .ensures) (args .m) (pre .1 .3) (pre .1 .0 .1), pre .1 .1, pre .1 .2))
 
--- src/expressions.rt:551:9
 postfix-same-length : (t : ℕ) → postfix-lts.Need-same-length (
   next-reads.Asked,
   next-reads.Learnt,
@@ -2813,7 +3183,6 @@ postfix-same-length : (t : ℕ) → postfix-lts.Need-same-length (
 ) (postfix-at t) postfix.Post
 postfix-same-length t c = search needs
 
--- src/expressions.rt:551:9
 postfix-returns : (t : ℕ) → postfix-lts.Need-returns (
   next-reads.Asked,
   next-reads.Learnt,
@@ -2822,9 +3191,18 @@ postfix-returns : (t : ℕ) → postfix-lts.Need-returns (
   index-below t,
   index.Post,
 ) (postfix-at t) postfix.Post
-postfix-returns t c = turns-as (c .before .before .before .before .before .before .before .before .before .before .before .before .args .s .now) (λ x. postfixTurn (inner (wordsIn (c .before .before .before .before .before .before .before .before .before .before .before .before .args .reserved .now) (c .before .before .before .before .before .before .before .before .before .before .before .before .args .currencies .now) (c .before .before .before .before .before .before .before .before .before .before .before .before .args .counters .now)) (c .before .before .before .before .before .before .before .before .before .before .before .before .args .depth)) x (toksAt (c .before .before .before .before .before .before .before .before .before .before .before .before .args .s .now) (c .before .before .before .before .before .before .before .before .before .before .before .before .args .c .start))) (λ x. methodOf (inner (wordsIn (c .before .before .before .before .before .before .before .before .before .before .before .before .args .reserved .now) (c .before .before .before .before .before .before .before .before .before .before .before .before .args .currencies .now) (c .before .before .before .before .before .before .before .before .before .before .before .before .args .counters .now)) (c .before .before .before .before .before .before .before .before .before .before .before .before .args .depth)) x (toksAt (c .before .before .before .before .before .before .before .before .before .before .before .before .args .s .now) (c .before .before .before .before .before .before .next .result .start))) _ _ _ _ (c .before .before .before .before .before .before .before .before .before .before .before .before .args .c) (c .before .before .before .before .before .before .next .result) (c .before .before .method .result) (postfix-dot (wordsIn (c .before .before .before .before .before .before .before .before .before .before .before .before .args .reserved .now) (c .before .before .before .before .before .before .before .before .before .before .before .before .args .currencies .now) (c .before .before .before .before .before .before .before .before .before .before .before .before .args .counters .now)) (c .before .before .before .before .before .before .before .before .before .before .before .before .args .depth) (c .before .before .before .before .before .before .before .before .before .before .before .before .args .s .now) (c .before .before .before .before .before .before .before .before .before .before .before .before .args .c) (c .before .before .before .before .before .before .next .result) (c .before .before .before .before .before .before .before .before .before .before .before .before .pre .1 .0 .0) (c .before .before .before .before .before .before .next .ensures) (c .before .before .before .before .if1 .taken)) (omega (arith, postfix-fewer (wordsIn (c .before .before .before .before .before .before .before .before .before .before .before .before .args .reserved .now) (c .before .before .before .before .before .before .before .before .before .before .before .before .args .currencies .now) (c .before .before .before .before .before .before .before .before .before .before .before .before .args .counters .now)) (c .before .before .before .before .before .before .before .before .before .before .before .before .args .depth) (c .before .before .before .before .before .before .before .before .before .before .before .before .args .s .now) (c .before .before .before .before .before .before .before .before .before .before .before .before .args .c) (c .before .before .before .before .before .before .next .result) (c .before .before .before .before .before .before .before .before .before .before .before .before .pre .1 .0 .0) (c .before .before .before .before .before .before .next .ensures) (c .before .before .before .before .before .before .before .before .before .before .before .before .pre .1 .3))) (c .before .before .method .ensures)
+postfix-returns t c =
+    let at-method = c .before .before in
+    let at-if1 = at-method .before .before in
+    let at-next = at-if1 .before .before in
+    let start = at-next .before .before .before .before .before .before in
+    let args = start .args in
+    let next = at-next .next in
+    let pre = start .pre in
+    let words = wordsIn (args .reserved .now) (args .currencies .now) (args .counters .now) in
+    let inside = inner words (args .depth) in
+    turns-as (args .s .now) (λ x. postfixTurn inside x (toksAt (args .s .now) (args .c .start))) (λ x. methodOf inside x (toksAt (args .s .now) (next .result .start))) _ _ _ _ (args .c) (next .result) (at-method .method .result) (postfix-dot words (args .depth) (args .s .now) (args .c) (next .result) (pre .1 .0 .0) (next .ensures) (at-if1 .if1 .taken)) (omega (arith, postfix-fewer words (args .depth) (args .s .now) (args .c) (next .result) (pre .1 .0 .0) (next .ensures) (pre .1 .3))) (at-method .method .ensures)
 
--- src/expressions.rt:554:9
 postfix-returns-2 : (t : ℕ) → postfix-lts.Need-returns-2 (
   next-reads.Asked,
   next-reads.Learnt,
@@ -2833,9 +3211,12 @@ postfix-returns-2 : (t : ℕ) → postfix-lts.Need-returns-2 (
   index-below t,
   index.Post,
 ) (postfix-at t) postfix.Post
-postfix-returns-2 t c = postfix-low (wordsIn (c .before .before .before .before .before .before .before .before .before .args .reserved .now) (c .before .before .before .before .before .before .before .before .before .args .currencies .now) (c .before .before .before .before .before .before .before .before .before .args .counters .now)) (c .before .before .before .before .before .before .before .before .before .args .depth) (c .before .before .before .before .before .before .before .before .before .args .s .now) (c .before .before .before .before .before .before .before .before .before .args .c) (c .before .before .before .next .result) (c .before .before .before .before .before .before .before .before .before .pre .1 .0 .0) (c .before .before .before .next .ensures) (c .before .before .before .before .before .before .before .before .before .pre .1 .3) (c .before .if1 .left) (c .if2 .taken) _ _ _ (c .before .before .before .before .before .before .before .before .before .args .out .now)
+postfix-returns-2 t c =
+    let at-next = c .before .before .before in
+    let start = at-next .before .before .before .before .before .before in
+    let args = start .args in
+    postfix-low (wordsIn (args .reserved .now) (args .currencies .now) (args .counters .now)) (args .depth) (args .s .now) (args .c) (at-next .next .result) (start .pre .1 .0 .0) (at-next .next .ensures) (start .pre .1 .3) (c .before .if1 .left) (c .if2 .taken) _ _ _ (args .out .now)
 
--- src/expressions.rt:556:49
 postfix-sub-index : (t : ℕ) → postfix-lts.Need-sub-index (
   next-reads.Asked,
   next-reads.Learnt,
@@ -2846,7 +3227,6 @@ postfix-sub-index : (t : ℕ) → postfix-lts.Need-sub-index (
 ) (postfix-at t) postfix.Post
 postfix-sub-index t c = search needs
 
--- src/expressions.rt:556:5
 postfix-index-requires : (t : ℕ) → postfix-lts.Need-index-requires (
   next-reads.Asked,
   next-reads.Learnt,
@@ -2855,9 +3235,13 @@ postfix-index-requires : (t : ℕ) → postfix-lts.Need-index-requires (
   index-below t,
   index.Post,
 ) (postfix-at t) postfix.Post
-postfix-index-requires t c κs = (omega (arith, above _ (c .before .if2 .left)), (postfix-ready (wordsIn (c .before .before .before .before .before .before .before .before .before .before .args .reserved .now) (c .before .before .before .before .before .before .before .before .before .before .args .currencies .now) (c .before .before .before .before .before .before .before .before .before .before .args .counters .now)) (c .before .before .before .before .before .before .before .before .before .before .args .depth) (c .before .before .before .before .before .before .before .before .before .before .args .s .now) (c .before .before .before .before .before .before .before .before .before .before .args .c) (c .before .before .before .before .next .result) (c .before .before .before .before .before .before .before .before .before .before .pre .1 .0 .0) (c .before .before .before .before .next .ensures) (c .before .before .before .before .before .before .before .before .before .before .args .m) (c .before .before .before .before .before .before .before .before .before .before .pre .1 .3) (c .before .before .before .before .before .before .before .before .before .before .pre .1 .0 .1), c .before .before .before .before .before .before .before .before .before .before .pre .1 .1, c .before .before .before .before .before .before .before .before .before .before .pre .1 .2))
+postfix-index-requires t c κs =
+    let at-next = c .before .before .before .before in
+    let start = at-next .before .before .before .before .before .before in
+    let args = start .args in
+    let pre = start .pre in
+    (omega (arith, above _ (c .before .if2 .left)), (postfix-ready (wordsIn (args .reserved .now) (args .currencies .now) (args .counters .now)) (args .depth) (args .s .now) (args .c) (at-next .next .result) (pre .1 .0 .0) (at-next .next .ensures) (args .m) (pre .1 .3) (pre .1 .0 .1), pre .1 .1, pre .1 .2))
 
--- src/expressions.rt:535:1
 postfix-same-length-2 : (t : ℕ) → postfix-lts.Need-same-length-2 (
   next-reads.Asked,
   next-reads.Learnt,
@@ -2868,7 +3252,6 @@ postfix-same-length-2 : (t : ℕ) → postfix-lts.Need-same-length-2 (
 ) (postfix-at t) postfix.Post
 postfix-same-length-2 t c = search needs
 
--- src/expressions.rt:535:1
 postfix-returns-3 : (t : ℕ) → postfix-lts.Need-returns-3 (
   next-reads.Asked,
   next-reads.Learnt,
@@ -2877,7 +3260,16 @@ postfix-returns-3 : (t : ℕ) → postfix-lts.Need-returns-3 (
   index-below t,
   index.Post,
 ) (postfix-at t) postfix.Post
-postfix-returns-3 t c = turns-as (c .before .before .before .before .before .before .before .before .before .before .before .before .before .args .s .now) (λ x. postfixTurn (inner (wordsIn (c .before .before .before .before .before .before .before .before .before .before .before .before .before .args .reserved .now) (c .before .before .before .before .before .before .before .before .before .before .before .before .before .args .currencies .now) (c .before .before .before .before .before .before .before .before .before .before .before .before .before .args .counters .now)) (c .before .before .before .before .before .before .before .before .before .before .before .before .before .args .depth)) x (toksAt (c .before .before .before .before .before .before .before .before .before .before .before .before .before .args .s .now) (c .before .before .before .before .before .before .before .before .before .before .before .before .before .args .c .start))) (λ x. indexOf (primaryG (wordsIn (c .before .before .before .before .before .before .before .before .before .before .before .before .before .args .reserved .now) (c .before .before .before .before .before .before .before .before .before .before .before .before .before .args .currencies .now) (c .before .before .before .before .before .before .before .before .before .before .before .before .before .args .counters .now)) ((c .before .before .before .before .before .before .before .before .before .before .before .before .before .args .depth) - 1)) x (toksAt (c .before .before .before .before .before .before .before .before .before .before .before .before .before .args .s .now) (c .before .before .before .before .before .before .before .next .result .start))) _ _ _ _ (c .before .before .before .before .before .before .before .before .before .before .before .before .before .args .c) (c .before .before .before .before .before .before .before .next .result) (c .before .before .index .result) (postfix-index (wordsIn (c .before .before .before .before .before .before .before .before .before .before .before .before .before .args .reserved .now) (c .before .before .before .before .before .before .before .before .before .before .before .before .before .args .currencies .now) (c .before .before .before .before .before .before .before .before .before .before .before .before .before .args .counters .now)) (c .before .before .before .before .before .before .before .before .before .before .before .before .before .args .depth) (c .before .before .before .before .before .before .before .before .before .before .before .before .before .args .s .now) (c .before .before .before .before .before .before .before .before .before .before .before .before .before .args .c) (c .before .before .before .before .before .before .before .next .result) (c .before .before .before .before .before .before .before .before .before .before .before .before .before .pre .1 .0 .0) (c .before .before .before .before .before .before .before .next .ensures) (c .before .before .before .before .before .before .before .before .before .before .before .before .before .pre .1 .3) (c .before .before .before .before .before .if1 .left) (c .before .before .before .before .if2 .left)) (omega (arith, postfix-fewer (wordsIn (c .before .before .before .before .before .before .before .before .before .before .before .before .before .args .reserved .now) (c .before .before .before .before .before .before .before .before .before .before .before .before .before .args .currencies .now) (c .before .before .before .before .before .before .before .before .before .before .before .before .before .args .counters .now)) (c .before .before .before .before .before .before .before .before .before .before .before .before .before .args .depth) (c .before .before .before .before .before .before .before .before .before .before .before .before .before .args .s .now) (c .before .before .before .before .before .before .before .before .before .before .before .before .before .args .c) (c .before .before .before .before .before .before .before .next .result) (c .before .before .before .before .before .before .before .before .before .before .before .before .before .pre .1 .0 .0) (c .before .before .before .before .before .before .before .next .ensures) (c .before .before .before .before .before .before .before .before .before .before .before .before .before .pre .1 .3))) (c .before .before .index .ensures)
+postfix-returns-3 t c =
+    let at-index = c .before .before in
+    let at-if2 = at-index .before .before in
+    let at-next = at-if2 .before .before .before in
+    let start = at-next .before .before .before .before .before .before in
+    let args = start .args in
+    let next = at-next .next in
+    let pre = start .pre in
+    let words = wordsIn (args .reserved .now) (args .currencies .now) (args .counters .now) in
+    turns-as (args .s .now) (λ x. postfixTurn (inner words (args .depth)) x (toksAt (args .s .now) (args .c .start))) (λ x. indexOf (primaryG words ((args .depth) - 1)) x (toksAt (args .s .now) (next .result .start))) _ _ _ _ (args .c) (next .result) (at-index .index .result) (postfix-index words (args .depth) (args .s .now) (args .c) (next .result) (pre .1 .0 .0) (next .ensures) (pre .1 .3) (at-if2 .before .if1 .left) (at-if2 .if2 .left)) (omega (arith, postfix-fewer words (args .depth) (args .s .now) (args .c) (next .result) (pre .1 .0 .0) (next .ensures) (pre .1 .3))) (at-index .index .ensures)
 
 abbrev postfixes-Inv-loop : postfixes-lts.InvT-loop
 postfixes-Inv-loop s reserved currencies counters depth out₀ n m at₀ k₀ out at k = (length out ≡ length out₀) × Ready s at k × (n < k) × ((R : Out Tree) (o : List ℕ) → PostChain (inner (wordsIn reserved currencies counters) depth) s R n o at₀ k₀ out₀ → PostChain (inner (wordsIn reserved currencies counters) depth) s R n o at k out)
@@ -2885,16 +3277,16 @@ postfixes-Inv-loop s reserved currencies counters depth out₀ n m at₀ k₀ ou
 abbrev postfixes-μ-loop : postfixes-lts.MeasureT-loop
 postfixes-μ-loop s reserved currencies counters depth out₀ n m at₀ k₀ out at k = length (toksAt s (at .start))
 
--- src/expressions.rt:520:5
 postfixes-loop-holds : (t : ℕ) → postfixes-lts.Need-loop-holds (
   is-postfix-reads.Asked,
   is-postfix-reads.Learnt,
   postfix-below t,
   postfix.Post,
 ) (postfixes-at t) postfixes.Post postfixes-Inv-loop postfixes-μ-loop
-postfixes-loop-holds t c = (refl, c .before .before .before .before .before .pre .1 .0, c .before .before .before .before .before .pre .1 .2, λ R o h. h)
+postfixes-loop-holds t c =
+    let start = c .before .before .before .before .before in
+    (refl, start .pre .1 .0, start .pre .1 .2, λ R o h. h)
 
--- src/expressions.rt:522:13
 postfixes-is-postfix-requires : (t : ℕ) → postfixes-lts.Need-is-postfix-requires (
   is-postfix-reads.Asked,
   is-postfix-reads.Learnt,
@@ -2903,7 +3295,6 @@ postfixes-is-postfix-requires : (t : ℕ) → postfixes-lts.Need-is-postfix-requ
 ) (postfixes-at t) postfixes.Post postfixes-Inv-loop postfixes-μ-loop
 postfixes-is-postfix-requires t c κs = search needs
 
--- src/expressions.rt:523:13
 postfixes-same-length : (t : ℕ) → postfixes-lts.Need-same-length (
   is-postfix-reads.Asked,
   is-postfix-reads.Learnt,
@@ -2912,25 +3303,30 @@ postfixes-same-length : (t : ℕ) → postfixes-lts.Need-same-length (
 ) (postfixes-at t) postfixes.Post postfixes-Inv-loop postfixes-μ-loop
 postfixes-same-length t c = c .before .before .loop .inv .0
 
--- src/expressions.rt:523:13
 postfixes-returns : (t : ℕ) → postfixes-lts.Need-returns (
   is-postfix-reads.Asked,
   is-postfix-reads.Learnt,
   postfix-below t,
   postfix.Post,
 ) (postfixes-at t) postfixes.Post postfixes-Inv-loop postfixes-μ-loop
-postfixes-returns t c = λ x o h. post-exit (inner (wordsIn (c .before .before .before .before .before .before .before .before .args .reserved .now) (c .before .before .before .before .before .before .before .before .args .currencies .now) (c .before .before .before .before .before .before .before .before .args .counters .now)) (c .before .before .before .before .before .before .before .before .args .depth)) (each-inner (wordsIn (c .before .before .before .before .before .before .before .before .args .reserved .now) (c .before .before .before .before .before .before .before .before .args .currencies .now) (c .before .before .before .before .before .before .before .before .args .counters .now)) (c .before .before .before .before .before .before .before .before .args .depth)) (c .before .before .before .before .before .before .before .before .args .s .now) _ _ o _ _ _ (c .before .before .loop .inv .3 _ o (post-enter (inner (wordsIn (c .before .before .before .before .before .before .before .before .args .reserved .now) (c .before .before .before .before .before .before .before .before .args .currencies .now) (c .before .before .before .before .before .before .before .before .args .counters .now)) (c .before .before .before .before .before .before .before .before .args .depth)) (each-inner (wordsIn (c .before .before .before .before .before .before .before .before .args .reserved .now) (c .before .before .before .before .before .before .before .before .args .currencies .now) (c .before .before .before .before .before .before .before .before .args .counters .now)) (c .before .before .before .before .before .before .before .before .args .depth)) (c .before .before .before .before .before .before .before .before .args .s .now) x _ o _ _ _ h)) (c .before .before .loop .inv .1 .0) (sign-no (c .before .is-postfix .result) _ (c .before .is-postfix .ensures) (c .if1 .taken))
+postfixes-returns t c =
+    let at-loop = c .before .before in
+    let args = at-loop .before .before .before .before .before .before .args in
+    let words = wordsIn (args .reserved .now) (args .currencies .now) (args .counters .now) in
+    let inside = inner words (args .depth) in
+    λ x o h. post-exit inside (each-inner words (args .depth)) (args .s .now) _ _ o _ _ _ (at-loop .loop .inv .3 _ o (post-enter inside (each-inner words (args .depth)) (args .s .now) x _ o _ _ _ h)) (at-loop .loop .inv .1 .0) (sign-no (c .before .is-postfix .result) _ (c .before .is-postfix .ensures) (c .if1 .taken))
 
--- src/expressions.rt:525:13
 postfixes-postfix-requires : (t : ℕ) → postfixes-lts.Need-postfix-requires (
   is-postfix-reads.Asked,
   is-postfix-reads.Learnt,
   postfix-below t,
   postfix.Post,
 ) (postfixes-at t) postfixes.Post postfixes-Inv-loop postfixes-μ-loop
-postfixes-postfix-requires t c κs = (omega (arith, c .before .before .before .before .before .before .before .before .before .pre .0), (c .before .before .before .loop .inv .1, c .before .before .before .before .before .before .before .before .before .pre .1 .1, c .before .before .before .loop .inv .2, sign-yes (c .before .before .is-postfix .result) _ (c .before .before .is-postfix .ensures) (c .before .if1 .left)))
+postfixes-postfix-requires t c κs =
+    let at-is-postfix = c .before .before in
+    let start = at-is-postfix .before .before .before .before .before .before .before in
+    (omega (arith, start .pre .0), (at-is-postfix .before .loop .inv .1, start .pre .1 .1, at-is-postfix .before .loop .inv .2, sign-yes (at-is-postfix .is-postfix .result) _ (at-is-postfix .is-postfix .ensures) (c .before .if1 .left)))
 
--- src/expressions.rt:526:24
 postfixes-enum-known-r : (t : ℕ) → postfixes-lts.Need-enum-known-r (
   is-postfix-reads.Asked,
   is-postfix-reads.Learnt,
@@ -2939,7 +3335,6 @@ postfixes-enum-known-r : (t : ℕ) → postfixes-lts.Need-enum-known-r (
 ) (postfixes-at t) postfixes.Post postfixes-Inv-loop postfixes-μ-loop
 postfixes-enum-known-r t c = search needs
 
--- src/expressions.rt:527:13
 postfixes-enum-told : (t : ℕ) → postfixes-lts.Need-enum-told (
   is-postfix-reads.Asked,
   is-postfix-reads.Learnt,
@@ -2948,41 +3343,54 @@ postfixes-enum-told : (t : ℕ) → postfixes-lts.Need-enum-told (
 ) (postfixes-at t) postfixes.Post postfixes-Inv-loop postfixes-μ-loop
 postfixes-enum-told t c = search needs
 
--- src/expressions.rt:527:13
 postfixes-same-length-2 : (t : ℕ) → postfixes-lts.Need-same-length-2 (
   is-postfix-reads.Asked,
   is-postfix-reads.Learnt,
   postfix-below t,
   postfix.Post,
 ) (postfixes-at t) postfixes.Post postfixes-Inv-loop postfixes-μ-loop
-postfixes-same-length-2 t c = c .before .before .before .before .postfix .kept .1 .1 .1 .1 .1 .1 .0 ∙ c .before .before .before .before .before .before .before .before .loop .inv .0
+postfixes-same-length-2 t c =
+    let at-postfix = c .before .before .before .before in
+    at-postfix .postfix .kept .1 .1 .1 .1 .1 .1 .0 ∙ at-postfix .before .before .before .before .loop .inv .0
 
--- src/expressions.rt:527:13
 postfixes-returns-2 : (t : ℕ) → postfixes-lts.Need-returns-2 (
   is-postfix-reads.Asked,
   is-postfix-reads.Learnt,
   postfix-below t,
   postfix.Post,
 ) (postfixes-at t) postfixes.Post postfixes-Inv-loop postfixes-μ-loop
-postfixes-returns-2 t c = λ x o h. post-refused (inner (wordsIn (c .before .before .before .before .before .before .before .before .before .before .before .before .before .before .args .reserved .now) (c .before .before .before .before .before .before .before .before .before .before .before .before .before .before .args .currencies .now) (c .before .before .before .before .before .before .before .before .before .before .before .before .before .before .args .counters .now)) (c .before .before .before .before .before .before .before .before .before .before .before .before .before .before .args .depth)) (each-inner (wordsIn (c .before .before .before .before .before .before .before .before .before .before .before .before .before .before .args .reserved .now) (c .before .before .before .before .before .before .before .before .before .before .before .before .before .before .args .currencies .now) (c .before .before .before .before .before .before .before .before .before .before .before .before .before .before .args .counters .now)) (c .before .before .before .before .before .before .before .before .before .before .before .before .before .before .args .depth)) (c .before .before .before .before .before .before .before .before .before .before .before .before .before .before .args .s .now) _ _ o _ _ _ (c .before .before .before .before .before .before .before .before .loop .inv .3 _ o (post-enter (inner (wordsIn (c .before .before .before .before .before .before .before .before .before .before .before .before .before .before .args .reserved .now) (c .before .before .before .before .before .before .before .before .before .before .before .before .before .before .args .currencies .now) (c .before .before .before .before .before .before .before .before .before .before .before .before .before .before .args .counters .now)) (c .before .before .before .before .before .before .before .before .before .before .before .before .before .before .args .depth)) (each-inner (wordsIn (c .before .before .before .before .before .before .before .before .before .before .before .before .before .before .args .reserved .now) (c .before .before .before .before .before .before .before .before .before .before .before .before .before .before .args .currencies .now) (c .before .before .before .before .before .before .before .before .before .before .before .before .before .before .args .counters .now)) (c .before .before .before .before .before .before .before .before .before .before .before .before .before .before .args .depth)) (c .before .before .before .before .before .before .before .before .before .before .before .before .before .before .args .s .now) x _ o _ _ _ h)) (c .before .before .before .before .postfix .result) _ (c .before .before .before .before .postfix .ensures) _ _ (c .enum-told .given .1)
+postfixes-returns-2 t c =
+    let at-postfix = c .before .before .before .before in
+    let at-loop = at-postfix .before .before .before .before in
+    let args = at-loop .before .before .before .before .before .before .args in
+    let words = wordsIn (args .reserved .now) (args .currencies .now) (args .counters .now) in
+    let inside = inner words (args .depth) in
+    λ x o h. post-refused inside (each-inner words (args .depth)) (args .s .now) _ _ o _ _ _ (at-loop .loop .inv .3 _ o (post-enter inside (each-inner words (args .depth)) (args .s .now) x _ o _ _ _ h)) (at-postfix .postfix .result) _ (at-postfix .postfix .ensures) _ _ (c .enum-told .given .1)
 
--- src/expressions.rt:520:5
 postfixes-loop-less : (t : ℕ) → postfixes-lts.Need-loop-less (
   is-postfix-reads.Asked,
   is-postfix-reads.Learnt,
   postfix-below t,
   postfix.Post,
 ) (postfixes-at t) postfixes.Post postfixes-Inv-loop postfixes-μ-loop
-postfixes-loop-less t c = (onward-done _ _ _ (c .before .before .before .before .before .postfix .result) _ _ _ (c .before .r .given .1) (c .before .before .before .before .before .postfix .ensures .1)) .2
+postfixes-loop-less t c =
+    let at-postfix = c .before .before .before .before .before in
+    (onward-done _ _ _ (at-postfix .postfix .result) _ _ _ (c .before .r .given .1) (at-postfix .postfix .ensures .1)) .2
 
--- src/expressions.rt:520:5
 postfixes-loop-again : (t : ℕ) → postfixes-lts.Need-loop-again (
   is-postfix-reads.Asked,
   is-postfix-reads.Learnt,
   postfix-below t,
   postfix.Post,
 ) (postfixes-at t) postfixes.Post postfixes-Inv-loop postfixes-μ-loop
-postfixes-loop-again t c = (c .before .before .before .before .before .postfix .kept .1 .1 .1 .1 .1 .1 .0 ∙ c .before .before .before .before .before .before .before .before .before .loop .inv .0, (onward-done _ _ _ (c .before .before .before .before .before .postfix .result) _ _ _ (c .before .r .given .1) (c .before .before .before .before .before .postfix .ensures .1)) .0, (onward-done _ _ _ (c .before .before .before .before .before .postfix .result) _ _ _ (c .before .r .given .1) (c .before .before .before .before .before .postfix .ensures .1)) .1, λ R o h. post-more (inner (wordsIn (c .before .before .before .before .before .before .before .before .before .before .before .before .before .before .before .args .reserved .now) (c .before .before .before .before .before .before .before .before .before .before .before .before .before .before .before .args .currencies .now) (c .before .before .before .before .before .before .before .before .before .before .before .before .before .before .before .args .counters .now)) (c .before .before .before .before .before .before .before .before .before .before .before .before .before .before .before .args .depth)) (each-inner (wordsIn (c .before .before .before .before .before .before .before .before .before .before .before .before .before .before .before .args .reserved .now) (c .before .before .before .before .before .before .before .before .before .before .before .before .before .before .before .args .currencies .now) (c .before .before .before .before .before .before .before .before .before .before .before .before .before .before .before .args .counters .now)) (c .before .before .before .before .before .before .before .before .before .before .before .before .before .before .before .args .depth)) (c .before .before .before .before .before .before .before .before .before .before .before .before .before .before .before .args .s .now) R _ o _ _ _ (c .before .before .before .before .before .before .before .before .before .loop .inv .3 R o h) (c .before .before .before .before .before .postfix .result) _ (c .before .before .before .before .before .postfix .ensures) _ _ _ (c .before .r .given .1))
+postfixes-loop-again t c =
+    let at-postfix = c .before .before .before .before .before in
+    let at-loop = at-postfix .before .before .before .before in
+    let postfix = at-postfix .postfix in
+    let r = c .before .r in
+    let args = at-loop .before .before .before .before .before .before .args in
+    let words = wordsIn (args .reserved .now) (args .currencies .now) (args .counters .now) in
+    (postfix .kept .1 .1 .1 .1 .1 .1 .0 ∙ at-loop .loop .inv .0, (onward-done _ _ _ (postfix .result) _ _ _ (r .given .1) (postfix .ensures .1)) .0, (onward-done _ _ _ (postfix .result) _ _ _ (r .given .1) (postfix .ensures .1)) .1, λ R o h. post-more (inner words (args .depth)) (each-inner words (args .depth)) (args .s .now) R _ o _ _ _ (at-loop .loop .inv .3 R o h) (postfix .result) _ (postfix .ensures) _ _ _ (r .given .1))
 
 abbrev power-Inv-loop : power-lts.InvT-loop
 power-Inv-loop s reserved currencies counters depth out₀ n at₀ m₀ sign₀ out at m sign = (length out ≡ length out₀) × Pending (isSign "**") powerSign (G.primary (wordsIn reserved currencies counters) depth) s (G.power (G.primary (wordsIn reserved currencies counters) depth) (toksAt s (at₀ .start))) n out₀ sign at m out
@@ -2990,7 +3398,6 @@ power-Inv-loop s reserved currencies counters depth out₀ n at₀ m₀ sign₀ 
 abbrev power-μ-loop : power-lts.MeasureT-loop
 power-μ-loop s reserved currencies counters depth out₀ n at₀ m₀ sign₀ out at m sign = length (toksAt s (at .start))
 
--- src/expressions.rt:204:5
 power-loop-holds : (t : ℕ) → power-lts.Need-loop-holds (
   primary-below t,
   primary.Post,
@@ -3001,9 +3408,11 @@ power-loop-holds : (t : ℕ) → power-lts.Need-loop-holds (
   next-reads.Asked,
   next-reads.Learnt,
 ) (power-at t) power.Post power-Inv-loop power-μ-loop
-power-loop-holds t c = (refl, pend-first (power-level (wordsIn (c .before .before .before .before .before .args .reserved .now) (c .before .before .before .before .before .args .currencies .now) (c .before .before .before .before .before .args .counters .now)) (c .before .before .before .before .before .args .depth)) (c .before .before .before .before .before .args .s .now) (c .before .before .before .before .before .args .c) (c .before .before .before .before .before .args .n) (c .before .before .before .before .before .args .out .now) (c .before .before .before .before .before .pre .1 .0))
+power-loop-holds t c =
+    let start = c .before .before .before .before .before in
+    let args = start .args in
+    (refl, pend-first (power-level (wordsIn (args .reserved .now) (args .currencies .now) (args .counters .now)) (args .depth)) (args .s .now) (args .c) (args .n) (args .out .now) (start .pre .1 .0))
 
--- src/expressions.rt:205:13
 power-primary-requires : (t : ℕ) → power-lts.Need-primary-requires (
   primary-below t,
   primary.Post,
@@ -3014,9 +3423,11 @@ power-primary-requires : (t : ℕ) → power-lts.Need-primary-requires (
   next-reads.Asked,
   next-reads.Learnt,
 ) (power-at t) power.Post power-Inv-loop power-μ-loop
-power-primary-requires t c κs = (omega (arith, c .before .before .before .before .before .before .before .pre .0), (pend-ready (power-level (wordsIn (c .before .before .before .before .before .before .before .args .reserved .now) (c .before .before .before .before .before .before .before .args .currencies .now) (c .before .before .before .before .before .before .before .args .counters .now)) (c .before .before .before .before .before .before .before .args .depth)) (c .before .before .before .before .before .before .before .args .s .now) _ _ _ _ _ _ _ (c .before .loop .inv .1), c .before .before .before .before .before .before .before .pre .1 .1))
+power-primary-requires t c κs =
+    let start = c .before .before .before .before .before .before .before in
+    let args = start .args in
+    (omega (arith, start .pre .0), (pend-ready (power-level (wordsIn (args .reserved .now) (args .currencies .now) (args .counters .now)) (args .depth)) (args .s .now) _ _ _ _ _ _ _ (c .before .loop .inv .1), start .pre .1 .1))
 
--- src/expressions.rt:206:24
 power-enum-known-r : (t : ℕ) → power-lts.Need-enum-known-r (
   primary-below t,
   primary.Post,
@@ -3029,7 +3440,6 @@ power-enum-known-r : (t : ℕ) → power-lts.Need-enum-known-r (
 ) (power-at t) power.Post power-Inv-loop power-μ-loop
 power-enum-known-r t c = search needs
 
--- src/expressions.rt:207:13
 power-enum-told : (t : ℕ) → power-lts.Need-enum-told (
   primary-below t,
   primary.Post,
@@ -3042,7 +3452,6 @@ power-enum-told : (t : ℕ) → power-lts.Need-enum-told (
 ) (power-at t) power.Post power-Inv-loop power-μ-loop
 power-enum-told t c = search needs
 
--- src/expressions.rt:207:13
 power-same-length : (t : ℕ) → power-lts.Need-same-length (
   primary-below t,
   primary.Post,
@@ -3053,9 +3462,10 @@ power-same-length : (t : ℕ) → power-lts.Need-same-length (
   next-reads.Asked,
   next-reads.Learnt,
 ) (power-at t) power.Post power-Inv-loop power-μ-loop
-power-same-length t c = c .before .before .before .before .primary .kept .1 .1 .1 .1 .1 .1 .0 ∙ c .before .before .before .before .before .before .loop .inv .0
+power-same-length t c =
+    let at-primary = c .before .before .before .before in
+    at-primary .primary .kept .1 .1 .1 .1 .1 .1 .0 ∙ at-primary .before .before .loop .inv .0
 
--- src/expressions.rt:207:13
 power-returns : (t : ℕ) → power-lts.Need-returns (
   primary-below t,
   primary.Post,
@@ -3066,9 +3476,12 @@ power-returns : (t : ℕ) → power-lts.Need-returns (
   next-reads.Asked,
   next-reads.Learnt,
 ) (power-at t) power.Post power-Inv-loop power-μ-loop
-power-returns t c = refused-on _ _ _ _ _ _ _ _ _ _ _ _ (c .enum-told .given .1) (c .before .before .before .before .primary .ensures) (pend-refused (power-level (wordsIn (c .before .before .before .before .before .before .before .before .before .before .before .before .args .reserved .now) (c .before .before .before .before .before .before .before .before .before .before .before .before .args .currencies .now) (c .before .before .before .before .before .before .before .before .before .before .before .before .args .counters .now)) (c .before .before .before .before .before .before .before .before .before .before .before .before .args .depth)) (c .before .before .before .before .before .before .before .before .before .before .before .before .args .s .now) _ _ _ _ _ _ _ (c .before .before .before .before .before .before .loop .inv .1) _ _)
+power-returns t c =
+    let at-primary = c .before .before .before .before in
+    let at-loop = at-primary .before .before in
+    let args = at-loop .before .before .before .before .before .before .args in
+    refused-on _ _ _ _ _ _ _ _ _ _ _ _ (c .enum-told .given .1) (at-primary .primary .ensures) (pend-refused (power-level (wordsIn (args .reserved .now) (args .currencies .now) (args .counters .now)) (args .depth)) (args .s .now) _ _ _ _ _ _ _ (at-loop .loop .inv .1) _ _)
 
--- src/expressions.rt:209:13
 power-join-requires : (t : ℕ) → power-lts.Need-join-requires (
   primary-below t,
   primary.Post,
@@ -3079,9 +3492,13 @@ power-join-requires : (t : ℕ) → power-lts.Need-join-requires (
   next-reads.Asked,
   next-reads.Learnt,
 ) (power-at t) power.Post power-Inv-loop power-μ-loop
-power-join-requires t c κs = pend-numbers (power-level (wordsIn (c .before .before .before .before .before .before .before .before .before .before .before .before .before .before .args .reserved .now) (c .before .before .before .before .before .before .before .before .before .before .before .before .before .before .args .currencies .now) (c .before .before .before .before .before .before .before .before .before .before .before .before .before .before .args .counters .now)) (c .before .before .before .before .before .before .before .before .before .before .before .before .before .before .args .depth)) (c .before .before .before .before .before .before .before .before .before .before .before .before .before .before .args .s .now) _ _ _ _ _ _ _ (c .before .before .before .before .before .before .before .before .loop .inv .1) _ _ _ _ (done-reads _ _ _ _ _ _ _ _ _ (c .before .before .r .given .1) (c .before .before .before .before .before .before .primary .ensures))
+power-join-requires t c κs =
+    let at-r = c .before .before in
+    let at-primary = at-r .before .before .before .before in
+    let at-loop = at-primary .before .before in
+    let args = at-loop .before .before .before .before .before .before .args in
+    pend-numbers (power-level (wordsIn (args .reserved .now) (args .currencies .now) (args .counters .now)) (args .depth)) (args .s .now) _ _ _ _ _ _ _ (at-loop .loop .inv .1) _ _ _ _ (done-reads _ _ _ _ _ _ _ _ _ (at-r .r .given .1) (at-primary .primary .ensures))
 
--- src/expressions.rt:211:13
 power-is-power-requires : (t : ℕ) → power-lts.Need-is-power-requires (
   primary-below t,
   primary.Post,
@@ -3094,7 +3511,6 @@ power-is-power-requires : (t : ℕ) → power-lts.Need-is-power-requires (
 ) (power-at t) power.Post power-Inv-loop power-μ-loop
 power-is-power-requires t c κs = search needs
 
--- src/expressions.rt:212:13
 power-same-length-2 : (t : ℕ) → power-lts.Need-same-length-2 (
   primary-below t,
   primary.Post,
@@ -3105,9 +3521,11 @@ power-same-length-2 : (t : ℕ) → power-lts.Need-same-length-2 (
   next-reads.Asked,
   next-reads.Learnt,
 ) (power-at t) power.Post power-Inv-loop power-μ-loop
-power-same-length-2 t c = c .before .before .before .before .join .kept .0 ∙ (c .before .before .before .before .before .before .before .before .before .before .before .primary .kept .1 .1 .1 .1 .1 .1 .0 ∙ c .before .before .before .before .before .before .before .before .before .before .before .before .before .loop .inv .0)
+power-same-length-2 t c =
+    let at-join = c .before .before .before .before in
+    let at-primary = at-join .before .before .before .before .before .before .before in
+    at-join .join .kept .0 ∙ (at-primary .primary .kept .1 .1 .1 .1 .1 .1 .0 ∙ at-primary .before .before .loop .inv .0)
 
--- src/expressions.rt:212:13
 power-returns-2 : (t : ℕ) → power-lts.Need-returns-2 (
   primary-below t,
   primary.Post,
@@ -3118,9 +3536,15 @@ power-returns-2 : (t : ℕ) → power-lts.Need-returns-2 (
   next-reads.Asked,
   next-reads.Learnt,
 ) (power-at t) power.Post power-Inv-loop power-μ-loop
-power-returns-2 t c = chain-exit (power-level (wordsIn (c .before .before .before .before .before .before .before .before .before .before .before .before .before .before .before .before .before .before .before .args .reserved .now) (c .before .before .before .before .before .before .before .before .before .before .before .before .before .before .before .before .before .before .before .args .currencies .now) (c .before .before .before .before .before .before .before .before .before .before .before .before .before .before .before .before .before .before .before .args .counters .now)) (c .before .before .before .before .before .before .before .before .before .before .before .before .before .before .before .before .before .before .before .args .depth)) (c .before .before .before .before .before .before .before .before .before .before .before .before .before .before .before .before .before .before .before .args .s .now) _ _ _ _ _ _ _ (pend-chain (power-level (wordsIn (c .before .before .before .before .before .before .before .before .before .before .before .before .before .before .before .before .before .before .before .args .reserved .now) (c .before .before .before .before .before .before .before .before .before .before .before .before .before .before .before .before .before .before .before .args .currencies .now) (c .before .before .before .before .before .before .before .before .before .before .before .before .before .before .before .before .before .before .before .args .counters .now)) (c .before .before .before .before .before .before .before .before .before .before .before .before .before .before .before .before .before .before .before .args .depth)) (c .before .before .before .before .before .before .before .before .before .before .before .before .before .before .before .before .before .before .before .args .s .now) _ _ _ _ _ _ _ (c .before .before .before .before .before .before .before .before .before .before .before .before .before .loop .inv .1) _ _ _ _ (done-reads _ _ _ _ _ _ _ _ _ (c .before .before .before .before .before .before .before .r .given .1) (c .before .before .before .before .before .before .before .before .before .before .before .primary .ensures)) (c .before .before .before .before .join .result) _ (c .before .before .before .before .join .ensures)) (sym (c .before .is-power .ensures) ∙ not-true _ (c .if1 .taken))
+power-returns-2 t c =
+    let at-join = c .before .before .before .before in
+    let at-r = at-join .before .before .before in
+    let at-primary = at-r .before .before .before .before in
+    let at-loop = at-primary .before .before in
+    let args = at-loop .before .before .before .before .before .before .args in
+    let words = wordsIn (args .reserved .now) (args .currencies .now) (args .counters .now) in
+    chain-exit (power-level words (args .depth)) (args .s .now) _ _ _ _ _ _ _ (pend-chain (power-level words (args .depth)) (args .s .now) _ _ _ _ _ _ _ (at-loop .loop .inv .1) _ _ _ _ (done-reads _ _ _ _ _ _ _ _ _ (at-r .r .given .1) (at-primary .primary .ensures)) (at-join .join .result) _ (at-join .join .ensures)) (sym (c .before .is-power .ensures) ∙ not-true _ (c .if1 .taken))
 
--- src/expressions.rt:214:9
 power-next-requires : (t : ℕ) → power-lts.Need-next-requires (
   primary-below t,
   primary.Post,
@@ -3131,9 +3555,14 @@ power-next-requires : (t : ℕ) → power-lts.Need-next-requires (
   next-reads.Asked,
   next-reads.Learnt,
 ) (power-at t) power.Post power-Inv-loop power-μ-loop
-power-next-requires t c κs = (pend-chain (power-level (wordsIn (c .before .before .before .before .before .before .before .before .before .before .before .before .before .before .before .before .before .before .before .args .reserved .now) (c .before .before .before .before .before .before .before .before .before .before .before .before .before .before .before .before .before .before .before .args .currencies .now) (c .before .before .before .before .before .before .before .before .before .before .before .before .before .before .before .before .before .before .before .args .counters .now)) (c .before .before .before .before .before .before .before .before .before .before .before .before .before .before .before .before .before .before .before .args .depth)) (c .before .before .before .before .before .before .before .before .before .before .before .before .before .before .before .before .before .before .before .args .s .now) _ _ _ _ _ _ _ (c .before .before .before .before .before .before .before .before .before .before .before .before .before .loop .inv .1) _ _ _ _ (done-reads _ _ _ _ _ _ _ _ _ (c .before .before .before .before .before .before .before .r .given .1) (c .before .before .before .before .before .before .before .before .before .before .before .primary .ensures)) (c .before .before .before .before .join .result) _ (c .before .before .before .before .join .ensures)) .holds
+power-next-requires t c κs =
+    let at-join = c .before .before .before .before in
+    let at-r = at-join .before .before .before in
+    let at-primary = at-r .before .before .before .before in
+    let at-loop = at-primary .before .before in
+    let args = at-loop .before .before .before .before .before .before .args in
+    (pend-chain (power-level (wordsIn (args .reserved .now) (args .currencies .now) (args .counters .now)) (args .depth)) (args .s .now) _ _ _ _ _ _ _ (at-loop .loop .inv .1) _ _ _ _ (done-reads _ _ _ _ _ _ _ _ _ (at-r .r .given .1) (at-primary .primary .ensures)) (at-join .join .result) _ (at-join .join .ensures)) .holds
 
--- src/expressions.rt:204:5
 power-loop-less : (t : ℕ) → power-lts.Need-loop-less (
   primary-below t,
   primary.Post,
@@ -3144,9 +3573,14 @@ power-loop-less : (t : ℕ) → power-lts.Need-loop-less (
   next-reads.Asked,
   next-reads.Learnt,
 ) (power-at t) power.Post power-Inv-loop power-μ-loop
-power-loop-less t c = pend-less (power-level (wordsIn (c .before .before .before .before .before .before .before .before .before .before .before .before .before .before .before .before .before .before .before .before .args .reserved .now) (c .before .before .before .before .before .before .before .before .before .before .before .before .before .before .before .before .before .before .before .before .args .currencies .now) (c .before .before .before .before .before .before .before .before .before .before .before .before .before .before .before .before .before .before .before .before .args .counters .now)) (c .before .before .before .before .before .before .before .before .before .before .before .before .before .before .before .before .before .before .before .before .args .depth)) (c .before .before .before .before .before .before .before .before .before .before .before .before .before .before .before .before .before .before .before .before .args .s .now) _ _ _ _ _ _ _ (c .before .before .before .before .before .before .before .before .before .before .before .before .before .before .loop .inv .1) _ _ _ _ (done-reads _ _ _ _ _ _ _ _ _ (c .before .before .before .before .before .before .before .before .r .given .1) (c .before .before .before .before .before .before .before .before .before .before .before .before .primary .ensures)) (sym (c .before .before .is-power .ensures) ∙ not-false _ (c .before .if1 .left)) (c .next .result) (c .next .ensures)
+power-loop-less t c =
+    let at-is-power = c .before .before in
+    let at-r = at-is-power .before .before .before .before .before .before in
+    let at-primary = at-r .before .before .before .before in
+    let at-loop = at-primary .before .before in
+    let args = at-loop .before .before .before .before .before .before .args in
+    pend-less (power-level (wordsIn (args .reserved .now) (args .currencies .now) (args .counters .now)) (args .depth)) (args .s .now) _ _ _ _ _ _ _ (at-loop .loop .inv .1) _ _ _ _ (done-reads _ _ _ _ _ _ _ _ _ (at-r .r .given .1) (at-primary .primary .ensures)) (sym (at-is-power .is-power .ensures) ∙ not-false _ (c .before .if1 .left)) (c .next .result) (c .next .ensures)
 
--- src/expressions.rt:204:5
 power-loop-again : (t : ℕ) → power-lts.Need-loop-again (
   primary-below t,
   primary.Post,
@@ -3157,9 +3591,17 @@ power-loop-again : (t : ℕ) → power-lts.Need-loop-again (
   next-reads.Asked,
   next-reads.Learnt,
 ) (power-at t) power.Post power-Inv-loop power-μ-loop
-power-loop-again t c = (c .before .before .before .before .before .join .kept .0 ∙ (c .before .before .before .before .before .before .before .before .before .before .before .before .primary .kept .1 .1 .1 .1 .1 .1 .0 ∙ c .before .before .before .before .before .before .before .before .before .before .before .before .before .before .loop .inv .0), pend-next (power-level (wordsIn (c .before .before .before .before .before .before .before .before .before .before .before .before .before .before .before .before .before .before .before .before .args .reserved .now) (c .before .before .before .before .before .before .before .before .before .before .before .before .before .before .before .before .before .before .before .before .args .currencies .now) (c .before .before .before .before .before .before .before .before .before .before .before .before .before .before .before .before .before .before .before .before .args .counters .now)) (c .before .before .before .before .before .before .before .before .before .before .before .before .before .before .before .before .before .before .before .before .args .depth)) (c .before .before .before .before .before .before .before .before .before .before .before .before .before .before .before .before .before .before .before .before .args .s .now) _ _ _ _ _ _ _ (pend-chain (power-level (wordsIn (c .before .before .before .before .before .before .before .before .before .before .before .before .before .before .before .before .before .before .before .before .args .reserved .now) (c .before .before .before .before .before .before .before .before .before .before .before .before .before .before .before .before .before .before .before .before .args .currencies .now) (c .before .before .before .before .before .before .before .before .before .before .before .before .before .before .before .before .before .before .before .before .args .counters .now)) (c .before .before .before .before .before .before .before .before .before .before .before .before .before .before .before .before .before .before .before .before .args .depth)) (c .before .before .before .before .before .before .before .before .before .before .before .before .before .before .before .before .before .before .before .before .args .s .now) _ _ _ _ _ _ _ (c .before .before .before .before .before .before .before .before .before .before .before .before .before .before .loop .inv .1) _ _ _ _ (done-reads _ _ _ _ _ _ _ _ _ (c .before .before .before .before .before .before .before .before .r .given .1) (c .before .before .before .before .before .before .before .before .before .before .before .before .primary .ensures)) (c .before .before .before .before .before .join .result) _ (c .before .before .before .before .before .join .ensures)) (sym (c .before .before .is-power .ensures) ∙ not-false _ (c .before .if1 .left)) (c .next .result) (c .next .ensures))
+power-loop-again t c =
+    let at-is-power = c .before .before in
+    let at-join = at-is-power .before .before .before in
+    let at-r = at-join .before .before .before in
+    let at-primary = at-r .before .before .before .before in
+    let at-loop = at-primary .before .before in
+    let join = at-join .join in
+    let args = at-loop .before .before .before .before .before .before .args in
+    let words = wordsIn (args .reserved .now) (args .currencies .now) (args .counters .now) in
+    (join .kept .0 ∙ (at-primary .primary .kept .1 .1 .1 .1 .1 .1 .0 ∙ at-loop .loop .inv .0), pend-next (power-level words (args .depth)) (args .s .now) _ _ _ _ _ _ _ (pend-chain (power-level words (args .depth)) (args .s .now) _ _ _ _ _ _ _ (at-loop .loop .inv .1) _ _ _ _ (done-reads _ _ _ _ _ _ _ _ _ (at-r .r .given .1) (at-primary .primary .ensures)) (join .result) _ (join .ensures)) (sym (at-is-power .is-power .ensures) ∙ not-false _ (c .before .if1 .left)) (c .next .result) (c .next .ensures))
 
--- src/expressions.rt:234:9
 primary-next-requires : (t : ℕ) → primary-lts.Need-next-requires (
   next-reads.Asked,
   next-reads.Learnt,
@@ -3184,7 +3626,6 @@ primary-next-requires : (t : ℕ) → primary-lts.Need-next-requires (
 ) (primary-at t) primary.Post
 primary-next-requires t c κs = search needs
 
--- src/expressions.rt:237:23
 primary-parenthesis-requires : (t : ℕ) → primary-lts.Need-parenthesis-requires (
   next-reads.Asked,
   next-reads.Learnt,
@@ -3209,7 +3650,6 @@ primary-parenthesis-requires : (t : ℕ) → primary-lts.Need-parenthesis-requir
 ) (primary-at t) primary.Post
 primary-parenthesis-requires t c κs = search needs
 
--- src/expressions.rt:240:17
 primary-returns : (t : ℕ) → primary-lts.Need-returns (
   next-reads.Asked,
   next-reads.Learnt,
@@ -3232,9 +3672,11 @@ primary-returns : (t : ℕ) → primary-lts.Need-returns (
   atom-at-reads.Asked,
   atom-at-reads.Learnt,
 ) (primary-at t) primary.Post
-primary-returns t c = prim-plus-0 (wordsIn (c .before .before .before .before .before .before .before .before .args .reserved .now) (c .before .before .before .before .before .before .before .before .args .currencies .now) (c .before .before .before .before .before .before .before .before .args .counters .now)) (c .before .before .before .before .before .before .before .before .args .s .now) (c .before .before .before .before .before .before .before .before .args .c) (c .before .before .before .before .before .before .before .before .pre .1 .0 .0) (c .before .before .before .before .before .before .before .before .args .depth) (c .before .match .keys2) (c .if1 .taken)
+primary-returns t c =
+    let start = c .before .before .before .before .before .before .before .before in
+    let args = start .args in
+    prim-plus-0 (wordsIn (args .reserved .now) (args .currencies .now) (args .counters .now)) (args .s .now) (args .c) (start .pre .1 .0 .0) (args .depth) (c .before .match .keys2) (c .if1 .taken)
 
--- src/expressions.rt:242:59
 primary-sub-primary : (t : ℕ) → primary-lts.Need-sub-primary (
   next-reads.Asked,
   next-reads.Learnt,
@@ -3259,7 +3701,6 @@ primary-sub-primary : (t : ℕ) → primary-lts.Need-sub-primary (
 ) (primary-at t) primary.Post
 primary-sub-primary t c = search needs
 
--- src/expressions.rt:242:13
 primary-primary-requires : (t : ℕ) → primary-lts.Need-primary-requires (
   next-reads.Asked,
   next-reads.Learnt,
@@ -3282,9 +3723,11 @@ primary-primary-requires : (t : ℕ) → primary-lts.Need-primary-requires (
   atom-at-reads.Asked,
   atom-at-reads.Learnt,
 ) (primary-at t) primary.Post
-primary-primary-requires t c κs = (omega arith, (follow-ready _ (c .before .before .before .before .before .before .before .before .before .args .c) (c .before .before .before .next .result) _ (λ z. omega (arith, z, c .before .before .match .keys2)) (c .before .before .before .next .ensures) (c .before .before .before .before .before .before .before .before .before .pre .1 .0) .0, c .before .before .before .before .before .before .before .before .before .pre .1 .1))
+primary-primary-requires t c κs =
+    let at-match = c .before .before in
+    let start = at-match .before .before .before .before .before .before .before in
+    (omega arith, (follow-ready _ (start .args .c) (at-match .before .next .result) _ (λ z. omega (arith, z, at-match .match .keys2)) (at-match .before .next .ensures) (start .pre .1 .0) .0, start .pre .1 .1))
 
--- src/expressions.rt:246:17
 primary-constant-at-requires : (t : ℕ) → primary-lts.Need-constant-at-requires (
   next-reads.Asked,
   next-reads.Learnt,
@@ -3307,9 +3750,11 @@ primary-constant-at-requires : (t : ℕ) → primary-lts.Need-constant-at-requir
   atom-at-reads.Asked,
   atom-at-reads.Learnt,
 ) (primary-at t) primary.Post
-primary-constant-at-requires t c κs = ((follow-ready _ (c .before .before .before .before .before .before .before .before .before .before .args .c) (c .before .before .before .before .next .result) _ (λ z. omega (arith, z, c .before .before .before .match .keys3)) (c .before .before .before .before .next .ensures) (c .before .before .before .before .before .before .before .before .before .before .pre .1 .0) .0), c .before .if2 .taken)
+primary-constant-at-requires t c κs =
+    let at-match = c .before .before .before in
+    let start = at-match .before .before .before .before .before .before .before in
+    ((follow-ready _ (start .args .c) (at-match .before .next .result) _ (λ z. omega (arith, z, at-match .match .keys3)) (at-match .before .next .ensures) (start .pre .1 .0) .0), c .before .if2 .taken)
 
--- src/expressions.rt:246:17
 primary-same-length : (t : ℕ) → primary-lts.Need-same-length (
   next-reads.Asked,
   next-reads.Learnt,
@@ -3334,7 +3779,6 @@ primary-same-length : (t : ℕ) → primary-lts.Need-same-length (
 ) (primary-at t) primary.Post
 primary-same-length t c = search needs
 
--- src/expressions.rt:246:17
 primary-returns-2 : (t : ℕ) → primary-lts.Need-returns-2 (
   next-reads.Asked,
   next-reads.Learnt,
@@ -3357,9 +3801,14 @@ primary-returns-2 : (t : ℕ) → primary-lts.Need-returns-2 (
   atom-at-reads.Asked,
   atom-at-reads.Learnt,
 ) (primary-at t) primary.Post
-primary-returns-2 t c = meets-as _ _ _ _ _ (c .before .before .constant-at .result) _ (prim-minus-number (wordsIn (c .before .before .before .before .before .before .before .before .before .before .before .before .before .args .reserved .now) (c .before .before .before .before .before .before .before .before .before .before .before .before .before .args .currencies .now) (c .before .before .before .before .before .before .before .before .before .before .before .before .before .args .counters .now)) (c .before .before .before .before .before .before .before .before .before .before .before .before .before .args .s .now) (c .before .before .before .before .before .before .before .before .before .before .before .before .before .args .c) (c .before .before .before .before .before .before .before .before .before .before .before .before .before .pre .1 .0 .0) (c .before .before .before .before .before .before .before .before .before .before .before .before .before .args .depth) (c .before .before .before .before .before .before .before .next .result) (c .before .before .before .before .before .before .before .next .ensures) (c .before .before .before .before .before .before .match .keys3) (c .before .before .before .before .if2 .taken)) (c .before .before .constant-at .ensures)
+primary-returns-2 t c =
+    let at-constant-at = c .before .before in
+    let at-if2 = at-constant-at .before .before in
+    let at-match = at-if2 .before .before in
+    let start = at-match .before .before .before .before .before .before .before in
+    let args = start .args in
+    meets-as _ _ _ _ _ (at-constant-at .constant-at .result) _ (prim-minus-number (wordsIn (args .reserved .now) (args .currencies .now) (args .counters .now)) (args .s .now) (args .c) (start .pre .1 .0 .0) (args .depth) (at-match .before .next .result) (at-match .before .next .ensures) (at-match .match .keys3) (at-if2 .if2 .taken)) (at-constant-at .constant-at .ensures)
 
--- src/expressions.rt:249:17
 primary-returns-3 : (t : ℕ) → primary-lts.Need-returns-3 (
   next-reads.Asked,
   next-reads.Learnt,
@@ -3382,9 +3831,12 @@ primary-returns-3 : (t : ℕ) → primary-lts.Need-returns-3 (
   atom-at-reads.Asked,
   atom-at-reads.Learnt,
 ) (primary-at t) primary.Post
-primary-returns-3 t c = prim-minus-0 (wordsIn (c .before .before .before .before .before .before .before .before .before .before .args .reserved .now) (c .before .before .before .before .before .before .before .before .before .before .args .currencies .now) (c .before .before .before .before .before .before .before .before .before .before .args .counters .now)) (c .before .before .before .before .before .before .before .before .before .before .args .s .now) (c .before .before .before .before .before .before .before .before .before .before .args .c) (c .before .before .before .before .before .before .before .before .before .before .pre .1 .0 .0) (c .before .before .before .before .before .before .before .before .before .before .args .depth) (c .before .before .before .before .next .result) (c .before .before .before .before .next .ensures) (c .before .before .before .match .keys3) (c .before .if2 .left) (c .if3 .taken)
+primary-returns-3 t c =
+    let at-match = c .before .before .before in
+    let start = at-match .before .before .before .before .before .before .before in
+    let args = start .args in
+    prim-minus-0 (wordsIn (args .reserved .now) (args .currencies .now) (args .counters .now)) (args .s .now) (args .c) (start .pre .1 .0 .0) (args .depth) (at-match .before .next .result) (at-match .before .next .ensures) (at-match .match .keys3) (c .before .if2 .left) (c .if3 .taken)
 
--- src/expressions.rt:251:67
 primary-sub-primary-2 : (t : ℕ) → primary-lts.Need-sub-primary-2 (
   next-reads.Asked,
   next-reads.Learnt,
@@ -3409,7 +3861,6 @@ primary-sub-primary-2 : (t : ℕ) → primary-lts.Need-sub-primary-2 (
 ) (primary-at t) primary.Post
 primary-sub-primary-2 t c = search needs
 
--- src/expressions.rt:251:17
 primary-primary-requires-2 : (t : ℕ) → primary-lts.Need-primary-requires-2 (
   next-reads.Asked,
   next-reads.Learnt,
@@ -3432,9 +3883,11 @@ primary-primary-requires-2 : (t : ℕ) → primary-lts.Need-primary-requires-2 (
   atom-at-reads.Asked,
   atom-at-reads.Learnt,
 ) (primary-at t) primary.Post
-primary-primary-requires-2 t c κs = (omega arith, (follow-ready _ (c .before .before .before .before .before .before .before .before .before .before .before .args .c) (c .before .before .before .before .before .next .result) _ (λ z. omega (arith, z, c .before .before .before .before .match .keys3)) (c .before .before .before .before .before .next .ensures) (c .before .before .before .before .before .before .before .before .before .before .before .pre .1 .0) .0, c .before .before .before .before .before .before .before .before .before .before .before .pre .1 .1))
+primary-primary-requires-2 t c κs =
+    let at-match = c .before .before .before .before in
+    let start = at-match .before .before .before .before .before .before .before in
+    (omega arith, (follow-ready _ (start .args .c) (at-match .before .next .result) _ (λ z. omega (arith, z, at-match .match .keys3)) (at-match .before .next .ensures) (start .pre .1 .0) .0, start .pre .1 .1))
 
--- src/expressions.rt:252:28
 primary-enum-known-r : (t : ℕ) → primary-lts.Need-enum-known-r (
   next-reads.Asked,
   next-reads.Learnt,
@@ -3459,7 +3912,6 @@ primary-enum-known-r : (t : ℕ) → primary-lts.Need-enum-known-r (
 ) (primary-at t) primary.Post
 primary-enum-known-r t c = search needs
 
--- src/expressions.rt:253:17
 primary-enum-told : (t : ℕ) → primary-lts.Need-enum-told (
   next-reads.Asked,
   next-reads.Learnt,
@@ -3484,7 +3936,6 @@ primary-enum-told : (t : ℕ) → primary-lts.Need-enum-told (
 ) (primary-at t) primary.Post
 primary-enum-told t c = search needs
 
--- src/expressions.rt:253:17
 primary-same-length-2 : (t : ℕ) → primary-lts.Need-same-length-2 (
   next-reads.Asked,
   next-reads.Learnt,
@@ -3509,7 +3960,6 @@ primary-same-length-2 : (t : ℕ) → primary-lts.Need-same-length-2 (
 ) (primary-at t) primary.Post
 primary-same-length-2 t c = search needs
 
--- src/expressions.rt:253:17
 primary-returns-4 : (t : ℕ) → primary-lts.Need-returns-4 (
   next-reads.Asked,
   next-reads.Learnt,
@@ -3532,9 +3982,14 @@ primary-returns-4 : (t : ℕ) → primary-lts.Need-returns-4 (
   atom-at-reads.Asked,
   atom-at-reads.Learnt,
 ) (primary-at t) primary.Post
-primary-returns-4 t c = refused-on _ _ _ _ _ _ _ _ _ _ _ _ (c .enum-told .given .1) (c .before .before .before .before .primary2 .ensures) (λ e. prim-minus (wordsIn (c .before .before .before .before .before .before .before .before .before .before .before .before .before .before .before .before .args .reserved .now) (c .before .before .before .before .before .before .before .before .before .before .before .before .before .before .before .before .args .currencies .now) (c .before .before .before .before .before .before .before .before .before .before .before .before .before .before .before .before .args .counters .now)) (c .before .before .before .before .before .before .before .before .before .before .before .before .before .before .before .before .args .s .now) (c .before .before .before .before .before .before .before .before .before .before .before .before .before .before .before .before .args .c) (c .before .before .before .before .before .before .before .before .before .before .before .before .before .before .before .before .pre .1 .0 .0) (c .before .before .before .before .before .before .before .before .before .before .before .before .before .before .before .before .args .depth) (c .before .before .before .before .before .before .before .before .before .before .next .result) (c .before .before .before .before .before .before .before .before .before .before .next .ensures) (c .before .before .before .before .before .before .before .before .before .match .keys3) (c .before .before .before .before .before .before .before .if2 .left) (c .before .before .before .before .before .before .if3 .left) ∙ bind-refused _ _ _ _ _ e)
+primary-returns-4 t c =
+    let at-primary2 = c .before .before .before .before in
+    let at-if3 = at-primary2 .before .before in
+    let at-match = at-if3 .before .before .before in
+    let start = at-match .before .before .before .before .before .before .before in
+    let args = start .args in
+    refused-on _ _ _ _ _ _ _ _ _ _ _ _ (c .enum-told .given .1) (at-primary2 .primary2 .ensures) (λ e. prim-minus (wordsIn (args .reserved .now) (args .currencies .now) (args .counters .now)) (args .s .now) (args .c) (start .pre .1 .0 .0) (args .depth) (at-match .before .next .result) (at-match .before .next .ensures) (at-match .match .keys3) (at-if3 .before .if2 .left) (at-if3 .if3 .left) ∙ bind-refused _ _ _ _ _ e)
 
--- src/expressions.rt:255:34
 primary-sub-plain : (t : ℕ) → primary-lts.Need-sub-plain (
   next-reads.Asked,
   next-reads.Learnt,
@@ -3557,9 +4012,16 @@ primary-sub-plain : (t : ℕ) → primary-lts.Need-sub-plain (
   atom-at-reads.Asked,
   atom-at-reads.Learnt,
 ) (primary-at t) primary.Post
-primary-sub-plain t c = omega (arith, read-numbers (c .before .before .before .before .before .before .before .before .before .before .before .before .before .before .before .before .before .before .args .s .now) (G.primary (wordsIn (c .before .before .before .before .before .before .before .before .before .before .before .before .before .before .before .before .before .before .args .reserved .now) (c .before .before .before .before .before .before .before .before .before .before .before .before .before .before .before .before .before .before .args .currencies .now) (c .before .before .before .before .before .before .before .before .before .before .before .before .before .before .before .before .before .before .args .counters .now)) (c .before .before .before .before .before .before .before .before .before .before .before .before .before .before .before .before .before .before .args .depth - 1)) (primary-size (wordsIn (c .before .before .before .before .before .before .before .before .before .before .before .before .before .before .before .before .before .before .args .reserved .now) (c .before .before .before .before .before .before .before .before .before .before .before .before .before .before .before .before .before .before .args .currencies .now) (c .before .before .before .before .before .before .before .before .before .before .before .before .before .before .before .before .before .before .args .counters .now)) (c .before .before .before .before .before .before .before .before .before .before .before .before .before .before .before .before .before .before .args .depth - 1)) (c .before .before .before .before .before .before .before .before .before .before .before .before .next .result) _ _ _ _ _ _ (done-reads _ _ _ _ _ _ _ _ _ (c .before .before .r .given .1) (c .before .before .before .before .before .before .primary2 .ensures)) ((follow-ready _ (c .before .before .before .before .before .before .before .before .before .before .before .before .before .before .before .before .before .before .args .c) (c .before .before .before .before .before .before .before .before .before .before .before .before .next .result) _ (λ z. omega (arith, z, c .before .before .before .before .before .before .before .before .before .before .before .match .keys3)) (c .before .before .before .before .before .before .before .before .before .before .before .before .next .ensures) (c .before .before .before .before .before .before .before .before .before .before .before .before .before .before .before .before .before .before .pre .1 .0) .0) .1), follow-ready _ (c .before .before .before .before .before .before .before .before .before .before .before .before .before .before .before .before .before .before .args .c) (c .before .before .before .before .before .before .before .before .before .before .before .before .next .result) _ (λ z. omega (arith, z, c .before .before .before .before .before .before .before .before .before .before .before .match .keys3)) (c .before .before .before .before .before .before .before .before .before .before .before .before .next .ensures) (c .before .before .before .before .before .before .before .before .before .before .before .before .before .before .before .before .before .before .pre .1 .0) .1)
+primary-sub-plain t c =
+    let at-r = c .before .before in
+    let at-primary2 = at-r .before .before .before .before in
+    let at-match = at-primary2 .before .before .before .before .before in
+    let start = at-match .before .before .before .before .before .before .before in
+    let args = start .args in
+    let next = at-match .before .next in
+    let words = wordsIn (args .reserved .now) (args .currencies .now) (args .counters .now) in
+    omega (arith, read-numbers (args .s .now) (G.primary words (args .depth - 1)) (primary-size words (args .depth - 1)) (next .result) _ _ _ _ _ _ (done-reads _ _ _ _ _ _ _ _ _ (at-r .r .given .1) (at-primary2 .primary2 .ensures)) ((follow-ready _ (args .c) (next .result) _ (λ z. omega (arith, z, at-match .match .keys3)) (next .ensures) (start .pre .1 .0) .0) .1), follow-ready _ (args .c) (next .result) _ (λ z. omega (arith, z, at-match .match .keys3)) (next .ensures) (start .pre .1 .0) .1)
 
--- src/expressions.rt:255:34
 primary-add-plain : (t : ℕ) → primary-lts.Need-add-plain (
   next-reads.Asked,
   next-reads.Learnt,
@@ -3582,9 +4044,16 @@ primary-add-plain : (t : ℕ) → primary-lts.Need-add-plain (
   atom-at-reads.Asked,
   atom-at-reads.Learnt,
 ) (primary-at t) primary.Post
-primary-add-plain t c = omega (arith, read-numbers (c .before .before .before .before .before .before .before .before .before .before .before .before .before .before .before .before .before .before .args .s .now) (G.primary (wordsIn (c .before .before .before .before .before .before .before .before .before .before .before .before .before .before .before .before .before .before .args .reserved .now) (c .before .before .before .before .before .before .before .before .before .before .before .before .before .before .before .before .before .before .args .currencies .now) (c .before .before .before .before .before .before .before .before .before .before .before .before .before .before .before .before .before .before .args .counters .now)) (c .before .before .before .before .before .before .before .before .before .before .before .before .before .before .before .before .before .before .args .depth - 1)) (primary-size (wordsIn (c .before .before .before .before .before .before .before .before .before .before .before .before .before .before .before .before .before .before .args .reserved .now) (c .before .before .before .before .before .before .before .before .before .before .before .before .before .before .before .before .before .before .args .currencies .now) (c .before .before .before .before .before .before .before .before .before .before .before .before .before .before .before .before .before .before .args .counters .now)) (c .before .before .before .before .before .before .before .before .before .before .before .before .before .before .before .before .before .before .args .depth - 1)) (c .before .before .before .before .before .before .before .before .before .before .before .before .next .result) _ _ _ _ _ _ (done-reads _ _ _ _ _ _ _ _ _ (c .before .before .r .given .1) (c .before .before .before .before .before .before .primary2 .ensures)) ((follow-ready _ (c .before .before .before .before .before .before .before .before .before .before .before .before .before .before .before .before .before .before .args .c) (c .before .before .before .before .before .before .before .before .before .before .before .before .next .result) _ (λ z. omega (arith, z, c .before .before .before .before .before .before .before .before .before .before .before .match .keys3)) (c .before .before .before .before .before .before .before .before .before .before .before .before .next .ensures) (c .before .before .before .before .before .before .before .before .before .before .before .before .before .before .before .before .before .before .pre .1 .0) .0) .1), follow-ready _ (c .before .before .before .before .before .before .before .before .before .before .before .before .before .before .before .before .before .before .args .c) (c .before .before .before .before .before .before .before .before .before .before .before .before .next .result) _ (λ z. omega (arith, z, c .before .before .before .before .before .before .before .before .before .before .before .match .keys3)) (c .before .before .before .before .before .before .before .before .before .before .before .before .next .ensures) (c .before .before .before .before .before .before .before .before .before .before .before .before .before .before .before .before .before .before .pre .1 .0) .1)
+primary-add-plain t c =
+    let at-r = c .before .before in
+    let at-primary2 = at-r .before .before .before .before in
+    let at-match = at-primary2 .before .before .before .before .before in
+    let start = at-match .before .before .before .before .before .before .before in
+    let args = start .args in
+    let next = at-match .before .next in
+    let words = wordsIn (args .reserved .now) (args .currencies .now) (args .counters .now) in
+    omega (arith, read-numbers (args .s .now) (G.primary words (args .depth - 1)) (primary-size words (args .depth - 1)) (next .result) _ _ _ _ _ _ (done-reads _ _ _ _ _ _ _ _ _ (at-r .r .given .1) (at-primary2 .primary2 .ensures)) ((follow-ready _ (args .c) (next .result) _ (λ z. omega (arith, z, at-match .match .keys3)) (next .ensures) (start .pre .1 .0) .0) .1), follow-ready _ (args .c) (next .result) _ (λ z. omega (arith, z, at-match .match .keys3)) (next .ensures) (start .pre .1 .0) .1)
 
--- src/expressions.rt:255:25
 primary-plain-requires : (t : ℕ) → primary-lts.Need-plain-requires (
   next-reads.Asked,
   next-reads.Learnt,
@@ -3609,7 +4078,6 @@ primary-plain-requires : (t : ℕ) → primary-lts.Need-plain-requires (
 ) (primary-at t) primary.Post
 primary-plain-requires t c κs = search needs
 
--- src/expressions.rt:255:13
 primary-put-requires : (t : ℕ) → primary-lts.Need-put-requires (
   next-reads.Asked,
   next-reads.Learnt,
@@ -3634,7 +4102,6 @@ primary-put-requires : (t : ℕ) → primary-lts.Need-put-requires (
 ) (primary-at t) primary.Post
 primary-put-requires t c κs = search needs
 
--- src/expressions.rt:256:27
 primary-add-t24 : (t : ℕ) → primary-lts.Need-add-t24 (
   next-reads.Asked,
   next-reads.Learnt,
@@ -3657,9 +4124,16 @@ primary-add-t24 : (t : ℕ) → primary-lts.Need-add-t24 (
   atom-at-reads.Asked,
   atom-at-reads.Learnt,
 ) (primary-at t) primary.Post
-primary-add-t24 t c = omega (arith, read-numbers (c .before .before .before .before .before .before .before .before .before .before .before .before .before .before .before .before .before .before .before .before .before .before .args .s .now) (G.primary (wordsIn (c .before .before .before .before .before .before .before .before .before .before .before .before .before .before .before .before .before .before .before .before .before .before .args .reserved .now) (c .before .before .before .before .before .before .before .before .before .before .before .before .before .before .before .before .before .before .before .before .before .before .args .currencies .now) (c .before .before .before .before .before .before .before .before .before .before .before .before .before .before .before .before .before .before .before .before .before .before .args .counters .now)) (c .before .before .before .before .before .before .before .before .before .before .before .before .before .before .before .before .before .before .before .before .before .before .args .depth - 1)) (primary-size (wordsIn (c .before .before .before .before .before .before .before .before .before .before .before .before .before .before .before .before .before .before .before .before .before .before .args .reserved .now) (c .before .before .before .before .before .before .before .before .before .before .before .before .before .before .before .before .before .before .before .before .before .before .args .currencies .now) (c .before .before .before .before .before .before .before .before .before .before .before .before .before .before .before .before .before .before .before .before .before .before .args .counters .now)) (c .before .before .before .before .before .before .before .before .before .before .before .before .before .before .before .before .before .before .before .before .before .before .args .depth - 1)) (c .before .before .before .before .before .before .before .before .before .before .before .before .before .before .before .before .next .result) _ _ _ _ _ _ (done-reads _ _ _ _ _ _ _ _ _ (c .before .before .before .before .before .before .r .given .1) (c .before .before .before .before .before .before .before .before .before .before .primary2 .ensures)) ((follow-ready _ (c .before .before .before .before .before .before .before .before .before .before .before .before .before .before .before .before .before .before .before .before .before .before .args .c) (c .before .before .before .before .before .before .before .before .before .before .before .before .before .before .before .before .next .result) _ (λ z. omega (arith, z, c .before .before .before .before .before .before .before .before .before .before .before .before .before .before .before .match .keys3)) (c .before .before .before .before .before .before .before .before .before .before .before .before .before .before .before .before .next .ensures) (c .before .before .before .before .before .before .before .before .before .before .before .before .before .before .before .before .before .before .before .before .before .before .pre .1 .0) .0) .1), follow-ready _ (c .before .before .before .before .before .before .before .before .before .before .before .before .before .before .before .before .before .before .before .before .before .before .args .c) (c .before .before .before .before .before .before .before .before .before .before .before .before .before .before .before .before .next .result) _ (λ z. omega (arith, z, c .before .before .before .before .before .before .before .before .before .before .before .before .before .before .before .match .keys3)) (c .before .before .before .before .before .before .before .before .before .before .before .before .before .before .before .before .next .ensures) (c .before .before .before .before .before .before .before .before .before .before .before .before .before .before .before .before .before .before .before .before .before .before .pre .1 .0) .1)
+primary-add-t24 t c =
+    let at-r = c .before .before .before .before .before .before in
+    let at-primary2 = at-r .before .before .before .before in
+    let at-match = at-primary2 .before .before .before .before .before in
+    let start = at-match .before .before .before .before .before .before .before in
+    let args = start .args in
+    let next = at-match .before .next in
+    let words = wordsIn (args .reserved .now) (args .currencies .now) (args .counters .now) in
+    omega (arith, read-numbers (args .s .now) (G.primary words (args .depth - 1)) (primary-size words (args .depth - 1)) (next .result) _ _ _ _ _ _ (done-reads _ _ _ _ _ _ _ _ _ (at-r .r .given .1) (at-primary2 .primary2 .ensures)) ((follow-ready _ (args .c) (next .result) _ (λ z. omega (arith, z, at-match .match .keys3)) (next .ensures) (start .pre .1 .0) .0) .1), follow-ready _ (args .c) (next .result) _ (λ z. omega (arith, z, at-match .match .keys3)) (next .ensures) (start .pre .1 .0) .1)
 
--- src/expressions.rt:258:25
 primary-list-requires : (t : ℕ) → primary-lts.Need-list-requires (
   next-reads.Asked,
   next-reads.Learnt,
@@ -3684,7 +4158,6 @@ primary-list-requires : (t : ℕ) → primary-lts.Need-list-requires (
 ) (primary-at t) primary.Post
 primary-list-requires t c κs = search needs
 
--- src/expressions.rt:259:17
 primary-pays-requires : (t : ℕ) → primary-lts.Need-pays-requires (
   next-reads.Asked,
   next-reads.Learnt,
@@ -3709,7 +4182,6 @@ primary-pays-requires : (t : ℕ) → primary-lts.Need-pays-requires (
 ) (primary-at t) primary.Post
 primary-pays-requires t c κs = search needs
 
--- src/expressions.rt:260:17
 primary-name-requires : (t : ℕ) → primary-lts.Need-name-requires (
   next-reads.Asked,
   next-reads.Learnt,
@@ -3734,7 +4206,6 @@ primary-name-requires : (t : ℕ) → primary-lts.Need-name-requires (
 ) (primary-at t) primary.Post
 primary-name-requires t c κs = search needs
 
--- src/expressions.rt:261:14
 primary-atom-at-requires : (t : ℕ) → primary-lts.Need-atom-at-requires (
   next-reads.Asked,
   next-reads.Learnt,
@@ -3759,7 +4230,6 @@ primary-atom-at-requires : (t : ℕ) → primary-lts.Need-atom-at-requires (
 ) (primary-at t) primary.Post
 primary-atom-at-requires t c κs = search needs
 
--- src/expressions.rt:221:1
 primary-same-length-3 : (t : ℕ) → primary-lts.Need-same-length-3 (
   next-reads.Asked,
   next-reads.Learnt,
@@ -3784,7 +4254,6 @@ primary-same-length-3 : (t : ℕ) → primary-lts.Need-same-length-3 (
 ) (primary-at t) primary.Post
 primary-same-length-3 t c = search needs
 
--- src/expressions.rt:221:1
 primary-returns-5 : (t : ℕ) → primary-lts.Need-returns-5 (
   next-reads.Asked,
   next-reads.Learnt,
@@ -3807,9 +4276,13 @@ primary-returns-5 : (t : ℕ) → primary-lts.Need-returns-5 (
   atom-at-reads.Asked,
   atom-at-reads.Learnt,
 ) (primary-at t) primary.Post
-primary-returns-5 t c = meets-as _ _ _ _ _ (c .before .before .parenthesis .result) _ (prim-paren (wordsIn (c .before .before .before .before .before .before .before .before .before .before .before .args .reserved .now) (c .before .before .before .before .before .before .before .before .before .before .before .args .currencies .now) (c .before .before .before .before .before .before .before .before .before .before .before .args .counters .now)) (c .before .before .before .before .before .before .before .before .before .before .before .args .s .now) (c .before .before .before .before .before .before .before .before .before .before .before .args .c) (c .before .before .before .before .before .before .before .before .before .before .before .pre .1 .0 .0) (c .before .before .before .before .before .before .before .before .before .before .before .args .depth) (c .before .before .before .before .match .keys1)) (c .before .before .parenthesis .ensures)
+primary-returns-5 t c =
+    let at-parenthesis = c .before .before in
+    let at-match = at-parenthesis .before .before in
+    let start = at-match .before .before .before .before .before .before .before in
+    let args = start .args in
+    meets-as _ _ _ _ _ (at-parenthesis .parenthesis .result) _ (prim-paren (wordsIn (args .reserved .now) (args .currencies .now) (args .counters .now)) (args .s .now) (args .c) (start .pre .1 .0 .0) (args .depth) (at-match .match .keys1)) (at-parenthesis .parenthesis .ensures)
 
--- src/expressions.rt:221:1
 primary-same-length-4 : (t : ℕ) → primary-lts.Need-same-length-4 (
   next-reads.Asked,
   next-reads.Learnt,
@@ -3834,7 +4307,6 @@ primary-same-length-4 : (t : ℕ) → primary-lts.Need-same-length-4 (
 ) (primary-at t) primary.Post
 primary-same-length-4 t c = search needs
 
--- src/expressions.rt:221:1
 primary-returns-6 : (t : ℕ) → primary-lts.Need-returns-6 (
   next-reads.Asked,
   next-reads.Learnt,
@@ -3857,9 +4329,14 @@ primary-returns-6 : (t : ℕ) → primary-lts.Need-returns-6 (
   atom-at-reads.Asked,
   atom-at-reads.Learnt,
 ) (primary-at t) primary.Post
-primary-returns-6 t c = meets-as _ _ _ _ _ (c .before .before .primary .result) _ (prim-plus (wordsIn (c .before .before .before .before .before .before .before .before .before .before .before .before .args .reserved .now) (c .before .before .before .before .before .before .before .before .before .before .before .before .args .currencies .now) (c .before .before .before .before .before .before .before .before .before .before .before .before .args .counters .now)) (c .before .before .before .before .before .before .before .before .before .before .before .before .args .s .now) (c .before .before .before .before .before .before .before .before .before .before .before .before .args .c) (c .before .before .before .before .before .before .before .before .before .before .before .before .pre .1 .0 .0) (c .before .before .before .before .before .before .before .before .before .before .before .before .args .depth) (c .before .before .before .before .before .before .next .result) (c .before .before .before .before .before .before .next .ensures) (c .before .before .before .before .before .match .keys2) (c .before .before .before .before .if1 .left)) (c .before .before .primary .ensures)
+primary-returns-6 t c =
+    let at-primary = c .before .before in
+    let at-if1 = at-primary .before .before in
+    let at-next = at-if1 .before .before in
+    let start = at-next .before .before .before .before .before .before in
+    let args = start .args in
+    meets-as _ _ _ _ _ (at-primary .primary .result) _ (prim-plus (wordsIn (args .reserved .now) (args .currencies .now) (args .counters .now)) (args .s .now) (args .c) (start .pre .1 .0 .0) (args .depth) (at-next .next .result) (at-next .next .ensures) (at-if1 .before .match .keys2) (at-if1 .if1 .left)) (at-primary .primary .ensures)
 
--- src/expressions.rt:221:1
 primary-same-length-5 : (t : ℕ) → primary-lts.Need-same-length-5 (
   next-reads.Asked,
   next-reads.Learnt,
@@ -3884,7 +4361,6 @@ primary-same-length-5 : (t : ℕ) → primary-lts.Need-same-length-5 (
 ) (primary-at t) primary.Post
 primary-same-length-5 t c = search needs
 
--- src/expressions.rt:221:1
 primary-returns-7 : (t : ℕ) → primary-lts.Need-returns-7 (
   next-reads.Asked,
   next-reads.Learnt,
@@ -3907,9 +4383,17 @@ primary-returns-7 : (t : ℕ) → primary-lts.Need-returns-7 (
   atom-at-reads.Asked,
   atom-at-reads.Learnt,
 ) (primary-at t) primary.Post
-primary-returns-7 t c = reads-as _ _ _ _ _ _ _ _ _ (prim-minus (wordsIn (c .before .before .before .before .before .before .before .before .before .before .before .before .before .before .before .before .before .before .before .before .before .before .args .reserved .now) (c .before .before .before .before .before .before .before .before .before .before .before .before .before .before .before .before .before .before .before .before .before .before .args .currencies .now) (c .before .before .before .before .before .before .before .before .before .before .before .before .before .before .before .before .before .before .before .before .before .before .args .counters .now)) (c .before .before .before .before .before .before .before .before .before .before .before .before .before .before .before .before .before .before .before .before .before .before .args .s .now) (c .before .before .before .before .before .before .before .before .before .before .before .before .before .before .before .before .before .before .before .before .before .before .args .c) (c .before .before .before .before .before .before .before .before .before .before .before .before .before .before .before .before .before .before .before .before .before .before .pre .1 .0 .0) (c .before .before .before .before .before .before .before .before .before .before .before .before .before .before .before .before .before .before .before .before .before .before .args .depth) (c .before .before .before .before .before .before .before .before .before .before .before .before .before .before .before .before .next .result) (c .before .before .before .before .before .before .before .before .before .before .before .before .before .before .before .before .next .ensures) (c .before .before .before .before .before .before .before .before .before .before .before .before .before .before .before .match .keys3) (c .before .before .before .before .before .before .before .before .before .before .before .before .before .if2 .left) (c .before .before .before .before .before .before .before .before .before .before .before .before .if3 .left)) (negate-reads (wordsIn (c .before .before .before .before .before .before .before .before .before .before .before .before .before .before .before .before .before .before .before .before .before .before .args .reserved .now) (c .before .before .before .before .before .before .before .before .before .before .before .before .before .before .before .before .before .before .before .before .before .before .args .currencies .now) (c .before .before .before .before .before .before .before .before .before .before .before .before .before .before .before .before .before .before .before .before .before .before .args .counters .now)) (G.primary (wordsIn (c .before .before .before .before .before .before .before .before .before .before .before .before .before .before .before .before .before .before .before .before .before .before .args .reserved .now) (c .before .before .before .before .before .before .before .before .before .before .before .before .before .before .before .before .before .before .before .before .before .before .args .currencies .now) (c .before .before .before .before .before .before .before .before .before .before .before .before .before .before .before .before .before .before .before .before .before .before .args .counters .now)) (c .before .before .before .before .before .before .before .before .before .before .before .before .before .before .before .before .before .before .before .before .before .before .args .depth - 1)) _ _ _ _ _ _ _ _ _ (done-reads _ _ _ _ _ _ _ _ _ (c .before .before .before .before .before .before .r .given .1) (c .before .before .before .before .before .before .before .before .before .before .primary2 .ensures)) (put-fields _ _ _ _ _ _ _ _ _ (c .before .before .before .plain .ensures) (c .before .before .put .ensures)))
+primary-returns-7 t c =
+    let at-put = c .before .before in
+    let at-r = at-put .before .before .before .before in
+    let at-primary2 = at-r .before .before .before .before in
+    let at-if3 = at-primary2 .before .before in
+    let at-match = at-if3 .before .before .before in
+    let start = at-match .before .before .before .before .before .before .before in
+    let args = start .args in
+    let words = wordsIn (args .reserved .now) (args .currencies .now) (args .counters .now) in
+    reads-as _ _ _ _ _ _ _ _ _ (prim-minus words (args .s .now) (args .c) (start .pre .1 .0 .0) (args .depth) (at-match .before .next .result) (at-match .before .next .ensures) (at-match .match .keys3) (at-if3 .before .if2 .left) (at-if3 .if3 .left)) (negate-reads words (G.primary words (args .depth - 1)) _ _ _ _ _ _ _ _ _ (done-reads _ _ _ _ _ _ _ _ _ (at-r .r .given .1) (at-primary2 .primary2 .ensures)) (put-fields _ _ _ _ _ _ _ _ _ (at-put .before .plain .ensures) (at-put .put .ensures)))
 
--- src/expressions.rt:221:1
 primary-same-length-6 : (t : ℕ) → primary-lts.Need-same-length-6 (
   next-reads.Asked,
   next-reads.Learnt,
@@ -3934,7 +4418,6 @@ primary-same-length-6 : (t : ℕ) → primary-lts.Need-same-length-6 (
 ) (primary-at t) primary.Post
 primary-same-length-6 t c = search needs
 
--- src/expressions.rt:221:1
 primary-returns-8 : (t : ℕ) → primary-lts.Need-returns-8 (
   next-reads.Asked,
   next-reads.Learnt,
@@ -3957,9 +4440,13 @@ primary-returns-8 : (t : ℕ) → primary-lts.Need-returns-8 (
   atom-at-reads.Asked,
   atom-at-reads.Learnt,
 ) (primary-at t) primary.Post
-primary-returns-8 t c = meets-as _ _ _ _ _ (c .before .before .list .result) _ (prim-list (wordsIn (c .before .before .before .before .before .before .before .before .before .before .before .args .reserved .now) (c .before .before .before .before .before .before .before .before .before .before .before .args .currencies .now) (c .before .before .before .before .before .before .before .before .before .before .before .args .counters .now)) (c .before .before .before .before .before .before .before .before .before .before .before .args .s .now) (c .before .before .before .before .before .before .before .before .before .before .before .args .c) (c .before .before .before .before .before .before .before .before .before .before .before .pre .1 .0 .0) (c .before .before .before .before .before .before .before .before .before .before .before .args .depth) (c .before .before .before .before .match .keys4)) (c .before .before .list .ensures)
+primary-returns-8 t c =
+    let at-list = c .before .before in
+    let at-match = at-list .before .before in
+    let start = at-match .before .before .before .before .before .before .before in
+    let args = start .args in
+    meets-as _ _ _ _ _ (at-list .list .result) _ (prim-list (wordsIn (args .reserved .now) (args .currencies .now) (args .counters .now)) (args .s .now) (args .c) (start .pre .1 .0 .0) (args .depth) (at-match .match .keys4)) (at-list .list .ensures)
 
--- src/expressions.rt:221:1
 primary-same-length-7 : (t : ℕ) → primary-lts.Need-same-length-7 (
   next-reads.Asked,
   next-reads.Learnt,
@@ -3984,7 +4471,6 @@ primary-same-length-7 : (t : ℕ) → primary-lts.Need-same-length-7 (
 ) (primary-at t) primary.Post
 primary-same-length-7 t c = search needs
 
--- src/expressions.rt:221:1
 primary-returns-9 : (t : ℕ) → primary-lts.Need-returns-9 (
   next-reads.Asked,
   next-reads.Learnt,
@@ -4007,9 +4493,13 @@ primary-returns-9 : (t : ℕ) → primary-lts.Need-returns-9 (
   atom-at-reads.Asked,
   atom-at-reads.Learnt,
 ) (primary-at t) primary.Post
-primary-returns-9 t c = meets-as _ _ _ _ _ (c .before .before .pays .result) _ (prim-pays (wordsIn (c .before .before .before .before .before .before .before .before .before .before .before .args .reserved .now) (c .before .before .before .before .before .before .before .before .before .before .before .args .currencies .now) (c .before .before .before .before .before .before .before .before .before .before .before .args .counters .now)) (c .before .before .before .before .before .before .before .before .before .before .before .args .s .now) (c .before .before .before .before .before .before .before .before .before .before .before .args .c) (c .before .before .before .before .before .before .before .before .before .before .before .pre .1 .0 .0) (c .before .before .before .before .before .before .before .before .before .before .before .args .depth) (c .before .before .before .before .match .keys5)) (c .before .before .pays .ensures)
+primary-returns-9 t c =
+    let at-pays = c .before .before in
+    let at-match = at-pays .before .before in
+    let start = at-match .before .before .before .before .before .before .before in
+    let args = start .args in
+    meets-as _ _ _ _ _ (at-pays .pays .result) _ (prim-pays (wordsIn (args .reserved .now) (args .currencies .now) (args .counters .now)) (args .s .now) (args .c) (start .pre .1 .0 .0) (args .depth) (at-match .match .keys5)) (at-pays .pays .ensures)
 
--- src/expressions.rt:221:1
 primary-same-length-8 : (t : ℕ) → primary-lts.Need-same-length-8 (
   next-reads.Asked,
   next-reads.Learnt,
@@ -4034,7 +4524,6 @@ primary-same-length-8 : (t : ℕ) → primary-lts.Need-same-length-8 (
 ) (primary-at t) primary.Post
 primary-same-length-8 t c = search needs
 
--- src/expressions.rt:221:1
 primary-returns-10 : (t : ℕ) → primary-lts.Need-returns-10 (
   next-reads.Asked,
   next-reads.Learnt,
@@ -4057,9 +4546,13 @@ primary-returns-10 : (t : ℕ) → primary-lts.Need-returns-10 (
   atom-at-reads.Asked,
   atom-at-reads.Learnt,
 ) (primary-at t) primary.Post
-primary-returns-10 t c = meets-as _ _ _ _ _ (c .before .before .name .result) _ (prim-name (wordsIn (c .before .before .before .before .before .before .before .before .before .before .before .args .reserved .now) (c .before .before .before .before .before .before .before .before .before .before .before .args .currencies .now) (c .before .before .before .before .before .before .before .before .before .before .before .args .counters .now)) (c .before .before .before .before .before .before .before .before .before .before .before .args .s .now) (c .before .before .before .before .before .before .before .before .before .before .before .args .c) (c .before .before .before .before .before .before .before .before .before .before .before .pre .1 .0 .0) (c .before .before .before .before .before .before .before .before .before .before .before .args .depth) (c .before .before .before .before .before .next .result) (c .before .before .before .before .before .next .ensures) (c .before .before .before .before .match .keys6)) (c .before .before .name .ensures)
+primary-returns-10 t c =
+    let at-name = c .before .before in
+    let at-match = at-name .before .before in
+    let start = at-match .before .before .before .before .before .before .before in
+    let args = start .args in
+    meets-as _ _ _ _ _ (at-name .name .result) _ (prim-name (wordsIn (args .reserved .now) (args .currencies .now) (args .counters .now)) (args .s .now) (args .c) (start .pre .1 .0 .0) (args .depth) (at-match .before .next .result) (at-match .before .next .ensures) (at-match .match .keys6)) (at-name .name .ensures)
 
--- src/expressions.rt:221:1
 primary-same-length-9 : (t : ℕ) → primary-lts.Need-same-length-9 (
   next-reads.Asked,
   next-reads.Learnt,
@@ -4084,7 +4577,6 @@ primary-same-length-9 : (t : ℕ) → primary-lts.Need-same-length-9 (
 ) (primary-at t) primary.Post
 primary-same-length-9 t c = search needs
 
--- src/expressions.rt:221:1
 primary-returns-11 : (t : ℕ) → primary-lts.Need-returns-11 (
   next-reads.Asked,
   next-reads.Learnt,
@@ -4108,8 +4600,12 @@ primary-returns-11 : (t : ℕ) → primary-lts.Need-returns-11 (
   atom-at-reads.Learnt,
 ) (primary-at t) primary.Post
 primary-returns-11 t c =
-    let r = c .before .before .before .before .match .rest in
-    meets-as _ _ _ _ _ (c .before .before .atom-at .result) _ (prim-atom (wordsIn (c .before .before .before .before .before .before .before .before .before .before .before .args .reserved .now) (c .before .before .before .before .before .before .before .before .before .before .before .args .currencies .now) (c .before .before .before .before .before .before .before .before .before .before .before .args .counters .now)) (c .before .before .before .before .before .before .before .before .before .before .before .args .s .now) (c .before .before .before .before .before .before .before .before .before .before .before .args .c) (c .before .before .before .before .before .before .before .before .before .before .before .pre .1 .0 .0) (c .before .before .before .before .before .before .before .before .before .before .before .args .depth) (r .0 .0 .0 .0 .0 .1) (r .0 .0 .0 .0 .1) (r .0 .0 .0 .1) (r .0 .0 .1) (r .0 .1) (r .1)) (c .before .before .atom-at .ensures)
+    let at-atom-at = c .before .before in
+    let at-match = at-atom-at .before .before in
+    let start = at-match .before .before .before .before .before .before .before in
+    let args = start .args in
+    let r = at-match .match .rest in
+    meets-as _ _ _ _ _ (at-atom-at .atom-at .result) _ (prim-atom (wordsIn (args .reserved .now) (args .currencies .now) (args .counters .now)) (args .s .now) (args .c) (start .pre .1 .0 .0) (args .depth) (r .0 .0 .0 .0 .0 .1) (r .0 .0 .0 .0 .1) (r .0 .0 .0 .1) (r .0 .0 .1) (r .0 .1) (r .1)) (at-atom-at .atom-at .ensures)
 
 abbrev product-Inv-loop : product-lts.InvT-loop
 product-Inv-loop s reserved currencies counters depth out₀ n at₀ m₀ sign₀ out at m sign = (length out ≡ length out₀) × Pending (λ u. isSign "*" u || isSign "/" u) productSign (G.power (G.primary (wordsIn reserved currencies counters) depth)) s (G.product (G.primary (wordsIn reserved currencies counters) depth) (toksAt s (at₀ .start))) n out₀ sign at m out
@@ -4117,7 +4613,6 @@ product-Inv-loop s reserved currencies counters depth out₀ n at₀ m₀ sign�
 abbrev product-μ-loop : product-lts.MeasureT-loop
 product-μ-loop s reserved currencies counters depth out₀ n at₀ m₀ sign₀ out at m sign = length (toksAt s (at .start))
 
--- src/expressions.rt:171:5
 product-loop-holds : (t : ℕ) → product-lts.Need-loop-holds (
   power-below t,
   power.Post,
@@ -4128,9 +4623,11 @@ product-loop-holds : (t : ℕ) → product-lts.Need-loop-holds (
   next-reads.Asked,
   next-reads.Learnt,
 ) (product-at t) product.Post product-Inv-loop product-μ-loop
-product-loop-holds t c = (refl, pend-first (product-level (wordsIn (c .before .before .before .before .before .args .reserved .now) (c .before .before .before .before .before .args .currencies .now) (c .before .before .before .before .before .args .counters .now)) (c .before .before .before .before .before .args .depth)) (c .before .before .before .before .before .args .s .now) (c .before .before .before .before .before .args .c) (c .before .before .before .before .before .args .n) (c .before .before .before .before .before .args .out .now) (c .before .before .before .before .before .pre .1 .0))
+product-loop-holds t c =
+    let start = c .before .before .before .before .before in
+    let args = start .args in
+    (refl, pend-first (product-level (wordsIn (args .reserved .now) (args .currencies .now) (args .counters .now)) (args .depth)) (args .s .now) (args .c) (args .n) (args .out .now) (start .pre .1 .0))
 
--- src/expressions.rt:172:13
 product-power-requires : (t : ℕ) → product-lts.Need-power-requires (
   power-below t,
   power.Post,
@@ -4141,9 +4638,11 @@ product-power-requires : (t : ℕ) → product-lts.Need-power-requires (
   next-reads.Asked,
   next-reads.Learnt,
 ) (product-at t) product.Post product-Inv-loop product-μ-loop
-product-power-requires t c κs = (omega (arith, c .before .before .before .before .before .before .before .pre .0), (pend-ready (product-level (wordsIn (c .before .before .before .before .before .before .before .args .reserved .now) (c .before .before .before .before .before .before .before .args .currencies .now) (c .before .before .before .before .before .before .before .args .counters .now)) (c .before .before .before .before .before .before .before .args .depth)) (c .before .before .before .before .before .before .before .args .s .now) _ _ _ _ _ _ _ (c .before .loop .inv .1), c .before .before .before .before .before .before .before .pre .1 .1))
+product-power-requires t c κs =
+    let start = c .before .before .before .before .before .before .before in
+    let args = start .args in
+    (omega (arith, start .pre .0), (pend-ready (product-level (wordsIn (args .reserved .now) (args .currencies .now) (args .counters .now)) (args .depth)) (args .s .now) _ _ _ _ _ _ _ (c .before .loop .inv .1), start .pre .1 .1))
 
--- src/expressions.rt:173:24
 product-enum-known-r : (t : ℕ) → product-lts.Need-enum-known-r (
   power-below t,
   power.Post,
@@ -4156,7 +4655,6 @@ product-enum-known-r : (t : ℕ) → product-lts.Need-enum-known-r (
 ) (product-at t) product.Post product-Inv-loop product-μ-loop
 product-enum-known-r t c = search needs
 
--- src/expressions.rt:174:13
 product-enum-told : (t : ℕ) → product-lts.Need-enum-told (
   power-below t,
   power.Post,
@@ -4169,7 +4667,6 @@ product-enum-told : (t : ℕ) → product-lts.Need-enum-told (
 ) (product-at t) product.Post product-Inv-loop product-μ-loop
 product-enum-told t c = search needs
 
--- src/expressions.rt:174:13
 product-same-length : (t : ℕ) → product-lts.Need-same-length (
   power-below t,
   power.Post,
@@ -4180,9 +4677,10 @@ product-same-length : (t : ℕ) → product-lts.Need-same-length (
   next-reads.Asked,
   next-reads.Learnt,
 ) (product-at t) product.Post product-Inv-loop product-μ-loop
-product-same-length t c = c .before .before .before .before .power .kept .1 .1 .1 .1 .1 .1 .0 ∙ c .before .before .before .before .before .before .loop .inv .0
+product-same-length t c =
+    let at-power = c .before .before .before .before in
+    at-power .power .kept .1 .1 .1 .1 .1 .1 .0 ∙ at-power .before .before .loop .inv .0
 
--- src/expressions.rt:174:13
 product-returns : (t : ℕ) → product-lts.Need-returns (
   power-below t,
   power.Post,
@@ -4193,9 +4691,12 @@ product-returns : (t : ℕ) → product-lts.Need-returns (
   next-reads.Asked,
   next-reads.Learnt,
 ) (product-at t) product.Post product-Inv-loop product-μ-loop
-product-returns t c = refused-on _ _ _ _ _ _ _ _ _ _ _ _ (c .enum-told .given .1) (c .before .before .before .before .power .ensures) (pend-refused (product-level (wordsIn (c .before .before .before .before .before .before .before .before .before .before .before .before .args .reserved .now) (c .before .before .before .before .before .before .before .before .before .before .before .before .args .currencies .now) (c .before .before .before .before .before .before .before .before .before .before .before .before .args .counters .now)) (c .before .before .before .before .before .before .before .before .before .before .before .before .args .depth)) (c .before .before .before .before .before .before .before .before .before .before .before .before .args .s .now) _ _ _ _ _ _ _ (c .before .before .before .before .before .before .loop .inv .1) _ _)
+product-returns t c =
+    let at-power = c .before .before .before .before in
+    let at-loop = at-power .before .before in
+    let args = at-loop .before .before .before .before .before .before .args in
+    refused-on _ _ _ _ _ _ _ _ _ _ _ _ (c .enum-told .given .1) (at-power .power .ensures) (pend-refused (product-level (wordsIn (args .reserved .now) (args .currencies .now) (args .counters .now)) (args .depth)) (args .s .now) _ _ _ _ _ _ _ (at-loop .loop .inv .1) _ _)
 
--- src/expressions.rt:176:13
 product-join-requires : (t : ℕ) → product-lts.Need-join-requires (
   power-below t,
   power.Post,
@@ -4206,9 +4707,13 @@ product-join-requires : (t : ℕ) → product-lts.Need-join-requires (
   next-reads.Asked,
   next-reads.Learnt,
 ) (product-at t) product.Post product-Inv-loop product-μ-loop
-product-join-requires t c κs = pend-numbers (product-level (wordsIn (c .before .before .before .before .before .before .before .before .before .before .before .before .before .before .args .reserved .now) (c .before .before .before .before .before .before .before .before .before .before .before .before .before .before .args .currencies .now) (c .before .before .before .before .before .before .before .before .before .before .before .before .before .before .args .counters .now)) (c .before .before .before .before .before .before .before .before .before .before .before .before .before .before .args .depth)) (c .before .before .before .before .before .before .before .before .before .before .before .before .before .before .args .s .now) _ _ _ _ _ _ _ (c .before .before .before .before .before .before .before .before .loop .inv .1) _ _ _ _ (done-reads _ _ _ _ _ _ _ _ _ (c .before .before .r .given .1) (c .before .before .before .before .before .before .power .ensures))
+product-join-requires t c κs =
+    let at-r = c .before .before in
+    let at-power = at-r .before .before .before .before in
+    let at-loop = at-power .before .before in
+    let args = at-loop .before .before .before .before .before .before .args in
+    pend-numbers (product-level (wordsIn (args .reserved .now) (args .currencies .now) (args .counters .now)) (args .depth)) (args .s .now) _ _ _ _ _ _ _ (at-loop .loop .inv .1) _ _ _ _ (done-reads _ _ _ _ _ _ _ _ _ (at-r .r .given .1) (at-power .power .ensures))
 
--- src/expressions.rt:178:13
 product-is-product-requires : (t : ℕ) → product-lts.Need-is-product-requires (
   power-below t,
   power.Post,
@@ -4221,7 +4726,6 @@ product-is-product-requires : (t : ℕ) → product-lts.Need-is-product-requires
 ) (product-at t) product.Post product-Inv-loop product-μ-loop
 product-is-product-requires t c κs = search needs
 
--- src/expressions.rt:179:13
 product-same-length-2 : (t : ℕ) → product-lts.Need-same-length-2 (
   power-below t,
   power.Post,
@@ -4232,9 +4736,11 @@ product-same-length-2 : (t : ℕ) → product-lts.Need-same-length-2 (
   next-reads.Asked,
   next-reads.Learnt,
 ) (product-at t) product.Post product-Inv-loop product-μ-loop
-product-same-length-2 t c = c .before .before .before .before .join .kept .0 ∙ (c .before .before .before .before .before .before .before .before .before .before .before .power .kept .1 .1 .1 .1 .1 .1 .0 ∙ c .before .before .before .before .before .before .before .before .before .before .before .before .before .loop .inv .0)
+product-same-length-2 t c =
+    let at-join = c .before .before .before .before in
+    let at-power = at-join .before .before .before .before .before .before .before in
+    at-join .join .kept .0 ∙ (at-power .power .kept .1 .1 .1 .1 .1 .1 .0 ∙ at-power .before .before .loop .inv .0)
 
--- src/expressions.rt:179:13
 product-returns-2 : (t : ℕ) → product-lts.Need-returns-2 (
   power-below t,
   power.Post,
@@ -4245,9 +4751,15 @@ product-returns-2 : (t : ℕ) → product-lts.Need-returns-2 (
   next-reads.Asked,
   next-reads.Learnt,
 ) (product-at t) product.Post product-Inv-loop product-μ-loop
-product-returns-2 t c = chain-exit (product-level (wordsIn (c .before .before .before .before .before .before .before .before .before .before .before .before .before .before .before .before .before .before .before .args .reserved .now) (c .before .before .before .before .before .before .before .before .before .before .before .before .before .before .before .before .before .before .before .args .currencies .now) (c .before .before .before .before .before .before .before .before .before .before .before .before .before .before .before .before .before .before .before .args .counters .now)) (c .before .before .before .before .before .before .before .before .before .before .before .before .before .before .before .before .before .before .before .args .depth)) (c .before .before .before .before .before .before .before .before .before .before .before .before .before .before .before .before .before .before .before .args .s .now) _ _ _ _ _ _ _ (pend-chain (product-level (wordsIn (c .before .before .before .before .before .before .before .before .before .before .before .before .before .before .before .before .before .before .before .args .reserved .now) (c .before .before .before .before .before .before .before .before .before .before .before .before .before .before .before .before .before .before .before .args .currencies .now) (c .before .before .before .before .before .before .before .before .before .before .before .before .before .before .before .before .before .before .before .args .counters .now)) (c .before .before .before .before .before .before .before .before .before .before .before .before .before .before .before .before .before .before .before .args .depth)) (c .before .before .before .before .before .before .before .before .before .before .before .before .before .before .before .before .before .before .before .args .s .now) _ _ _ _ _ _ _ (c .before .before .before .before .before .before .before .before .before .before .before .before .before .loop .inv .1) _ _ _ _ (done-reads _ _ _ _ _ _ _ _ _ (c .before .before .before .before .before .before .before .r .given .1) (c .before .before .before .before .before .before .before .before .before .before .before .power .ensures)) (c .before .before .before .before .join .result) _ (c .before .before .before .before .join .ensures)) (sym (c .before .is-product .ensures) ∙ not-true _ (c .if1 .taken))
+product-returns-2 t c =
+    let at-join = c .before .before .before .before in
+    let at-r = at-join .before .before .before in
+    let at-power = at-r .before .before .before .before in
+    let at-loop = at-power .before .before in
+    let args = at-loop .before .before .before .before .before .before .args in
+    let words = wordsIn (args .reserved .now) (args .currencies .now) (args .counters .now) in
+    chain-exit (product-level words (args .depth)) (args .s .now) _ _ _ _ _ _ _ (pend-chain (product-level words (args .depth)) (args .s .now) _ _ _ _ _ _ _ (at-loop .loop .inv .1) _ _ _ _ (done-reads _ _ _ _ _ _ _ _ _ (at-r .r .given .1) (at-power .power .ensures)) (at-join .join .result) _ (at-join .join .ensures)) (sym (c .before .is-product .ensures) ∙ not-true _ (c .if1 .taken))
 
--- src/expressions.rt:181:9
 product-next-requires : (t : ℕ) → product-lts.Need-next-requires (
   power-below t,
   power.Post,
@@ -4258,9 +4770,14 @@ product-next-requires : (t : ℕ) → product-lts.Need-next-requires (
   next-reads.Asked,
   next-reads.Learnt,
 ) (product-at t) product.Post product-Inv-loop product-μ-loop
-product-next-requires t c κs = (pend-chain (product-level (wordsIn (c .before .before .before .before .before .before .before .before .before .before .before .before .before .before .before .before .before .before .before .args .reserved .now) (c .before .before .before .before .before .before .before .before .before .before .before .before .before .before .before .before .before .before .before .args .currencies .now) (c .before .before .before .before .before .before .before .before .before .before .before .before .before .before .before .before .before .before .before .args .counters .now)) (c .before .before .before .before .before .before .before .before .before .before .before .before .before .before .before .before .before .before .before .args .depth)) (c .before .before .before .before .before .before .before .before .before .before .before .before .before .before .before .before .before .before .before .args .s .now) _ _ _ _ _ _ _ (c .before .before .before .before .before .before .before .before .before .before .before .before .before .loop .inv .1) _ _ _ _ (done-reads _ _ _ _ _ _ _ _ _ (c .before .before .before .before .before .before .before .r .given .1) (c .before .before .before .before .before .before .before .before .before .before .before .power .ensures)) (c .before .before .before .before .join .result) _ (c .before .before .before .before .join .ensures)) .holds
+product-next-requires t c κs =
+    let at-join = c .before .before .before .before in
+    let at-r = at-join .before .before .before in
+    let at-power = at-r .before .before .before .before in
+    let at-loop = at-power .before .before in
+    let args = at-loop .before .before .before .before .before .before .args in
+    (pend-chain (product-level (wordsIn (args .reserved .now) (args .currencies .now) (args .counters .now)) (args .depth)) (args .s .now) _ _ _ _ _ _ _ (at-loop .loop .inv .1) _ _ _ _ (done-reads _ _ _ _ _ _ _ _ _ (at-r .r .given .1) (at-power .power .ensures)) (at-join .join .result) _ (at-join .join .ensures)) .holds
 
--- src/expressions.rt:171:5
 product-loop-less : (t : ℕ) → product-lts.Need-loop-less (
   power-below t,
   power.Post,
@@ -4271,9 +4788,14 @@ product-loop-less : (t : ℕ) → product-lts.Need-loop-less (
   next-reads.Asked,
   next-reads.Learnt,
 ) (product-at t) product.Post product-Inv-loop product-μ-loop
-product-loop-less t c = pend-less (product-level (wordsIn (c .before .before .before .before .before .before .before .before .before .before .before .before .before .before .before .before .before .before .before .before .args .reserved .now) (c .before .before .before .before .before .before .before .before .before .before .before .before .before .before .before .before .before .before .before .before .args .currencies .now) (c .before .before .before .before .before .before .before .before .before .before .before .before .before .before .before .before .before .before .before .before .args .counters .now)) (c .before .before .before .before .before .before .before .before .before .before .before .before .before .before .before .before .before .before .before .before .args .depth)) (c .before .before .before .before .before .before .before .before .before .before .before .before .before .before .before .before .before .before .before .before .args .s .now) _ _ _ _ _ _ _ (c .before .before .before .before .before .before .before .before .before .before .before .before .before .before .loop .inv .1) _ _ _ _ (done-reads _ _ _ _ _ _ _ _ _ (c .before .before .before .before .before .before .before .before .r .given .1) (c .before .before .before .before .before .before .before .before .before .before .before .before .power .ensures)) (sym (c .before .before .is-product .ensures) ∙ not-false _ (c .before .if1 .left)) (c .next .result) (c .next .ensures)
+product-loop-less t c =
+    let at-is-product = c .before .before in
+    let at-r = at-is-product .before .before .before .before .before .before in
+    let at-power = at-r .before .before .before .before in
+    let at-loop = at-power .before .before in
+    let args = at-loop .before .before .before .before .before .before .args in
+    pend-less (product-level (wordsIn (args .reserved .now) (args .currencies .now) (args .counters .now)) (args .depth)) (args .s .now) _ _ _ _ _ _ _ (at-loop .loop .inv .1) _ _ _ _ (done-reads _ _ _ _ _ _ _ _ _ (at-r .r .given .1) (at-power .power .ensures)) (sym (at-is-product .is-product .ensures) ∙ not-false _ (c .before .if1 .left)) (c .next .result) (c .next .ensures)
 
--- src/expressions.rt:171:5
 product-loop-again : (t : ℕ) → product-lts.Need-loop-again (
   power-below t,
   power.Post,
@@ -4284,7 +4806,16 @@ product-loop-again : (t : ℕ) → product-lts.Need-loop-again (
   next-reads.Asked,
   next-reads.Learnt,
 ) (product-at t) product.Post product-Inv-loop product-μ-loop
-product-loop-again t c = (c .before .before .before .before .before .join .kept .0 ∙ (c .before .before .before .before .before .before .before .before .before .before .before .before .power .kept .1 .1 .1 .1 .1 .1 .0 ∙ c .before .before .before .before .before .before .before .before .before .before .before .before .before .before .loop .inv .0), pend-next (product-level (wordsIn (c .before .before .before .before .before .before .before .before .before .before .before .before .before .before .before .before .before .before .before .before .args .reserved .now) (c .before .before .before .before .before .before .before .before .before .before .before .before .before .before .before .before .before .before .before .before .args .currencies .now) (c .before .before .before .before .before .before .before .before .before .before .before .before .before .before .before .before .before .before .before .before .args .counters .now)) (c .before .before .before .before .before .before .before .before .before .before .before .before .before .before .before .before .before .before .before .before .args .depth)) (c .before .before .before .before .before .before .before .before .before .before .before .before .before .before .before .before .before .before .before .before .args .s .now) _ _ _ _ _ _ _ (pend-chain (product-level (wordsIn (c .before .before .before .before .before .before .before .before .before .before .before .before .before .before .before .before .before .before .before .before .args .reserved .now) (c .before .before .before .before .before .before .before .before .before .before .before .before .before .before .before .before .before .before .before .before .args .currencies .now) (c .before .before .before .before .before .before .before .before .before .before .before .before .before .before .before .before .before .before .before .before .args .counters .now)) (c .before .before .before .before .before .before .before .before .before .before .before .before .before .before .before .before .before .before .before .before .args .depth)) (c .before .before .before .before .before .before .before .before .before .before .before .before .before .before .before .before .before .before .before .before .args .s .now) _ _ _ _ _ _ _ (c .before .before .before .before .before .before .before .before .before .before .before .before .before .before .loop .inv .1) _ _ _ _ (done-reads _ _ _ _ _ _ _ _ _ (c .before .before .before .before .before .before .before .before .r .given .1) (c .before .before .before .before .before .before .before .before .before .before .before .before .power .ensures)) (c .before .before .before .before .before .join .result) _ (c .before .before .before .before .before .join .ensures)) (sym (c .before .before .is-product .ensures) ∙ not-false _ (c .before .if1 .left)) (c .next .result) (c .next .ensures))
+product-loop-again t c =
+    let at-is-product = c .before .before in
+    let at-join = at-is-product .before .before .before in
+    let at-r = at-join .before .before .before in
+    let at-power = at-r .before .before .before .before in
+    let at-loop = at-power .before .before in
+    let join = at-join .join in
+    let args = at-loop .before .before .before .before .before .before .args in
+    let words = wordsIn (args .reserved .now) (args .currencies .now) (args .counters .now) in
+    (join .kept .0 ∙ (at-power .power .kept .1 .1 .1 .1 .1 .1 .0 ∙ at-loop .loop .inv .0), pend-next (product-level words (args .depth)) (args .s .now) _ _ _ _ _ _ _ (pend-chain (product-level words (args .depth)) (args .s .now) _ _ _ _ _ _ _ (at-loop .loop .inv .1) _ _ _ _ (done-reads _ _ _ _ _ _ _ _ _ (at-r .r .given .1) (at-power .power .ensures)) (join .result) _ (join .ensures)) (sym (at-is-product .is-product .ensures) ∙ not-false _ (c .before .if1 .left)) (c .next .result) (c .next .ensures))
 
 abbrev sum-Inv-loop : sum-lts.InvT-loop
 sum-Inv-loop s reserved currencies counters depth out₀ n at₀ m₀ sign₀ out at m sign = (length out ≡ length out₀) × Pending (λ u. isSign "+" u || isSign "-" u) sumSign (G.product (G.primary (wordsIn reserved currencies counters) depth)) s (G.sum (G.primary (wordsIn reserved currencies counters) depth) (toksAt s (at₀ .start))) n out₀ sign at m out
@@ -4292,7 +4823,6 @@ sum-Inv-loop s reserved currencies counters depth out₀ n at₀ m₀ sign₀ ou
 abbrev sum-μ-loop : sum-lts.MeasureT-loop
 sum-μ-loop s reserved currencies counters depth out₀ n at₀ m₀ sign₀ out at m sign = length (toksAt s (at .start))
 
--- src/expressions.rt:138:5
 sum-loop-holds : (t : ℕ) → sum-lts.Need-loop-holds (
   product-below t,
   product.Post,
@@ -4304,9 +4834,11 @@ sum-loop-holds : (t : ℕ) → sum-lts.Need-loop-holds (
   next-reads.Learnt,
 ) (sum-at t) sum.Post sum-Inv-loop sum-μ-loop
 unfolding G.sum
-sum-loop-holds t c = (refl, pend-first (sum-level (wordsIn (c .before .before .before .before .before .args .reserved .now) (c .before .before .before .before .before .args .currencies .now) (c .before .before .before .before .before .args .counters .now)) (c .before .before .before .before .before .args .depth)) (c .before .before .before .before .before .args .s .now) (c .before .before .before .before .before .args .c) (c .before .before .before .before .before .args .n) (c .before .before .before .before .before .args .out .now) (c .before .before .before .before .before .pre .1 .0))
+sum-loop-holds t c =
+    let start = c .before .before .before .before .before in
+    let args = start .args in
+    (refl, pend-first (sum-level (wordsIn (args .reserved .now) (args .currencies .now) (args .counters .now)) (args .depth)) (args .s .now) (args .c) (args .n) (args .out .now) (start .pre .1 .0))
 
--- src/expressions.rt:139:13
 sum-product-requires : (t : ℕ) → sum-lts.Need-product-requires (
   product-below t,
   product.Post,
@@ -4317,9 +4849,11 @@ sum-product-requires : (t : ℕ) → sum-lts.Need-product-requires (
   next-reads.Asked,
   next-reads.Learnt,
 ) (sum-at t) sum.Post sum-Inv-loop sum-μ-loop
-sum-product-requires t c κs = (omega (arith, c .before .before .before .before .before .before .before .pre .0), (pend-ready (sum-level (wordsIn (c .before .before .before .before .before .before .before .args .reserved .now) (c .before .before .before .before .before .before .before .args .currencies .now) (c .before .before .before .before .before .before .before .args .counters .now)) (c .before .before .before .before .before .before .before .args .depth)) (c .before .before .before .before .before .before .before .args .s .now) _ _ _ _ _ _ _ (c .before .loop .inv .1), c .before .before .before .before .before .before .before .pre .1 .1))
+sum-product-requires t c κs =
+    let start = c .before .before .before .before .before .before .before in
+    let args = start .args in
+    (omega (arith, start .pre .0), (pend-ready (sum-level (wordsIn (args .reserved .now) (args .currencies .now) (args .counters .now)) (args .depth)) (args .s .now) _ _ _ _ _ _ _ (c .before .loop .inv .1), start .pre .1 .1))
 
--- src/expressions.rt:140:24
 sum-enum-known-r : (t : ℕ) → sum-lts.Need-enum-known-r (
   product-below t,
   product.Post,
@@ -4332,7 +4866,6 @@ sum-enum-known-r : (t : ℕ) → sum-lts.Need-enum-known-r (
 ) (sum-at t) sum.Post sum-Inv-loop sum-μ-loop
 sum-enum-known-r t c = search needs
 
--- src/expressions.rt:141:13
 sum-enum-told : (t : ℕ) → sum-lts.Need-enum-told (
   product-below t,
   product.Post,
@@ -4345,7 +4878,6 @@ sum-enum-told : (t : ℕ) → sum-lts.Need-enum-told (
 ) (sum-at t) sum.Post sum-Inv-loop sum-μ-loop
 sum-enum-told t c = search needs
 
--- src/expressions.rt:141:13
 sum-same-length : (t : ℕ) → sum-lts.Need-same-length (
   product-below t,
   product.Post,
@@ -4356,9 +4888,10 @@ sum-same-length : (t : ℕ) → sum-lts.Need-same-length (
   next-reads.Asked,
   next-reads.Learnt,
 ) (sum-at t) sum.Post sum-Inv-loop sum-μ-loop
-sum-same-length t c = c .before .before .before .before .product .kept .1 .1 .1 .1 .1 .1 .0 ∙ c .before .before .before .before .before .before .loop .inv .0
+sum-same-length t c =
+    let at-product = c .before .before .before .before in
+    at-product .product .kept .1 .1 .1 .1 .1 .1 .0 ∙ at-product .before .before .loop .inv .0
 
--- src/expressions.rt:141:13
 sum-returns : (t : ℕ) → sum-lts.Need-returns (
   product-below t,
   product.Post,
@@ -4369,9 +4902,12 @@ sum-returns : (t : ℕ) → sum-lts.Need-returns (
   next-reads.Asked,
   next-reads.Learnt,
 ) (sum-at t) sum.Post sum-Inv-loop sum-μ-loop
-sum-returns t c = refused-on _ _ _ _ _ _ _ _ _ _ _ _ (c .enum-told .given .1) (c .before .before .before .before .product .ensures) (pend-refused (sum-level (wordsIn (c .before .before .before .before .before .before .before .before .before .before .before .before .args .reserved .now) (c .before .before .before .before .before .before .before .before .before .before .before .before .args .currencies .now) (c .before .before .before .before .before .before .before .before .before .before .before .before .args .counters .now)) (c .before .before .before .before .before .before .before .before .before .before .before .before .args .depth)) (c .before .before .before .before .before .before .before .before .before .before .before .before .args .s .now) _ _ _ _ _ _ _ (c .before .before .before .before .before .before .loop .inv .1) _ _)
+sum-returns t c =
+    let at-product = c .before .before .before .before in
+    let at-loop = at-product .before .before in
+    let args = at-loop .before .before .before .before .before .before .args in
+    refused-on _ _ _ _ _ _ _ _ _ _ _ _ (c .enum-told .given .1) (at-product .product .ensures) (pend-refused (sum-level (wordsIn (args .reserved .now) (args .currencies .now) (args .counters .now)) (args .depth)) (args .s .now) _ _ _ _ _ _ _ (at-loop .loop .inv .1) _ _)
 
--- src/expressions.rt:143:13
 sum-join-requires : (t : ℕ) → sum-lts.Need-join-requires (
   product-below t,
   product.Post,
@@ -4382,9 +4918,13 @@ sum-join-requires : (t : ℕ) → sum-lts.Need-join-requires (
   next-reads.Asked,
   next-reads.Learnt,
 ) (sum-at t) sum.Post sum-Inv-loop sum-μ-loop
-sum-join-requires t c κs = pend-numbers (sum-level (wordsIn (c .before .before .before .before .before .before .before .before .before .before .before .before .before .before .args .reserved .now) (c .before .before .before .before .before .before .before .before .before .before .before .before .before .before .args .currencies .now) (c .before .before .before .before .before .before .before .before .before .before .before .before .before .before .args .counters .now)) (c .before .before .before .before .before .before .before .before .before .before .before .before .before .before .args .depth)) (c .before .before .before .before .before .before .before .before .before .before .before .before .before .before .args .s .now) _ _ _ _ _ _ _ (c .before .before .before .before .before .before .before .before .loop .inv .1) _ _ _ _ (done-reads _ _ _ _ _ _ _ _ _ (c .before .before .r .given .1) (c .before .before .before .before .before .before .product .ensures))
+sum-join-requires t c κs =
+    let at-r = c .before .before in
+    let at-product = at-r .before .before .before .before in
+    let at-loop = at-product .before .before in
+    let args = at-loop .before .before .before .before .before .before .args in
+    pend-numbers (sum-level (wordsIn (args .reserved .now) (args .currencies .now) (args .counters .now)) (args .depth)) (args .s .now) _ _ _ _ _ _ _ (at-loop .loop .inv .1) _ _ _ _ (done-reads _ _ _ _ _ _ _ _ _ (at-r .r .given .1) (at-product .product .ensures))
 
--- src/expressions.rt:145:13
 sum-is-sum-requires : (t : ℕ) → sum-lts.Need-is-sum-requires (
   product-below t,
   product.Post,
@@ -4397,7 +4937,6 @@ sum-is-sum-requires : (t : ℕ) → sum-lts.Need-is-sum-requires (
 ) (sum-at t) sum.Post sum-Inv-loop sum-μ-loop
 sum-is-sum-requires t c κs = search needs
 
--- src/expressions.rt:146:13
 sum-same-length-2 : (t : ℕ) → sum-lts.Need-same-length-2 (
   product-below t,
   product.Post,
@@ -4408,9 +4947,11 @@ sum-same-length-2 : (t : ℕ) → sum-lts.Need-same-length-2 (
   next-reads.Asked,
   next-reads.Learnt,
 ) (sum-at t) sum.Post sum-Inv-loop sum-μ-loop
-sum-same-length-2 t c = c .before .before .before .before .join .kept .0 ∙ (c .before .before .before .before .before .before .before .before .before .before .before .product .kept .1 .1 .1 .1 .1 .1 .0 ∙ c .before .before .before .before .before .before .before .before .before .before .before .before .before .loop .inv .0)
+sum-same-length-2 t c =
+    let at-join = c .before .before .before .before in
+    let at-product = at-join .before .before .before .before .before .before .before in
+    at-join .join .kept .0 ∙ (at-product .product .kept .1 .1 .1 .1 .1 .1 .0 ∙ at-product .before .before .loop .inv .0)
 
--- src/expressions.rt:146:13
 sum-returns-2 : (t : ℕ) → sum-lts.Need-returns-2 (
   product-below t,
   product.Post,
@@ -4421,9 +4962,15 @@ sum-returns-2 : (t : ℕ) → sum-lts.Need-returns-2 (
   next-reads.Asked,
   next-reads.Learnt,
 ) (sum-at t) sum.Post sum-Inv-loop sum-μ-loop
-sum-returns-2 t c = chain-exit (sum-level (wordsIn (c .before .before .before .before .before .before .before .before .before .before .before .before .before .before .before .before .before .before .before .args .reserved .now) (c .before .before .before .before .before .before .before .before .before .before .before .before .before .before .before .before .before .before .before .args .currencies .now) (c .before .before .before .before .before .before .before .before .before .before .before .before .before .before .before .before .before .before .before .args .counters .now)) (c .before .before .before .before .before .before .before .before .before .before .before .before .before .before .before .before .before .before .before .args .depth)) (c .before .before .before .before .before .before .before .before .before .before .before .before .before .before .before .before .before .before .before .args .s .now) _ _ _ _ _ _ _ (pend-chain (sum-level (wordsIn (c .before .before .before .before .before .before .before .before .before .before .before .before .before .before .before .before .before .before .before .args .reserved .now) (c .before .before .before .before .before .before .before .before .before .before .before .before .before .before .before .before .before .before .before .args .currencies .now) (c .before .before .before .before .before .before .before .before .before .before .before .before .before .before .before .before .before .before .before .args .counters .now)) (c .before .before .before .before .before .before .before .before .before .before .before .before .before .before .before .before .before .before .before .args .depth)) (c .before .before .before .before .before .before .before .before .before .before .before .before .before .before .before .before .before .before .before .args .s .now) _ _ _ _ _ _ _ (c .before .before .before .before .before .before .before .before .before .before .before .before .before .loop .inv .1) _ _ _ _ (done-reads _ _ _ _ _ _ _ _ _ (c .before .before .before .before .before .before .before .r .given .1) (c .before .before .before .before .before .before .before .before .before .before .before .product .ensures)) (c .before .before .before .before .join .result) _ (c .before .before .before .before .join .ensures)) (sym (c .before .is-sum .ensures) ∙ not-true _ (c .if1 .taken))
+sum-returns-2 t c =
+    let at-join = c .before .before .before .before in
+    let at-r = at-join .before .before .before in
+    let at-product = at-r .before .before .before .before in
+    let at-loop = at-product .before .before in
+    let args = at-loop .before .before .before .before .before .before .args in
+    let words = wordsIn (args .reserved .now) (args .currencies .now) (args .counters .now) in
+    chain-exit (sum-level words (args .depth)) (args .s .now) _ _ _ _ _ _ _ (pend-chain (sum-level words (args .depth)) (args .s .now) _ _ _ _ _ _ _ (at-loop .loop .inv .1) _ _ _ _ (done-reads _ _ _ _ _ _ _ _ _ (at-r .r .given .1) (at-product .product .ensures)) (at-join .join .result) _ (at-join .join .ensures)) (sym (c .before .is-sum .ensures) ∙ not-true _ (c .if1 .taken))
 
--- src/expressions.rt:148:9
 sum-next-requires : (t : ℕ) → sum-lts.Need-next-requires (
   product-below t,
   product.Post,
@@ -4434,9 +4981,14 @@ sum-next-requires : (t : ℕ) → sum-lts.Need-next-requires (
   next-reads.Asked,
   next-reads.Learnt,
 ) (sum-at t) sum.Post sum-Inv-loop sum-μ-loop
-sum-next-requires t c κs = (pend-chain (sum-level (wordsIn (c .before .before .before .before .before .before .before .before .before .before .before .before .before .before .before .before .before .before .before .args .reserved .now) (c .before .before .before .before .before .before .before .before .before .before .before .before .before .before .before .before .before .before .before .args .currencies .now) (c .before .before .before .before .before .before .before .before .before .before .before .before .before .before .before .before .before .before .before .args .counters .now)) (c .before .before .before .before .before .before .before .before .before .before .before .before .before .before .before .before .before .before .before .args .depth)) (c .before .before .before .before .before .before .before .before .before .before .before .before .before .before .before .before .before .before .before .args .s .now) _ _ _ _ _ _ _ (c .before .before .before .before .before .before .before .before .before .before .before .before .before .loop .inv .1) _ _ _ _ (done-reads _ _ _ _ _ _ _ _ _ (c .before .before .before .before .before .before .before .r .given .1) (c .before .before .before .before .before .before .before .before .before .before .before .product .ensures)) (c .before .before .before .before .join .result) _ (c .before .before .before .before .join .ensures)) .holds
+sum-next-requires t c κs =
+    let at-join = c .before .before .before .before in
+    let at-r = at-join .before .before .before in
+    let at-product = at-r .before .before .before .before in
+    let at-loop = at-product .before .before in
+    let args = at-loop .before .before .before .before .before .before .args in
+    (pend-chain (sum-level (wordsIn (args .reserved .now) (args .currencies .now) (args .counters .now)) (args .depth)) (args .s .now) _ _ _ _ _ _ _ (at-loop .loop .inv .1) _ _ _ _ (done-reads _ _ _ _ _ _ _ _ _ (at-r .r .given .1) (at-product .product .ensures)) (at-join .join .result) _ (at-join .join .ensures)) .holds
 
--- src/expressions.rt:138:5
 sum-loop-less : (t : ℕ) → sum-lts.Need-loop-less (
   product-below t,
   product.Post,
@@ -4447,9 +4999,14 @@ sum-loop-less : (t : ℕ) → sum-lts.Need-loop-less (
   next-reads.Asked,
   next-reads.Learnt,
 ) (sum-at t) sum.Post sum-Inv-loop sum-μ-loop
-sum-loop-less t c = pend-less (sum-level (wordsIn (c .before .before .before .before .before .before .before .before .before .before .before .before .before .before .before .before .before .before .before .before .args .reserved .now) (c .before .before .before .before .before .before .before .before .before .before .before .before .before .before .before .before .before .before .before .before .args .currencies .now) (c .before .before .before .before .before .before .before .before .before .before .before .before .before .before .before .before .before .before .before .before .args .counters .now)) (c .before .before .before .before .before .before .before .before .before .before .before .before .before .before .before .before .before .before .before .before .args .depth)) (c .before .before .before .before .before .before .before .before .before .before .before .before .before .before .before .before .before .before .before .before .args .s .now) _ _ _ _ _ _ _ (c .before .before .before .before .before .before .before .before .before .before .before .before .before .before .loop .inv .1) _ _ _ _ (done-reads _ _ _ _ _ _ _ _ _ (c .before .before .before .before .before .before .before .before .r .given .1) (c .before .before .before .before .before .before .before .before .before .before .before .before .product .ensures)) (sym (c .before .before .is-sum .ensures) ∙ not-false _ (c .before .if1 .left)) (c .next .result) (c .next .ensures)
+sum-loop-less t c =
+    let at-is-sum = c .before .before in
+    let at-r = at-is-sum .before .before .before .before .before .before in
+    let at-product = at-r .before .before .before .before in
+    let at-loop = at-product .before .before in
+    let args = at-loop .before .before .before .before .before .before .args in
+    pend-less (sum-level (wordsIn (args .reserved .now) (args .currencies .now) (args .counters .now)) (args .depth)) (args .s .now) _ _ _ _ _ _ _ (at-loop .loop .inv .1) _ _ _ _ (done-reads _ _ _ _ _ _ _ _ _ (at-r .r .given .1) (at-product .product .ensures)) (sym (at-is-sum .is-sum .ensures) ∙ not-false _ (c .before .if1 .left)) (c .next .result) (c .next .ensures)
 
--- src/expressions.rt:138:5
 sum-loop-again : (t : ℕ) → sum-lts.Need-loop-again (
   product-below t,
   product.Post,
@@ -4460,7 +5017,16 @@ sum-loop-again : (t : ℕ) → sum-lts.Need-loop-again (
   next-reads.Asked,
   next-reads.Learnt,
 ) (sum-at t) sum.Post sum-Inv-loop sum-μ-loop
-sum-loop-again t c = (c .before .before .before .before .before .join .kept .0 ∙ (c .before .before .before .before .before .before .before .before .before .before .before .before .product .kept .1 .1 .1 .1 .1 .1 .0 ∙ c .before .before .before .before .before .before .before .before .before .before .before .before .before .before .loop .inv .0), pend-next (sum-level (wordsIn (c .before .before .before .before .before .before .before .before .before .before .before .before .before .before .before .before .before .before .before .before .args .reserved .now) (c .before .before .before .before .before .before .before .before .before .before .before .before .before .before .before .before .before .before .before .before .args .currencies .now) (c .before .before .before .before .before .before .before .before .before .before .before .before .before .before .before .before .before .before .before .before .args .counters .now)) (c .before .before .before .before .before .before .before .before .before .before .before .before .before .before .before .before .before .before .before .before .args .depth)) (c .before .before .before .before .before .before .before .before .before .before .before .before .before .before .before .before .before .before .before .before .args .s .now) _ _ _ _ _ _ _ (pend-chain (sum-level (wordsIn (c .before .before .before .before .before .before .before .before .before .before .before .before .before .before .before .before .before .before .before .before .args .reserved .now) (c .before .before .before .before .before .before .before .before .before .before .before .before .before .before .before .before .before .before .before .before .args .currencies .now) (c .before .before .before .before .before .before .before .before .before .before .before .before .before .before .before .before .before .before .before .before .args .counters .now)) (c .before .before .before .before .before .before .before .before .before .before .before .before .before .before .before .before .before .before .before .before .args .depth)) (c .before .before .before .before .before .before .before .before .before .before .before .before .before .before .before .before .before .before .before .before .args .s .now) _ _ _ _ _ _ _ (c .before .before .before .before .before .before .before .before .before .before .before .before .before .before .loop .inv .1) _ _ _ _ (done-reads _ _ _ _ _ _ _ _ _ (c .before .before .before .before .before .before .before .before .r .given .1) (c .before .before .before .before .before .before .before .before .before .before .before .before .product .ensures)) (c .before .before .before .before .before .join .result) _ (c .before .before .before .before .before .join .ensures)) (sym (c .before .before .is-sum .ensures) ∙ not-false _ (c .before .if1 .left)) (c .next .result) (c .next .ensures))
+sum-loop-again t c =
+    let at-is-sum = c .before .before in
+    let at-join = at-is-sum .before .before .before in
+    let at-r = at-join .before .before .before in
+    let at-product = at-r .before .before .before .before in
+    let at-loop = at-product .before .before in
+    let join = at-join .join in
+    let args = at-loop .before .before .before .before .before .before .args in
+    let words = wordsIn (args .reserved .now) (args .currencies .now) (args .counters .now) in
+    (join .kept .0 ∙ (at-product .product .kept .1 .1 .1 .1 .1 .1 .0 ∙ at-loop .loop .inv .0), pend-next (sum-level words (args .depth)) (args .s .now) _ _ _ _ _ _ _ (pend-chain (sum-level words (args .depth)) (args .s .now) _ _ _ _ _ _ _ (at-loop .loop .inv .1) _ _ _ _ (done-reads _ _ _ _ _ _ _ _ _ (at-r .r .given .1) (at-product .product .ensures)) (join .result) _ (join .ensures)) (sym (at-is-sum .is-sum .ensures) ∙ not-false _ (c .before .if1 .left)) (c .next .result) (c .next .ensures))
 
 pub +arguments+call+comparison+expression+index+items+list+method+name+parenthesis+pays+postfix+postfixes+power+primary+product+sum-spec :
     {M : Type 1} → statement M

@@ -1,81 +1,98 @@
+-- Whole scripts: judged, then read, then what is left in memory.
 use borrow.Author.Needs.{needs}
 use Rattle.reading.proofs.reading.read.Statement.{statement}
 use Rattle.reading.proofs.reading.read.Tie as tie
-use Rattle.reading.proofs.reading.read.Reads as reads
-use Rattle.reading.proofs.reading.read.Lts as lts
-use native.Mathlib.Omega.{arith}
 use mathlib.Core.Path.{sym, _∙_}
 use lib.Seq.{length-take-le}
 use Rattle.reading.specs.Judging.{listsIn}
 use Rattle.reading.proofs.ReadLaws.{judged-good, bytes-in, text-ready, leaves-not, leaves-wide, leaves-many, leaves-read}
 
--- src/reading.rt:36:11
 judge-requires : tie.Need-judge-requires
 judge-requires c κs = search needs
 
--- src/reading.rt:37:25
 enum-known-k : tie.Need-enum-known-k
 enum-known-k c = search needs
 
--- src/reading.rt:37:34
 refusal-requires : tie.Need-refusal-requires
 refusal-requires c κs = search needs
 
--- src/reading.rt:38:22
 enum-known-c : tie.Need-enum-known-c
 enum-known-c c = search needs
 
--- src/reading.rt:39:28
 record-room-requires : tie.Need-record-room-requires
 record-room-requires c κs = search needs
 
--- src/reading.rt:40:17
 refusal-requires-2 : tie.Need-refusal-requires-2
 refusal-requires-2 c κs = search needs
 
--- src/reading.rt:40:17
 returns : tie.Need-returns
-returns c = leaves-wide (listsIn (c .before .before .before .before .before .before .before .before .before .before .before .before .before .before .args .reserved .now) (c .before .before .before .before .before .before .before .before .before .before .before .before .before .before .args .currencies .now) (c .before .before .before .before .before .before .before .before .before .before .before .before .before .before .args .counters .now)) (c .before .before .before .before .before .before .before .before .before .before .before .before .before .before .args .script .now) _ _ (judged-good (listsIn (c .before .before .before .before .before .before .before .before .before .before .before .before .before .before .args .reserved .now) (c .before .before .before .before .before .before .before .before .before .before .before .before .before .before .args .currencies .now) (c .before .before .before .before .before .before .before .before .before .before .before .before .before .before .args .counters .now)) (c .before .before .before .before .before .before .before .before .before .before .before .before .before .before .args .script .now) (sym (c .before .before .before .before .before .before .before .judge .ensures) ∙ c .before .before .before .before .before .c .given .1)) (c .refusal2 .ensures) (c .before .before .before .record-room .ensures) (c .before .if1 .taken)
+returns c =
+    let at-record-room = c .before .before .before in
+    let at-c = at-record-room .before .before in
+    let at-judge = at-c .before .before in
+    let args = at-judge .before .before .before .before .before .before .before .args in
+    let lists = listsIn (args .reserved .now) (args .currencies .now) (args .counters .now) in
+    leaves-wide lists (args .script .now) _ _ (judged-good lists (args .script .now) (sym (at-judge .judge .ensures) ∙ at-c .c .given .1)) (c .refusal2 .ensures) (at-record-room .record-room .ensures) (c .before .if1 .taken)
 
--- src/reading.rt:42:31
 statement-room-requires : tie.Need-statement-room-requires
 statement-room-requires c κs = search needs
 
--- src/reading.rt:43:17
 refusal-requires-3 : tie.Need-refusal-requires-3
 refusal-requires-3 c κs = search needs
 
--- src/reading.rt:43:17
 returns-2 : tie.Need-returns-2
-returns-2 c = leaves-many (listsIn (c .before .before .before .before .before .before .before .before .before .before .before .before .before .before .before .before .before .args .reserved .now) (c .before .before .before .before .before .before .before .before .before .before .before .before .before .before .before .before .before .args .currencies .now) (c .before .before .before .before .before .before .before .before .before .before .before .before .before .before .before .before .before .args .counters .now)) (c .before .before .before .before .before .before .before .before .before .before .before .before .before .before .before .before .before .args .script .now) _ _ (judged-good (listsIn (c .before .before .before .before .before .before .before .before .before .before .before .before .before .before .before .before .before .args .reserved .now) (c .before .before .before .before .before .before .before .before .before .before .before .before .before .before .before .before .before .args .currencies .now) (c .before .before .before .before .before .before .before .before .before .before .before .before .before .before .before .before .before .args .counters .now)) (c .before .before .before .before .before .before .before .before .before .before .before .before .before .before .before .before .before .args .script .now) (sym (c .before .before .before .before .before .before .before .before .before .before .judge .ensures) ∙ c .before .before .before .before .before .before .before .before .c .given .1)) (c .refusal3 .ensures) (c .before .before .before .before .before .before .record-room .ensures) (c .before .before .before .before .if1 .left) (c .before .before .before .statement-room .ensures) (c .before .if2 .taken)
+returns-2 c =
+    let at-statement-room = c .before .before .before in
+    let at-record-room = at-statement-room .before .before .before in
+    let at-c = at-record-room .before .before in
+    let at-judge = at-c .before .before in
+    let args = at-judge .before .before .before .before .before .before .before .args in
+    let lists = listsIn (args .reserved .now) (args .currencies .now) (args .counters .now) in
+    leaves-many lists (args .script .now) _ _ (judged-good lists (args .script .now) (sym (at-judge .judge .ensures) ∙ at-c .c .given .1)) (c .refusal3 .ensures) (at-record-room .record-room .ensures) (at-statement-room .before .if1 .left) (at-statement-room .statement-room .ensures) (c .before .if2 .taken)
 
--- src/reading.rt:46:17
 slice-aggregate-all : tie.Need-slice-aggregate-all
-slice-aggregate-all c = sym (length-take-le _ (c .before .before .before .before .before .before .before .before .before .before .before .before .before .before .before .before .before .args .script .now) (bytes-in (listsIn (c .before .before .before .before .before .before .before .before .before .before .before .before .before .before .before .before .before .args .reserved .now) (c .before .before .before .before .before .before .before .before .before .before .before .before .before .before .before .before .before .args .currencies .now) (c .before .before .before .before .before .before .before .before .before .before .before .before .before .before .before .before .before .args .counters .now)) (c .before .before .before .before .before .before .before .before .before .before .before .before .before .before .before .before .before .args .script .now) (judged-good (listsIn (c .before .before .before .before .before .before .before .before .before .before .before .before .before .before .before .before .before .args .reserved .now) (c .before .before .before .before .before .before .before .before .before .before .before .before .before .before .before .before .before .args .currencies .now) (c .before .before .before .before .before .before .before .before .before .before .before .before .before .before .before .before .before .args .counters .now)) (c .before .before .before .before .before .before .before .before .before .before .before .before .before .before .before .before .before .args .script .now) (sym (c .before .before .before .before .before .before .before .before .before .before .judge .ensures) ∙ c .before .before .before .before .before .before .before .before .c .given .1))))
+slice-aggregate-all c =
+    let at-c = c .before .before .before .before .before .before .before .before in
+    let at-judge = at-c .before .before in
+    let args = at-judge .before .before .before .before .before .before .before .args in
+    let lists = listsIn (args .reserved .now) (args .currencies .now) (args .counters .now) in
+    sym (length-take-le _ (args .script .now) (bytes-in lists (args .script .now) (judged-good lists (args .script .now) (sym (at-judge .judge .ensures) ∙ at-c .c .given .1))))
 
--- src/reading.rt:45:13
 all-requires : tie.Need-all-requires
-all-requires c κs = text-ready (listsIn (c .before .before .before .before .before .before .before .before .before .before .before .before .before .before .before .before .before .before .before .args .reserved .now) (c .before .before .before .before .before .before .before .before .before .before .before .before .before .before .before .before .before .before .before .args .currencies .now) (c .before .before .before .before .before .before .before .before .before .before .before .before .before .before .before .before .before .before .before .args .counters .now)) (c .before .before .before .before .before .before .before .before .before .before .before .before .before .before .before .before .before .before .before .args .script .now) (judged-good (listsIn (c .before .before .before .before .before .before .before .before .before .before .before .before .before .before .before .before .before .before .before .args .reserved .now) (c .before .before .before .before .before .before .before .before .before .before .before .before .before .before .before .before .before .before .before .args .currencies .now) (c .before .before .before .before .before .before .before .before .before .before .before .before .before .before .before .before .before .before .before .args .counters .now)) (c .before .before .before .before .before .before .before .before .before .before .before .before .before .before .before .before .before .before .before .args .script .now) (sym (c .before .before .before .before .before .before .before .before .before .before .before .before .judge .ensures) ∙ c .before .before .before .before .before .before .before .before .before .before .c .given .1))
+all-requires c κs =
+    let at-c = c .before .before .before .before .before .before .before .before .before .before in
+    let at-judge = at-c .before .before in
+    let args = at-judge .before .before .before .before .before .before .before .args in
+    let lists = listsIn (args .reserved .now) (args .currencies .now) (args .counters .now) in
+    text-ready lists (args .script .now) (judged-good lists (args .script .now) (sym (at-judge .judge .ensures) ∙ at-c .c .given .1))
 
--- src/reading.rt:53:13
 acceptance-requires : tie.Need-acceptance-requires
 acceptance-requires c κs = search needs
 
--- src/reading.rt:26:1
 returns-3 : tie.Need-returns-3
-returns-3 c = leaves-not (listsIn (c .before .before .before .before .before .before .before .before .before .before .before .args .reserved .now) (c .before .before .before .before .before .before .before .before .before .before .before .args .currencies .now) (c .before .before .before .before .before .before .before .before .before .before .before .args .counters .now)) (c .before .before .before .before .before .before .before .before .before .before .before .args .script .now) _ _ (c .refusal .ensures) (sym (c .before .before .before .before .judge .ensures) ∙ c .before .before .k .given .1)
+returns-3 c =
+    let at-k = c .before .before in
+    let at-judge = at-k .before .before in
+    let args = at-judge .before .before .before .before .before .before .before .args in
+    leaves-not (listsIn (args .reserved .now) (args .currencies .now) (args .counters .now)) (args .script .now) _ _ (c .refusal .ensures) (sym (at-judge .judge .ensures) ∙ at-k .k .given .1)
 
--- src/reading.rt:26:1
 same-length : tie.Need-same-length
 same-length c = search needs
 
--- src/reading.rt:26:1
 same-length-2 : tie.Need-same-length-2
 same-length-2 c = search needs
 
--- src/reading.rt:26:1
 returns-4 : tie.Need-returns-4
-returns-4 c = leaves-read (listsIn (c .before .before .before .before .before .before .before .before .before .before .before .before .before .before .before .before .before .before .before .before .before .before .before .before .before .args .reserved .now) (c .before .before .before .before .before .before .before .before .before .before .before .before .before .before .before .before .before .before .before .before .before .before .before .before .before .args .currencies .now) (c .before .before .before .before .before .before .before .before .before .before .before .before .before .before .before .before .before .before .before .before .before .before .before .before .before .args .counters .now)) (c .before .before .before .before .before .before .before .before .before .before .before .before .before .before .before .before .before .before .before .before .before .before .before .before .before .args .script .now) _ _ (judged-good (listsIn (c .before .before .before .before .before .before .before .before .before .before .before .before .before .before .before .before .before .before .before .before .before .before .before .before .before .args .reserved .now) (c .before .before .before .before .before .before .before .before .before .before .before .before .before .before .before .before .before .before .before .before .before .before .before .before .before .args .currencies .now) (c .before .before .before .before .before .before .before .before .before .before .before .before .before .before .before .before .before .before .before .before .before .before .before .before .before .args .counters .now)) (c .before .before .before .before .before .before .before .before .before .before .before .before .before .before .before .before .before .before .before .before .before .before .before .before .before .args .script .now) (sym (c .before .before .before .before .before .before .before .before .before .before .before .before .before .before .before .before .before .before .judge .ensures) ∙ c .before .before .before .before .before .before .before .before .before .before .before .before .before .before .before .before .c .given .1)) (c .acceptance .ensures) (c .before .before .before .before .before .before .before .before .before .before .before .before .before .before .record-room .ensures) (c .before .before .before .before .before .before .before .before .before .before .before .before .if1 .left) (c .before .before .before .before .before .before .before .before .before .before .before .statement-room .ensures) (c .before .before .before .before .before .before .before .before .before .if2 .left) (c .before .before .before .before .before .all .result) (c .before .before .before .before .before .all .ensures)
+returns-4 c =
+    let at-all = c .before .before .before .before .before in
+    let at-if2 = at-all .before .before .before .before in
+    let at-statement-room = at-if2 .before .before in
+    let at-record-room = at-statement-room .before .before .before in
+    let at-c = at-record-room .before .before in
+    let at-judge = at-c .before .before in
+    let args = at-judge .before .before .before .before .before .before .before .args in
+    let lists = listsIn (args .reserved .now) (args .currencies .now) (args .counters .now) in
+    leaves-read lists (args .script .now) _ _ (judged-good lists (args .script .now) (sym (at-judge .judge .ensures) ∙ at-c .c .given .1)) (c .acceptance .ensures) (at-record-room .record-room .ensures) (at-statement-room .before .if1 .left) (at-statement-room .statement-room .ensures) (at-if2 .if2 .left) (at-all .all .result) (at-all .all .ensures)
 
 pub read-spec : {M : Type 1} → statement M
 read-spec =

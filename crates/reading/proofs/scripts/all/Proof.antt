@@ -1,7 +1,7 @@
 -- The loop over the statements of a script.
+use borrow.Author.Needs.{needs}
 use Rattle.reading.proofs.scripts.all.Statement.{statement}
 use Rattle.reading.proofs.scripts.all.Tie as tie
-use borrow.Author.Needs.{needs}
 use native.Mathlib.Omega.{arith}
 use mathlib.Core.Path.{_≡_, refl, _∙_}
 use lib.ListN.{length, drop}
@@ -20,7 +20,10 @@ start-requires : tie.Need-start-requires Inv-loop μ-loop
 start-requires c κs = search needs
 
 loop-holds : tie.Need-loop-holds Inv-loop μ-loop
-loop-holds c = (refl, refl, chain-start (wordsIn (c .before .before .before .before .before .before .before .args .reserved .now) (c .before .before .before .before .before .before .before .args .currencies .now) (c .before .before .before .before .before .before .before .args .counters .now)) (c .before .before .before .before .before .before .before .args .s .now) _ _ (c .before .before .before .before .before .before .before .pre .0) (c .start .result) (c .start .ensures))
+loop-holds c =
+    let start = c .before .before .before .before .before .before .before in
+    let args = start .args in
+    (refl, refl, chain-start (wordsIn (args .reserved .now) (args .currencies .now) (args .counters .now)) (args .s .now) _ _ (start .pre .0) (c .start .result) (c .start .ensures))
 
 same-length : tie.Need-same-length Inv-loop μ-loop
 same-length c = c .before .before .loop .inv .0
@@ -29,28 +32,48 @@ same-length-2 : tie.Need-same-length-2 Inv-loop μ-loop
 same-length-2 c = c .before .before .loop .inv .1
 
 returns : tie.Need-returns Inv-loop μ-loop
-returns c = chain-exit (wordsIn (c .before .before .before .before .before .before .before .before .before .before .args .reserved .now) (c .before .before .before .before .before .before .before .before .before .before .args .currencies .now) (c .before .before .before .before .before .before .before .before .before .before .args .counters .now)) (c .before .before .before .before .before .before .before .before .before .before .args .s .now) _ _ (c .before .before .loop .inv .2) (c .if1 .taken)
+returns c =
+    let at-loop = c .before .before in
+    let args = at-loop .before .before .before .before .before .before .before .before .args in
+    chain-exit (wordsIn (args .reserved .now) (args .currencies .now) (args .counters .now)) (args .s .now) _ _ (at-loop .loop .inv .2) (c .if1 .taken)
 
 cast-base : tie.Need-cast-base Inv-loop μ-loop
 cast-base c = search needs
 
 add-base : tie.Need-add-base Inv-loop μ-loop
-add-base c = omega (arith, part-in (wordsIn (c .before .before .before .before .before .before .before .before .before .before .before .args .reserved .now) (c .before .before .before .before .before .before .before .before .before .before .before .args .currencies .now) (c .before .before .before .before .before .before .before .before .before .before .before .args .counters .now)) (c .before .before .before .before .before .before .before .before .before .before .before .args .s .now) _ _ (c .before .before .before .loop .inv .2), c .before .before .before .loop .inv .2 .short)
+add-base c =
+    let at-loop = c .before .before .before in
+    let args = at-loop .before .before .before .before .before .before .before .before .args in
+    omega (arith, part-in (wordsIn (args .reserved .now) (args .currencies .now) (args .counters .now)) (args .s .now) _ _ (at-loop .loop .inv .2), at-loop .loop .inv .2 .short)
 
 rebased-requires : tie.Need-rebased-requires Inv-loop μ-loop
 rebased-requires c κs = start-in (c .before .before .before .loop .inv .2 .holds)
 
 sub-statement : tie.Need-sub-statement Inv-loop μ-loop
-sub-statement c = part-in (wordsIn (c .before .before .before .before .before .before .before .before .before .before .before .before .args .reserved .now) (c .before .before .before .before .before .before .before .before .before .before .before .before .args .currencies .now) (c .before .before .before .before .before .before .before .before .before .before .before .before .args .counters .now)) (c .before .before .before .before .before .before .before .before .before .before .before .before .args .s .now) _ _ (c .before .before .before .before .loop .inv .2)
+sub-statement c =
+    let at-loop = c .before .before .before .before in
+    let args = at-loop .before .before .before .before .before .before .before .before .args in
+    part-in (wordsIn (args .reserved .now) (args .currencies .now) (args .counters .now)) (args .s .now) _ _ (at-loop .loop .inv .2)
 
 part-statement-start : tie.Need-part-statement-start Inv-loop μ-loop
-part-statement-start c = omega (arith, part-in (wordsIn (c .before .before .before .before .before .before .before .before .before .before .before .before .args .reserved .now) (c .before .before .before .before .before .before .before .before .before .before .before .before .args .currencies .now) (c .before .before .before .before .before .before .before .before .before .before .before .before .args .counters .now)) (c .before .before .before .before .before .before .before .before .before .before .before .before .args .s .now) _ _ (c .before .before .before .before .loop .inv .2))
+part-statement-start c =
+    let at-loop = c .before .before .before .before in
+    let args = at-loop .before .before .before .before .before .before .before .before .args in
+    omega (arith, part-in (wordsIn (args .reserved .now) (args .currencies .now) (args .counters .now)) (args .s .now) _ _ (at-loop .loop .inv .2))
 
 part-statement-end : tie.Need-part-statement-end Inv-loop μ-loop
-part-statement-end c = omega (arith, part-in (wordsIn (c .before .before .before .before .before .before .before .before .before .before .before .before .args .reserved .now) (c .before .before .before .before .before .before .before .before .before .before .before .before .args .currencies .now) (c .before .before .before .before .before .before .before .before .before .before .before .before .args .counters .now)) (c .before .before .before .before .before .before .before .before .before .before .before .before .args .s .now) _ _ (c .before .before .before .before .loop .inv .2))
+part-statement-end c =
+    let at-loop = c .before .before .before .before in
+    let args = at-loop .before .before .before .before .before .before .before .before .args in
+    omega (arith, part-in (wordsIn (args .reserved .now) (args .currencies .now) (args .counters .now)) (args .s .now) _ _ (at-loop .loop .inv .2))
 
 statement-requires : tie.Need-statement-requires Inv-loop μ-loop
-statement-requires c κs = (ready-at (wordsIn (c .before .before .before .before .before .before .before .before .before .before .before .before .before .before .args .reserved .now) (c .before .before .before .before .before .before .before .before .before .before .before .before .before .before .args .currencies .now) (c .before .before .before .before .before .before .before .before .before .before .before .before .before .before .args .counters .now)) (c .before .before .before .before .before .before .before .before .before .before .before .before .before .before .args .s .now) _ _ (c .before .before .before .before .before .before .loop .inv .2) (c .before .before .rebased .ensures), c .before .before .before .before .before .before .before .before .before .before .before .before .before .before .pre .1)
+statement-requires c κs =
+    let at-rebased = c .before .before in
+    let at-loop = at-rebased .before .before .before .before in
+    let start = at-loop .before .before .before .before .before .before .before .before in
+    let args = start .args in
+    (ready-at (wordsIn (args .reserved .now) (args .currencies .now) (args .counters .now)) (args .s .now) _ _ (at-loop .loop .inv .2) (at-rebased .rebased .ensures), start .pre .1)
 
 enum-known-r : tie.Need-enum-known-r Inv-loop μ-loop
 enum-known-r c = search needs
@@ -59,16 +82,29 @@ enum-told : tie.Need-enum-told Inv-loop μ-loop
 enum-told c = search needs
 
 refused-at-requires : tie.Need-refused-at-requires Inv-loop μ-loop
-refused-at-requires c κs = omega (arith, part-in (wordsIn (c .before .before .before .before .before .before .before .before .before .before .before .before .before .before .before .before .before .before .before .args .reserved .now) (c .before .before .before .before .before .before .before .before .before .before .before .before .before .before .before .before .before .before .before .args .currencies .now) (c .before .before .before .before .before .before .before .before .before .before .before .before .before .before .before .before .before .before .before .args .counters .now)) (c .before .before .before .before .before .before .before .before .before .before .before .before .before .before .before .before .before .before .before .args .s .now) _ _ (c .before .before .before .before .before .before .before .before .before .before .before .loop .inv .2), c .before .before .before .before .before .before .before .before .before .before .before .loop .inv .2 .short)
+refused-at-requires c κs =
+    let at-loop = c .before .before .before .before .before .before .before .before .before .before .before in
+    let args = at-loop .before .before .before .before .before .before .before .before .args in
+    omega (arith, part-in (wordsIn (args .reserved .now) (args .currencies .now) (args .counters .now)) (args .s .now) _ _ (at-loop .loop .inv .2), at-loop .loop .inv .2 .short)
 
 same-length-3 : tie.Need-same-length-3 Inv-loop μ-loop
-same-length-3 c = c .before .before .before .before .before .statement .kept .1 .1 .1 .1 .1 .1 .0 ∙ c .before .before .before .before .before .before .before .before .before .before .before .before .loop .inv .0
+same-length-3 c =
+    let at-statement = c .before .before .before .before .before in
+    at-statement .statement .kept .1 .1 .1 .1 .1 .1 .0 ∙ at-statement .before .before .before .before .before .before .before .loop .inv .0
 
 same-length-4 : tie.Need-same-length-4 Inv-loop μ-loop
 same-length-4 c = c .before .before .before .before .before .before .before .before .before .before .before .before .loop .inv .1
 
 returns-2 : tie.Need-returns-2 Inv-loop μ-loop
-returns-2 c = all-refused (wordsIn (c .before .before .before .before .before .before .before .before .before .before .before .before .before .before .before .before .before .before .before .before .args .reserved .now) (c .before .before .before .before .before .before .before .before .before .before .before .before .before .before .before .before .before .before .before .before .args .currencies .now) (c .before .before .before .before .before .before .before .before .before .before .before .before .before .before .before .before .before .before .before .before .args .counters .now)) (c .before .before .before .before .before .before .before .before .before .before .before .before .before .before .before .before .before .before .before .before .args .s .now) _ _ (c .before .before .before .before .before .before .before .before .before .before .before .before .loop .inv .2) (c .before .before .before .before .before .before .before .before .before .before .if1 .left) (c .before .before .before .before .before .statement .result) (c .refused-at .result) (c .before .before .before .before .before .statement .last .1 .1 .1 .1 .1 .1 .0) _ _ _ _ (c .before .enum-told .given .1) (meets-at (wordsIn (c .before .before .before .before .before .before .before .before .before .before .before .before .before .before .before .before .before .before .before .before .args .reserved .now) (c .before .before .before .before .before .before .before .before .before .before .before .before .before .before .before .before .before .before .before .before .args .currencies .now) (c .before .before .before .before .before .before .before .before .before .before .before .before .before .before .before .before .before .before .before .before .args .counters .now)) (c .before .before .before .before .before .before .before .before .before .before .before .before .before .before .before .before .before .before .before .before .args .s .now) _ _ (c .before .before .before .before .before .before .before .before .before .before .before .before .loop .inv .2) (c .before .before .before .before .before .before .before .before .rebased .ensures) (c .before .before .before .before .before .statement .result) (c .before .before .before .before .before .statement .last .1 .1 .1 .1 .1 .1 .0) (c .before .before .before .before .before .statement .ensures)) (c .refused-at .ensures)
+returns-2 c =
+    let at-statement = c .before .before .before .before .before in
+    let at-rebased = at-statement .before .before .before in
+    let at-if1 = at-rebased .before .before in
+    let at-loop = at-if1 .before .before in
+    let args = at-loop .before .before .before .before .before .before .before .before .args in
+    let statement = at-statement .statement in
+    let words = wordsIn (args .reserved .now) (args .currencies .now) (args .counters .now) in
+    all-refused words (args .s .now) _ _ (at-loop .loop .inv .2) (at-if1 .if1 .left) (statement .result) (c .refused-at .result) (statement .last .1 .1 .1 .1 .1 .1 .0) _ _ _ _ (c .before .enum-told .given .1) (meets-at words (args .s .now) _ _ (at-loop .loop .inv .2) (at-rebased .rebased .ensures) (statement .result) (statement .last .1 .1 .1 .1 .1 .1 .0) (statement .ensures)) (c .refused-at .ensures)
 
 cast-t25 : tie.Need-cast-t25 Inv-loop μ-loop
 cast-t25 c = search needs
@@ -77,13 +113,28 @@ cast-t16 : tie.Need-cast-t16 Inv-loop μ-loop
 cast-t16 c = search needs
 
 add-t26 : tie.Need-add-t26 Inv-loop μ-loop
-add-t26 c = omega (arith, part-in (wordsIn (c .before .before .before .before .before .before .before .before .before .before .before .before .before .before .before .before .before .before .before .before .before .before .args .reserved .now) (c .before .before .before .before .before .before .before .before .before .before .before .before .before .before .before .before .before .before .before .before .before .before .args .currencies .now) (c .before .before .before .before .before .before .before .before .before .before .before .before .before .before .before .before .before .before .before .before .before .before .args .counters .now)) (c .before .before .before .before .before .before .before .before .before .before .before .before .before .before .before .before .before .before .before .before .before .before .args .s .now) _ _ (c .before .before .before .before .before .before .before .before .before .before .before .before .before .before .loop .inv .2), c .before .before .before .before .before .before .before .before .before .before .before .before .before .before .loop .inv .2 .short)
+add-t26 c =
+    let at-loop = c .before .before .before .before .before .before .before .before .before .before .before .before .before .before in
+    let args = at-loop .before .before .before .before .before .before .before .before .args in
+    omega (arith, part-in (wordsIn (args .reserved .now) (args .currencies .now) (args .counters .now)) (args .s .now) _ _ (at-loop .loop .inv .2), at-loop .loop .inv .2 .short)
 
 cast-t27 : tie.Need-cast-t27 Inv-loop μ-loop
-cast-t27 c = omega (arith, part-in (wordsIn (c .before .before .before .before .before .before .before .before .before .before .before .before .before .before .before .before .before .before .before .before .before .before .args .reserved .now) (c .before .before .before .before .before .before .before .before .before .before .before .before .before .before .before .before .before .before .before .before .before .before .args .currencies .now) (c .before .before .before .before .before .before .before .before .before .before .before .before .before .before .before .before .before .before .before .before .before .before .args .counters .now)) (c .before .before .before .before .before .before .before .before .before .before .before .before .before .before .before .before .before .before .before .before .before .before .args .s .now) _ _ (c .before .before .before .before .before .before .before .before .before .before .before .before .before .before .loop .inv .2), c .before .before .before .before .before .before .before .before .before .before .before .before .before .before .loop .inv .2 .short)
+cast-t27 c =
+    let at-loop = c .before .before .before .before .before .before .before .before .before .before .before .before .before .before in
+    let args = at-loop .before .before .before .before .before .before .before .before .args in
+    omega (arith, part-in (wordsIn (args .reserved .now) (args .currencies .now) (args .counters .now)) (args .s .now) _ _ (at-loop .loop .inv .2), at-loop .loop .inv .2 .short)
 
 sub-t28 : tie.Need-sub-t28 Inv-loop μ-loop
-sub-t28 c = omega (arith, chain-numbers (wordsIn (c .before .before .before .before .before .before .before .before .before .before .before .before .before .before .before .before .before .before .before .before .before .before .args .reserved .now) (c .before .before .before .before .before .before .before .before .before .before .before .before .before .before .before .before .before .before .before .before .before .before .args .currencies .now) (c .before .before .before .before .before .before .before .before .before .before .before .before .before .before .before .before .before .before .before .before .before .before .args .counters .now)) (c .before .before .before .before .before .before .before .before .before .before .before .before .before .before .before .before .before .before .before .before .before .before .args .s .now) _ _ (c .before .before .before .before .before .before .before .before .before .before .before .before .before .before .loop .inv .2) (c .before .before .before .before .before .before .before .before .before .before .before .before .if1 .left) (done-reads _ _ _ _ _ _ _ _ _ (c .before .before .before .r .given .1) (meets-at (wordsIn (c .before .before .before .before .before .before .before .before .before .before .before .before .before .before .before .before .before .before .before .before .before .before .args .reserved .now) (c .before .before .before .before .before .before .before .before .before .before .before .before .before .before .before .before .before .before .before .before .before .before .args .currencies .now) (c .before .before .before .before .before .before .before .before .before .before .before .before .before .before .before .before .before .before .before .before .before .before .args .counters .now)) (c .before .before .before .before .before .before .before .before .before .before .before .before .before .before .before .before .before .before .before .before .before .before .args .s .now) _ _ (c .before .before .before .before .before .before .before .before .before .before .before .before .before .before .loop .inv .2) (c .before .before .before .before .before .before .before .before .before .before .rebased .ensures) (c .before .before .before .before .before .before .before .statement .result) (c .before .before .before .before .before .before .before .statement .last .1 .1 .1 .1 .1 .1 .0) (c .before .before .before .before .before .before .before .statement .ensures))))
+sub-t28 c =
+    let at-r = c .before .before .before in
+    let at-statement = at-r .before .before .before .before in
+    let at-rebased = at-statement .before .before .before in
+    let at-if1 = at-rebased .before .before in
+    let at-loop = at-if1 .before .before in
+    let args = at-loop .before .before .before .before .before .before .before .before .args in
+    let statement = at-statement .statement in
+    let words = wordsIn (args .reserved .now) (args .currencies .now) (args .counters .now) in
+    omega (arith, chain-numbers words (args .s .now) _ _ (at-loop .loop .inv .2) (at-if1 .if1 .left) (done-reads _ _ _ _ _ _ _ _ _ (at-r .r .given .1) (meets-at words (args .s .now) _ _ (at-loop .loop .inv .2) (at-rebased .rebased .ensures) (statement .result) (statement .last .1 .1 .1 .1 .1 .1 .0) (statement .ensures))))
 
 cast-t29 : tie.Need-cast-t29 Inv-loop μ-loop
 cast-t29 c = search needs
@@ -92,13 +143,35 @@ put-entry-requires : tie.Need-put-entry-requires Inv-loop μ-loop
 put-entry-requires c κs = search needs
 
 add-k : tie.Need-add-k Inv-loop μ-loop
-add-k c = omega (arith, c .before .before .before .before .before .before .before .before .before .before .before .before .before .before .before .before .before .before .loop .inv .2 .fewer, c .before .before .before .before .before .before .before .before .before .before .before .before .before .before .before .before .before .before .loop .inv .2 .room)
+add-k c =
+    let at-loop = c .before .before .before .before .before .before .before .before .before .before .before .before .before .before .before .before .before .before in
+    omega (arith, at-loop .loop .inv .2 .fewer, at-loop .loop .inv .2 .room)
 
 loop-less : tie.Need-loop-less Inv-loop μ-loop
-loop-less c = chain-less (wordsIn (c .before .before .before .before .before .before .before .before .before .before .before .before .before .before .before .before .before .before .before .before .before .before .before .before .before .before .args .reserved .now) (c .before .before .before .before .before .before .before .before .before .before .before .before .before .before .before .before .before .before .before .before .before .before .before .before .before .before .args .currencies .now) (c .before .before .before .before .before .before .before .before .before .before .before .before .before .before .before .before .before .before .before .before .before .before .before .before .before .before .args .counters .now)) (c .before .before .before .before .before .before .before .before .before .before .before .before .before .before .before .before .before .before .before .before .before .before .before .before .before .before .args .s .now) _ _ (c .before .before .before .before .before .before .before .before .before .before .before .before .before .before .before .before .before .before .loop .inv .2) (c .before .before .before .before .before .before .before .before .before .before .before .before .before .before .before .before .if1 .left) (done-reads _ _ _ _ _ _ _ _ _ (c .before .before .before .before .before .before .before .r .given .1) (meets-at (wordsIn (c .before .before .before .before .before .before .before .before .before .before .before .before .before .before .before .before .before .before .before .before .before .before .before .before .before .before .args .reserved .now) (c .before .before .before .before .before .before .before .before .before .before .before .before .before .before .before .before .before .before .before .before .before .before .before .before .before .before .args .currencies .now) (c .before .before .before .before .before .before .before .before .before .before .before .before .before .before .before .before .before .before .before .before .before .before .before .before .before .before .args .counters .now)) (c .before .before .before .before .before .before .before .before .before .before .before .before .before .before .before .before .before .before .before .before .before .before .before .before .before .before .args .s .now) _ _ (c .before .before .before .before .before .before .before .before .before .before .before .before .before .before .before .before .before .before .loop .inv .2) (c .before .before .before .before .before .before .before .before .before .before .before .before .before .before .rebased .ensures) (c .before .before .before .before .before .before .before .before .before .before .before .statement .result) (c .before .before .before .before .before .before .before .before .before .before .before .statement .last .1 .1 .1 .1 .1 .1 .0) (c .before .before .before .before .before .before .before .before .before .before .before .statement .ensures)))
+loop-less c =
+    let at-r = c .before .before .before .before .before .before .before in
+    let at-statement = at-r .before .before .before .before in
+    let at-rebased = at-statement .before .before .before in
+    let at-if1 = at-rebased .before .before in
+    let at-loop = at-if1 .before .before in
+    let args = at-loop .before .before .before .before .before .before .before .before .args in
+    let statement = at-statement .statement in
+    let words = wordsIn (args .reserved .now) (args .currencies .now) (args .counters .now) in
+    chain-less words (args .s .now) _ _ (at-loop .loop .inv .2) (at-if1 .if1 .left) (done-reads _ _ _ _ _ _ _ _ _ (at-r .r .given .1) (meets-at words (args .s .now) _ _ (at-loop .loop .inv .2) (at-rebased .rebased .ensures) (statement .result) (statement .last .1 .1 .1 .1 .1 .1 .0) (statement .ensures)))
 
 loop-again : tie.Need-loop-again Inv-loop μ-loop
-loop-again c = (c .before .before .before .before .before .before .before .before .before .before .before .statement .kept .1 .1 .1 .1 .1 .1 .0 ∙ c .before .before .before .before .before .before .before .before .before .before .before .before .before .before .before .before .before .before .loop .inv .0, c .before .before .put-entry .kept .0 ∙ c .before .before .before .before .before .before .before .before .before .before .before .before .before .before .before .before .before .before .loop .inv .1, chain-next (wordsIn (c .before .before .before .before .before .before .before .before .before .before .before .before .before .before .before .before .before .before .before .before .before .before .before .before .before .before .args .reserved .now) (c .before .before .before .before .before .before .before .before .before .before .before .before .before .before .before .before .before .before .before .before .before .before .before .before .before .before .args .currencies .now) (c .before .before .before .before .before .before .before .before .before .before .before .before .before .before .before .before .before .before .before .before .before .before .before .before .before .before .args .counters .now)) (c .before .before .before .before .before .before .before .before .before .before .before .before .before .before .before .before .before .before .before .before .before .before .before .before .before .before .args .s .now) _ _ (c .before .before .before .before .before .before .before .before .before .before .before .before .before .before .before .before .before .before .loop .inv .2) (c .before .before .before .before .before .before .before .before .before .before .before .before .before .before .before .before .if1 .left) (done-reads _ _ _ _ _ _ _ _ _ (c .before .before .before .before .before .before .before .r .given .1) (meets-at (wordsIn (c .before .before .before .before .before .before .before .before .before .before .before .before .before .before .before .before .before .before .before .before .before .before .before .before .before .before .args .reserved .now) (c .before .before .before .before .before .before .before .before .before .before .before .before .before .before .before .before .before .before .before .before .before .before .before .before .before .before .args .currencies .now) (c .before .before .before .before .before .before .before .before .before .before .before .before .before .before .before .before .before .before .before .before .before .before .before .before .before .before .args .counters .now)) (c .before .before .before .before .before .before .before .before .before .before .before .before .before .before .before .before .before .before .before .before .before .before .before .before .before .before .args .s .now) _ _ (c .before .before .before .before .before .before .before .before .before .before .before .before .before .before .before .before .before .before .loop .inv .2) (c .before .before .before .before .before .before .before .before .before .before .before .before .before .before .rebased .ensures) (c .before .before .before .before .before .before .before .before .before .before .before .statement .result) (c .before .before .before .before .before .before .before .before .before .before .before .statement .last .1 .1 .1 .1 .1 .1 .0) (c .before .before .before .before .before .before .before .before .before .before .before .statement .ensures))) (c .before .before .put-entry .ensures))
+loop-again c =
+    let at-put-entry = c .before .before in
+    let at-r = at-put-entry .before .before .before .before .before in
+    let at-statement = at-r .before .before .before .before in
+    let at-rebased = at-statement .before .before .before in
+    let at-if1 = at-rebased .before .before in
+    let at-loop = at-if1 .before .before in
+    let statement = at-statement .statement in
+    let loop = at-loop .loop in
+    let args = at-loop .before .before .before .before .before .before .before .before .args in
+    let words = wordsIn (args .reserved .now) (args .currencies .now) (args .counters .now) in
+    (statement .kept .1 .1 .1 .1 .1 .1 .0 ∙ loop .inv .0, at-put-entry .put-entry .kept .0 ∙ loop .inv .1, chain-next words (args .s .now) _ _ (loop .inv .2) (at-if1 .if1 .left) (done-reads _ _ _ _ _ _ _ _ _ (at-r .r .given .1) (meets-at words (args .s .now) _ _ (loop .inv .2) (at-rebased .rebased .ensures) (statement .result) (statement .last .1 .1 .1 .1 .1 .1 .0) (statement .ensures))) (at-put-entry .put-entry .ensures))
 
 pub all-spec : {M : Type 1} → statement M
 all-spec =

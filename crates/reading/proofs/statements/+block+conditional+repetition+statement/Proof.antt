@@ -1,4 +1,6 @@
-use Prim.Native.Nat.{ℕ, _<_}
+-- The readers of statements and blocks, which call one another.
+use borrow.Author.Needs.{needs}
+use Prim.Native.Nat.{ℕ, _<_, _+_, _*_}
 use borrow.Fn.Kinds.{In}
 use borrow.Fn.PlainCycle.{Measures, is, falls, and}
 use Rattle.reading.proofs.statements.block.Reads as block
@@ -28,9 +30,7 @@ use Rattle.reading.proofs.expressions.expression.Reads as expression-re
 use Rattle.reading.proofs.records.put.Reads as put-reads
 use Rattle.reading.proofs.statements.+block+conditional+repetition+statement.{statement}
 use Rattle.reading.proofs.statements.+block+conditional+repetition+statement.Tie.{close}
-use borrow.Author.Needs.{needs}
 use native.Mathlib.Omega.{arith}
-use Prim.Native.Nat.{_+_, _*_}
 use mathlib.Core.Path.{_≡_, refl, _∙_}
 use lib.ListN.{length}
 use Rattle.grammar.specs.Trees.{nil}
@@ -89,7 +89,6 @@ block-Inv-loop s reserved currencies counters depth out₀ n at₀ m₀ count₀
 abbrev block-μ-loop : block-lts.MeasureT-loop
 block-μ-loop s reserved currencies counters depth out₀ n at₀ m₀ count₀ out at m count = length (toksAt s (at .start))
 
--- src/statements.rt:152:25
 block-take-requires : (t : ℕ) → block-lts.Need-take-requires (
   take-reads.Asked,
   take-reads.Learnt,
@@ -102,7 +101,6 @@ block-take-requires : (t : ℕ) → block-lts.Need-take-requires (
 ) (block-at t) block.Post block-Inv-loop block-μ-loop
 block-take-requires t c κs = (c .before .before .before .before .before .pre .1 .0 .0, λ z. omega arith)
 
--- src/statements.rt:152:20
 block-enum-known-d : (t : ℕ) → block-lts.Need-enum-known-d (
   take-reads.Asked,
   take-reads.Learnt,
@@ -115,7 +113,6 @@ block-enum-known-d : (t : ℕ) → block-lts.Need-enum-known-d (
 ) (block-at t) block.Post block-Inv-loop block-μ-loop
 block-enum-known-d t c = search needs
 
--- src/statements.rt:153:9
 block-enum-told : (t : ℕ) → block-lts.Need-enum-told (
   take-reads.Asked,
   take-reads.Learnt,
@@ -128,7 +125,6 @@ block-enum-told : (t : ℕ) → block-lts.Need-enum-told (
 ) (block-at t) block.Post block-Inv-loop block-μ-loop
 block-enum-told t c = search needs
 
--- src/statements.rt:153:9
 block-returns : (t : ℕ) → block-lts.Need-returns (
   take-reads.Asked,
   take-reads.Learnt,
@@ -139,9 +135,13 @@ block-returns : (t : ℕ) → block-lts.Need-returns (
   block-refused-reads.Asked,
   block-refused-reads.Learnt,
 ) (block-at t) block.Post block-Inv-loop block-μ-loop
-block-returns t c = block-unopened (G.statement (wordsIn (c .before .before .before .before .before .before .before .before .args .reserved .now) (c .before .before .before .before .before .before .before .before .args .currencies .now) (c .before .before .before .before .before .before .before .before .args .counters .now)) (c .before .before .before .before .before .before .before .before .args .depth)) (statement-law (wordsIn (c .before .before .before .before .before .before .before .before .args .reserved .now) (c .before .before .before .before .before .before .before .before .args .currencies .now) (c .before .before .before .before .before .before .before .before .args .counters .now)) (c .before .before .before .before .before .before .before .before .args .depth)) (statement-size (wordsIn (c .before .before .before .before .before .before .before .before .args .reserved .now) (c .before .before .before .before .before .before .before .before .args .currencies .now) (c .before .before .before .before .before .before .before .before .args .counters .now)) (c .before .before .before .before .before .before .before .before .args .depth)) (c .before .before .before .before .before .before .before .before .args .s .now) (c .before .before .before .before .before .before .before .before .args .c) (c .before .before .before .before .before .before .before .before .pre .1 .0 .0) (c .before .before .take .result) _ (c .enum-told .given .1) (c .before .before .take .ensures)
+block-returns t c =
+    let at-take = c .before .before in
+    let start = at-take .before .before .before .before .before .before in
+    let args = start .args in
+    let words = wordsIn (args .reserved .now) (args .currencies .now) (args .counters .now) in
+    block-unopened (G.statement words (args .depth)) (statement-law words (args .depth)) (statement-size words (args .depth)) (args .s .now) (args .c) (start .pre .1 .0 .0) (at-take .take .result) _ (c .enum-told .given .1) (at-take .take .ensures)
 
--- src/statements.rt:158:5
 block-loop-holds : (t : ℕ) → block-lts.Need-loop-holds (
   take-reads.Asked,
   take-reads.Learnt,
@@ -152,9 +152,13 @@ block-loop-holds : (t : ℕ) → block-lts.Need-loop-holds (
   block-refused-reads.Asked,
   block-refused-reads.Learnt,
 ) (block-at t) block.Post block-Inv-loop block-μ-loop
-block-loop-holds t c = (refl, block-start (G.statement (wordsIn (c .before .before .before .before .before .before .before .before .before .args .reserved .now) (c .before .before .before .before .before .before .before .before .before .args .currencies .now) (c .before .before .before .before .before .before .before .before .before .args .counters .now)) (c .before .before .before .before .before .before .before .before .before .args .depth)) (statement-law (wordsIn (c .before .before .before .before .before .before .before .before .before .args .reserved .now) (c .before .before .before .before .before .before .before .before .before .args .currencies .now) (c .before .before .before .before .before .before .before .before .before .args .counters .now)) (c .before .before .before .before .before .before .before .before .before .args .depth)) (statement-size (wordsIn (c .before .before .before .before .before .before .before .before .before .args .reserved .now) (c .before .before .before .before .before .before .before .before .before .args .currencies .now) (c .before .before .before .before .before .before .before .before .before .args .counters .now)) (c .before .before .before .before .before .before .before .before .before .args .depth)) (c .before .before .before .before .before .before .before .before .before .args .s .now) (c .before .before .before .before .before .before .before .before .before .args .c) (c .before .before .before .before .before .before .before .before .before .pre .1 .0 .0) (c .before .before .before .take .result) (c .before .d .given .0 .0) (c .before .d .given .1) (c .before .before .before .take .ensures) _ _ (c .before .before .before .before .before .before .before .before .before .pre .1 .0 .1))
+block-loop-holds t c =
+    let at-take = c .before .before .before in
+    let start = at-take .before .before .before .before .before .before in
+    let args = start .args in
+    let words = wordsIn (args .reserved .now) (args .currencies .now) (args .counters .now) in
+    (refl, block-start (G.statement words (args .depth)) (statement-law words (args .depth)) (statement-size words (args .depth)) (args .s .now) (args .c) (start .pre .1 .0 .0) (at-take .take .result) (c .before .d .given .0 .0) (c .before .d .given .1) (at-take .take .ensures) _ _ (start .pre .1 .0 .1))
 
--- src/statements.rt:160:32
 block-next-requires : (t : ℕ) → block-lts.Need-next-requires (
   take-reads.Asked,
   take-reads.Learnt,
@@ -167,7 +171,6 @@ block-next-requires : (t : ℕ) → block-lts.Need-next-requires (
 ) (block-at t) block.Post block-Inv-loop block-μ-loop
 block-next-requires t c κs = c .before .before .loop .inv .1 .holds
 
--- src/statements.rt:160:13
 block-same-length : (t : ℕ) → block-lts.Need-same-length (
   take-reads.Asked,
   take-reads.Learnt,
@@ -180,7 +183,6 @@ block-same-length : (t : ℕ) → block-lts.Need-same-length (
 ) (block-at t) block.Post block-Inv-loop block-μ-loop
 block-same-length t c = c .before .before .before .loop .inv .0
 
--- src/statements.rt:160:13
 block-returns-2 : (t : ℕ) → block-lts.Need-returns-2 (
   take-reads.Asked,
   take-reads.Learnt,
@@ -191,9 +193,18 @@ block-returns-2 : (t : ℕ) → block-lts.Need-returns-2 (
   block-refused-reads.Asked,
   block-refused-reads.Learnt,
 ) (block-at t) block.Post block-Inv-loop block-μ-loop
-block-returns-2 t c = block-exit (G.statement (wordsIn (c .before .before .before .before .before .before .before .before .before .before .before .before .before .args .reserved .now) (c .before .before .before .before .before .before .before .before .before .before .before .before .before .args .currencies .now) (c .before .before .before .before .before .before .before .before .before .before .before .before .before .args .counters .now)) (c .before .before .before .before .before .before .before .before .before .before .before .before .before .args .depth)) (statement-law (wordsIn (c .before .before .before .before .before .before .before .before .before .before .before .before .before .args .reserved .now) (c .before .before .before .before .before .before .before .before .before .before .before .before .before .args .currencies .now) (c .before .before .before .before .before .before .before .before .before .before .before .before .before .args .counters .now)) (c .before .before .before .before .before .before .before .before .before .before .before .before .before .args .depth)) (statement-size (wordsIn (c .before .before .before .before .before .before .before .before .before .before .before .before .before .args .reserved .now) (c .before .before .before .before .before .before .before .before .before .before .before .before .before .args .currencies .now) (c .before .before .before .before .before .before .before .before .before .before .before .before .before .args .counters .now)) (c .before .before .before .before .before .before .before .before .before .before .before .before .before .args .depth)) (c .before .before .before .before .before .before .before .before .before .before .before .before .before .args .s .now) _ _ _ _ _ _ _ (c .before .before .before .loop .inv .1) (c .before .if1 .taken) (c .next .result) (c .next .ensures) _ (bind-is (G.statement (wordsIn (c .before .before .before .before .before .before .before .before .before .before .before .before .before .args .reserved .now) (c .before .before .before .before .before .before .before .before .before .before .before .before .before .args .currencies .now) (c .before .before .before .before .before .before .before .before .before .before .before .before .before .args .counters .now)) (c .before .before .before .before .before .before .before .before .before .before .before .before .before .args .depth)) _ _ (block-opened (G.statement (wordsIn (c .before .before .before .before .before .before .before .before .before .before .before .before .before .args .reserved .now) (c .before .before .before .before .before .before .before .before .before .before .before .before .before .args .currencies .now) (c .before .before .before .before .before .before .before .before .before .before .before .before .before .args .counters .now)) (c .before .before .before .before .before .before .before .before .before .before .before .before .before .args .depth)) (statement-law (wordsIn (c .before .before .before .before .before .before .before .before .before .before .before .before .before .args .reserved .now) (c .before .before .before .before .before .before .before .before .before .before .before .before .before .args .currencies .now) (c .before .before .before .before .before .before .before .before .before .before .before .before .before .args .counters .now)) (c .before .before .before .before .before .before .before .before .before .before .before .before .before .args .depth)) (statement-size (wordsIn (c .before .before .before .before .before .before .before .before .before .before .before .before .before .args .reserved .now) (c .before .before .before .before .before .before .before .before .before .before .before .before .before .args .currencies .now) (c .before .before .before .before .before .before .before .before .before .before .before .before .before .args .counters .now)) (c .before .before .before .before .before .before .before .before .before .before .before .before .before .args .depth)) (c .before .before .before .before .before .before .before .before .before .before .before .before .before .args .s .now) (c .before .before .before .before .before .before .before .before .before .before .before .before .before .args .c) (c .before .before .before .before .before .before .before .before .before .before .before .before .before .pre .1 .0 .0) (c .before .before .before .before .before .before .before .take .result) (c .before .before .before .before .before .d .given .0 .0) (c .before .before .before .before .before .d .given .1) (c .before .before .before .before .before .before .before .take .ensures)))
+block-returns-2 t c =
+    let at-loop = c .before .before .before in
+    let at-d = at-loop .before .before in
+    let at-take = at-d .before .before in
+    let start = at-take .before .before .before .before .before .before in
+    let args = start .args in
+    let words = wordsIn (args .reserved .now) (args .currencies .now) (args .counters .now) in
+    let reader = G.statement words (args .depth) in
+    let reader-sized = statement-size words (args .depth) in
+    let reader-law = statement-law words (args .depth) in
+    block-exit reader reader-law reader-sized (args .s .now) _ _ _ _ _ _ _ (at-loop .loop .inv .1) (c .before .if1 .taken) (c .next .result) (c .next .ensures) _ (bind-is reader _ _ (block-opened reader reader-law reader-sized (args .s .now) (args .c) (start .pre .1 .0 .0) (at-take .take .result) (at-d .d .given .0 .0) (at-d .d .given .1) (at-take .take .ensures)))
 
--- src/statements.rt:162:13
 block-statement-requires : (t : ℕ) → block-lts.Need-statement-requires (
   take-reads.Asked,
   take-reads.Learnt,
@@ -204,9 +215,13 @@ block-statement-requires : (t : ℕ) → block-lts.Need-statement-requires (
   block-refused-reads.Asked,
   block-refused-reads.Learnt,
 ) (block-at t) block.Post block-Inv-loop block-μ-loop
-block-statement-requires t c κs = (omega (arith, c .before .before .before .before .before .before .before .before .before .before .before .before .before .pre .0), (block-ready (G.statement (wordsIn (c .before .before .before .before .before .before .before .before .before .before .before .before .before .args .reserved .now) (c .before .before .before .before .before .before .before .before .before .before .before .before .before .args .currencies .now) (c .before .before .before .before .before .before .before .before .before .before .before .before .before .args .counters .now)) (c .before .before .before .before .before .before .before .before .before .before .before .before .before .args .depth)) (statement-law (wordsIn (c .before .before .before .before .before .before .before .before .before .before .before .before .before .args .reserved .now) (c .before .before .before .before .before .before .before .before .before .before .before .before .before .args .currencies .now) (c .before .before .before .before .before .before .before .before .before .before .before .before .before .args .counters .now)) (c .before .before .before .before .before .before .before .before .before .before .before .before .before .args .depth)) (statement-size (wordsIn (c .before .before .before .before .before .before .before .before .before .before .before .before .before .args .reserved .now) (c .before .before .before .before .before .before .before .before .before .before .before .before .before .args .currencies .now) (c .before .before .before .before .before .before .before .before .before .before .before .before .before .args .counters .now)) (c .before .before .before .before .before .before .before .before .before .before .before .before .before .args .depth)) (c .before .before .before .before .before .before .before .before .before .before .before .before .before .args .s .now) _ _ _ _ _ _ _ (c .before .before .before .loop .inv .1), c .before .before .before .before .before .before .before .before .before .before .before .before .before .pre .1 .1))
+block-statement-requires t c κs =
+    let at-loop = c .before .before .before in
+    let start = at-loop .before .before .before .before .before .before .before .before .before .before in
+    let args = start .args in
+    let words = wordsIn (args .reserved .now) (args .currencies .now) (args .counters .now) in
+    (omega (arith, start .pre .0), (block-ready (G.statement words (args .depth)) (statement-law words (args .depth)) (statement-size words (args .depth)) (args .s .now) _ _ _ _ _ _ _ (at-loop .loop .inv .1), start .pre .1 .1))
 
--- src/statements.rt:163:24
 block-enum-known-r : (t : ℕ) → block-lts.Need-enum-known-r (
   take-reads.Asked,
   take-reads.Learnt,
@@ -219,7 +234,6 @@ block-enum-known-r : (t : ℕ) → block-lts.Need-enum-known-r (
 ) (block-at t) block.Post block-Inv-loop block-μ-loop
 block-enum-known-r t c = search needs
 
--- src/statements.rt:164:13
 block-enum-told-2 : (t : ℕ) → block-lts.Need-enum-told-2 (
   take-reads.Asked,
   take-reads.Learnt,
@@ -232,7 +246,6 @@ block-enum-told-2 : (t : ℕ) → block-lts.Need-enum-told-2 (
 ) (block-at t) block.Post block-Inv-loop block-μ-loop
 block-enum-told-2 t c = search needs
 
--- src/statements.rt:164:13
 block-block-refused-requires : (t : ℕ) → block-lts.Need-block-refused-requires (
   take-reads.Asked,
   take-reads.Learnt,
@@ -245,7 +258,6 @@ block-block-refused-requires : (t : ℕ) → block-lts.Need-block-refused-requir
 ) (block-at t) block.Post block-Inv-loop block-μ-loop
 block-block-refused-requires t c κs = search needs
 
--- src/statements.rt:164:13
 block-same-length-2 : (t : ℕ) → block-lts.Need-same-length-2 (
   take-reads.Asked,
   take-reads.Learnt,
@@ -256,9 +268,10 @@ block-same-length-2 : (t : ℕ) → block-lts.Need-same-length-2 (
   block-refused-reads.Asked,
   block-refused-reads.Learnt,
 ) (block-at t) block.Post block-Inv-loop block-μ-loop
-block-same-length-2 t c = c .before .before .before .before .before .statement .kept .1 .1 .1 .1 .1 .1 .0 ∙ c .before .before .before .before .before .before .before .before .before .loop .inv .0
+block-same-length-2 t c =
+    let at-statement = c .before .before .before .before .before in
+    at-statement .statement .kept .1 .1 .1 .1 .1 .1 .0 ∙ at-statement .before .before .before .before .loop .inv .0
 
--- src/statements.rt:164:13
 block-returns-3 : (t : ℕ) → block-lts.Need-returns-3 (
   take-reads.Asked,
   take-reads.Learnt,
@@ -269,9 +282,20 @@ block-returns-3 : (t : ℕ) → block-lts.Need-returns-3 (
   block-refused-reads.Asked,
   block-refused-reads.Learnt,
 ) (block-at t) block.Post block-Inv-loop block-μ-loop
-block-returns-3 t c = tree-refusal-on _ _ _ _ _ _ (c .block-refused .result) _ _ _ _ _ _ (c .before .enum-told2 .given .1) (c .before .before .before .before .before .statement .ensures) (c .block-refused .ensures) (block-refused (G.statement (wordsIn (c .before .before .before .before .before .before .before .before .before .before .before .before .before .before .before .before .before .before .before .args .reserved .now) (c .before .before .before .before .before .before .before .before .before .before .before .before .before .before .before .before .before .before .before .args .currencies .now) (c .before .before .before .before .before .before .before .before .before .before .before .before .before .before .before .before .before .before .before .args .counters .now)) (c .before .before .before .before .before .before .before .before .before .before .before .before .before .before .before .before .before .before .before .args .depth)) (statement-law (wordsIn (c .before .before .before .before .before .before .before .before .before .before .before .before .before .before .before .before .before .before .before .args .reserved .now) (c .before .before .before .before .before .before .before .before .before .before .before .before .before .before .before .before .before .before .before .args .currencies .now) (c .before .before .before .before .before .before .before .before .before .before .before .before .before .before .before .before .before .before .before .args .counters .now)) (c .before .before .before .before .before .before .before .before .before .before .before .before .before .before .before .before .before .before .before .args .depth)) (statement-size (wordsIn (c .before .before .before .before .before .before .before .before .before .before .before .before .before .before .before .before .before .before .before .args .reserved .now) (c .before .before .before .before .before .before .before .before .before .before .before .before .before .before .before .before .before .before .before .args .currencies .now) (c .before .before .before .before .before .before .before .before .before .before .before .before .before .before .before .before .before .before .before .args .counters .now)) (c .before .before .before .before .before .before .before .before .before .before .before .before .before .before .before .before .before .before .before .args .depth)) (c .before .before .before .before .before .before .before .before .before .before .before .before .before .before .before .before .before .before .before .args .s .now) _ _ _ _ _ _ _ (c .before .before .before .before .before .before .before .before .before .loop .inv .1) (c .before .before .before .before .before .before .before .if1 .left) _ _ _ (bind-is (G.statement (wordsIn (c .before .before .before .before .before .before .before .before .before .before .before .before .before .before .before .before .before .before .before .args .reserved .now) (c .before .before .before .before .before .before .before .before .before .before .before .before .before .before .before .before .before .before .before .args .currencies .now) (c .before .before .before .before .before .before .before .before .before .before .before .before .before .before .before .before .before .before .before .args .counters .now)) (c .before .before .before .before .before .before .before .before .before .before .before .before .before .before .before .before .before .before .before .args .depth)) _ _ (block-opened (G.statement (wordsIn (c .before .before .before .before .before .before .before .before .before .before .before .before .before .before .before .before .before .before .before .args .reserved .now) (c .before .before .before .before .before .before .before .before .before .before .before .before .before .before .before .before .before .before .before .args .currencies .now) (c .before .before .before .before .before .before .before .before .before .before .before .before .before .before .before .before .before .before .before .args .counters .now)) (c .before .before .before .before .before .before .before .before .before .before .before .before .before .before .before .before .before .before .before .args .depth)) (statement-law (wordsIn (c .before .before .before .before .before .before .before .before .before .before .before .before .before .before .before .before .before .before .before .args .reserved .now) (c .before .before .before .before .before .before .before .before .before .before .before .before .before .before .before .before .before .before .before .args .currencies .now) (c .before .before .before .before .before .before .before .before .before .before .before .before .before .before .before .before .before .before .before .args .counters .now)) (c .before .before .before .before .before .before .before .before .before .before .before .before .before .before .before .before .before .before .before .args .depth)) (statement-size (wordsIn (c .before .before .before .before .before .before .before .before .before .before .before .before .before .before .before .before .before .before .before .args .reserved .now) (c .before .before .before .before .before .before .before .before .before .before .before .before .before .before .before .before .before .before .before .args .currencies .now) (c .before .before .before .before .before .before .before .before .before .before .before .before .before .before .before .before .before .before .before .args .counters .now)) (c .before .before .before .before .before .before .before .before .before .before .before .before .before .before .before .before .before .before .before .args .depth)) (c .before .before .before .before .before .before .before .before .before .before .before .before .before .before .before .before .before .before .before .args .s .now) (c .before .before .before .before .before .before .before .before .before .before .before .before .before .before .before .before .before .before .before .args .c) (c .before .before .before .before .before .before .before .before .before .before .before .before .before .before .before .before .before .before .before .pre .1 .0 .0) (c .before .before .before .before .before .before .before .before .before .before .before .before .before .take .result) (c .before .before .before .before .before .before .before .before .before .before .before .d .given .0 .0) (c .before .before .before .before .before .before .before .before .before .before .before .d .given .1) (c .before .before .before .before .before .before .before .before .before .before .before .before .before .take .ensures))))
+block-returns-3 t c =
+    let at-statement = c .before .before .before .before .before in
+    let at-if1 = at-statement .before .before in
+    let at-loop = at-if1 .before .before in
+    let at-d = at-loop .before .before in
+    let at-take = at-d .before .before in
+    let start = at-take .before .before .before .before .before .before in
+    let args = start .args in
+    let words = wordsIn (args .reserved .now) (args .currencies .now) (args .counters .now) in
+    let reader = G.statement words (args .depth) in
+    let reader-sized = statement-size words (args .depth) in
+    let reader-law = statement-law words (args .depth) in
+    tree-refusal-on _ _ _ _ _ _ (c .block-refused .result) _ _ _ _ _ _ (c .before .enum-told2 .given .1) (at-statement .statement .ensures) (c .block-refused .ensures) (block-refused reader reader-law reader-sized (args .s .now) _ _ _ _ _ _ _ (at-loop .loop .inv .1) (at-if1 .if1 .left) _ _ _ (bind-is reader _ _ (block-opened reader reader-law reader-sized (args .s .now) (args .c) (start .pre .1 .0 .0) (at-take .take .result) (at-d .d .given .0 .0) (at-d .d .given .1) (at-take .take .ensures))))
 
--- src/statements.rt:168:9
 block-add-count : (t : ℕ) → block-lts.Need-add-count (
   take-reads.Asked,
   take-reads.Learnt,
@@ -282,9 +306,14 @@ block-add-count : (t : ℕ) → block-lts.Need-add-count (
   block-refused-reads.Asked,
   block-refused-reads.Learnt,
 ) (block-at t) block.Post block-Inv-loop block-μ-loop
-block-add-count t c = omega (arith, block-numbers (G.statement (wordsIn (c .before .before .before .before .before .before .before .before .before .before .before .before .before .before .before .before .before .before .before .args .reserved .now) (c .before .before .before .before .before .before .before .before .before .before .before .before .before .before .before .before .before .before .before .args .currencies .now) (c .before .before .before .before .before .before .before .before .before .before .before .before .before .before .before .before .before .before .before .args .counters .now)) (c .before .before .before .before .before .before .before .before .before .before .before .before .before .before .before .before .before .before .before .args .depth)) (statement-law (wordsIn (c .before .before .before .before .before .before .before .before .before .before .before .before .before .before .before .before .before .before .before .args .reserved .now) (c .before .before .before .before .before .before .before .before .before .before .before .before .before .before .before .before .before .before .before .args .currencies .now) (c .before .before .before .before .before .before .before .before .before .before .before .before .before .before .before .before .before .before .before .args .counters .now)) (c .before .before .before .before .before .before .before .before .before .before .before .before .before .before .before .before .before .before .before .args .depth)) (statement-size (wordsIn (c .before .before .before .before .before .before .before .before .before .before .before .before .before .before .before .before .before .before .before .args .reserved .now) (c .before .before .before .before .before .before .before .before .before .before .before .before .before .before .before .before .before .before .before .args .currencies .now) (c .before .before .before .before .before .before .before .before .before .before .before .before .before .before .before .before .before .before .before .args .counters .now)) (c .before .before .before .before .before .before .before .before .before .before .before .before .before .before .before .before .before .before .before .args .depth)) (c .before .before .before .before .before .before .before .before .before .before .before .before .before .before .before .before .before .before .before .args .s .now) _ _ _ _ _ _ _ (c .before .before .before .before .before .before .before .before .before .loop .inv .1) (c .before .before .before .before .before .before .before .if1 .left) _ _ _ _ (done-reads _ _ _ _ _ _ _ _ _ (c .before .r .given .1) (c .before .before .before .before .before .statement .ensures)))
+block-add-count t c =
+    let at-statement = c .before .before .before .before .before in
+    let at-if1 = at-statement .before .before in
+    let at-loop = at-if1 .before .before in
+    let args = at-loop .before .before .before .before .before .before .before .before .before .before .args in
+    let words = wordsIn (args .reserved .now) (args .currencies .now) (args .counters .now) in
+    omega (arith, block-numbers (G.statement words (args .depth)) (statement-law words (args .depth)) (statement-size words (args .depth)) (args .s .now) _ _ _ _ _ _ _ (at-loop .loop .inv .1) (at-if1 .if1 .left) _ _ _ _ (done-reads _ _ _ _ _ _ _ _ _ (c .before .r .given .1) (at-statement .statement .ensures)))
 
--- src/statements.rt:158:5
 block-loop-less : (t : ℕ) → block-lts.Need-loop-less (
   take-reads.Asked,
   take-reads.Learnt,
@@ -295,9 +324,14 @@ block-loop-less : (t : ℕ) → block-lts.Need-loop-less (
   block-refused-reads.Asked,
   block-refused-reads.Learnt,
 ) (block-at t) block.Post block-Inv-loop block-μ-loop
-block-loop-less t c = block-less (G.statement (wordsIn (c .before .before .before .before .before .before .before .before .before .before .before .before .before .before .before .before .before .before .before .args .reserved .now) (c .before .before .before .before .before .before .before .before .before .before .before .before .before .before .before .before .before .before .before .args .currencies .now) (c .before .before .before .before .before .before .before .before .before .before .before .before .before .before .before .before .before .before .before .args .counters .now)) (c .before .before .before .before .before .before .before .before .before .before .before .before .before .before .before .before .before .before .before .args .depth)) (statement-law (wordsIn (c .before .before .before .before .before .before .before .before .before .before .before .before .before .before .before .before .before .before .before .args .reserved .now) (c .before .before .before .before .before .before .before .before .before .before .before .before .before .before .before .before .before .before .before .args .currencies .now) (c .before .before .before .before .before .before .before .before .before .before .before .before .before .before .before .before .before .before .before .args .counters .now)) (c .before .before .before .before .before .before .before .before .before .before .before .before .before .before .before .before .before .before .before .args .depth)) (statement-size (wordsIn (c .before .before .before .before .before .before .before .before .before .before .before .before .before .before .before .before .before .before .before .args .reserved .now) (c .before .before .before .before .before .before .before .before .before .before .before .before .before .before .before .before .before .before .before .args .currencies .now) (c .before .before .before .before .before .before .before .before .before .before .before .before .before .before .before .before .before .before .before .args .counters .now)) (c .before .before .before .before .before .before .before .before .before .before .before .before .before .before .before .before .before .before .before .args .depth)) (c .before .before .before .before .before .before .before .before .before .before .before .before .before .before .before .before .before .before .before .args .s .now) _ _ _ _ _ _ _ (c .before .before .before .before .before .before .before .before .before .loop .inv .1) (c .before .before .before .before .before .before .before .if1 .left) _ _ _ _ (done-reads _ _ _ _ _ _ _ _ _ (c .before .r .given .1) (c .before .before .before .before .before .statement .ensures))
+block-loop-less t c =
+    let at-statement = c .before .before .before .before .before in
+    let at-if1 = at-statement .before .before in
+    let at-loop = at-if1 .before .before in
+    let args = at-loop .before .before .before .before .before .before .before .before .before .before .args in
+    let words = wordsIn (args .reserved .now) (args .currencies .now) (args .counters .now) in
+    block-less (G.statement words (args .depth)) (statement-law words (args .depth)) (statement-size words (args .depth)) (args .s .now) _ _ _ _ _ _ _ (at-loop .loop .inv .1) (at-if1 .if1 .left) _ _ _ _ (done-reads _ _ _ _ _ _ _ _ _ (c .before .r .given .1) (at-statement .statement .ensures))
 
--- src/statements.rt:158:5
 block-loop-again : (t : ℕ) → block-lts.Need-loop-again (
   take-reads.Asked,
   take-reads.Learnt,
@@ -308,9 +342,14 @@ block-loop-again : (t : ℕ) → block-lts.Need-loop-again (
   block-refused-reads.Asked,
   block-refused-reads.Learnt,
 ) (block-at t) block.Post block-Inv-loop block-μ-loop
-block-loop-again t c = (c .before .before .before .before .before .statement .kept .1 .1 .1 .1 .1 .1 .0 ∙ c .before .before .before .before .before .before .before .before .before .loop .inv .0, block-next (G.statement (wordsIn (c .before .before .before .before .before .before .before .before .before .before .before .before .before .before .before .before .before .before .before .args .reserved .now) (c .before .before .before .before .before .before .before .before .before .before .before .before .before .before .before .before .before .before .before .args .currencies .now) (c .before .before .before .before .before .before .before .before .before .before .before .before .before .before .before .before .before .before .before .args .counters .now)) (c .before .before .before .before .before .before .before .before .before .before .before .before .before .before .before .before .before .before .before .args .depth)) (statement-law (wordsIn (c .before .before .before .before .before .before .before .before .before .before .before .before .before .before .before .before .before .before .before .args .reserved .now) (c .before .before .before .before .before .before .before .before .before .before .before .before .before .before .before .before .before .before .before .args .currencies .now) (c .before .before .before .before .before .before .before .before .before .before .before .before .before .before .before .before .before .before .before .args .counters .now)) (c .before .before .before .before .before .before .before .before .before .before .before .before .before .before .before .before .before .before .before .args .depth)) (statement-size (wordsIn (c .before .before .before .before .before .before .before .before .before .before .before .before .before .before .before .before .before .before .before .args .reserved .now) (c .before .before .before .before .before .before .before .before .before .before .before .before .before .before .before .before .before .before .before .args .currencies .now) (c .before .before .before .before .before .before .before .before .before .before .before .before .before .before .before .before .before .before .before .args .counters .now)) (c .before .before .before .before .before .before .before .before .before .before .before .before .before .before .before .before .before .before .before .args .depth)) (c .before .before .before .before .before .before .before .before .before .before .before .before .before .before .before .before .before .before .before .args .s .now) _ _ _ _ _ _ _ (c .before .before .before .before .before .before .before .before .before .loop .inv .1) (c .before .before .before .before .before .before .before .if1 .left) _ _ _ _ (done-reads _ _ _ _ _ _ _ _ _ (c .before .r .given .1) (c .before .before .before .before .before .statement .ensures)))
+block-loop-again t c =
+    let at-statement = c .before .before .before .before .before in
+    let at-if1 = at-statement .before .before in
+    let at-loop = at-if1 .before .before in
+    let args = at-loop .before .before .before .before .before .before .before .before .before .before .args in
+    let words = wordsIn (args .reserved .now) (args .currencies .now) (args .counters .now) in
+    (at-statement .statement .kept .1 .1 .1 .1 .1 .1 .0 ∙ at-loop .loop .inv .0, block-next (G.statement words (args .depth)) (statement-law words (args .depth)) (statement-size words (args .depth)) (args .s .now) _ _ _ _ _ _ _ (at-loop .loop .inv .1) (at-if1 .if1 .left) _ _ _ _ (done-reads _ _ _ _ _ _ _ _ _ (c .before .r .given .1) (at-statement .statement .ensures)))
 
--- src/statements.rt:73:9
 conditional-returns : (t : ℕ) → conditional-lts.Need-returns (
   expression-reads.Asked,
   expression-reads.Learnt,
@@ -325,9 +364,11 @@ conditional-returns : (t : ℕ) → conditional-lts.Need-returns (
   next-reads.Asked,
   next-reads.Learnt,
 ) (conditional-at t) conditional.Post
-conditional-returns t c = if-0 (wordsIn (c .before .before .before .before .before .before .args .reserved .now) (c .before .before .before .before .before .before .args .currencies .now) (c .before .before .before .before .before .before .args .counters .now)) (c .before .before .before .before .before .before .args .depth) (c .before .before .before .before .before .before .args .s .now) (c .before .before .before .before .before .before .args .c) (c .before .before .before .before .before .before .args .d) (c .before .before .before .before .before .before .pre .1 .1) (c .before .before .before .before .before .before .pre .1 .2) (c .if1 .taken)
+conditional-returns t c =
+    let start = c .before .before .before .before .before .before in
+    let args = start .args in
+    if-0 (wordsIn (args .reserved .now) (args .currencies .now) (args .counters .now)) (args .depth) (args .s .now) (args .c) (args .d) (start .pre .1 .1) (start .pre .1 .2) (c .if1 .taken)
 
--- src/statements.rt:75:62
 conditional-sub-expression : (t : ℕ) → conditional-lts.Need-sub-expression (
   expression-reads.Asked,
   expression-reads.Learnt,
@@ -344,7 +385,6 @@ conditional-sub-expression : (t : ℕ) → conditional-lts.Need-sub-expression (
 ) (conditional-at t) conditional.Post
 conditional-sub-expression t c = omega (arith, c .if1 .left)
 
--- src/statements.rt:75:9
 conditional-expression-requires : (t : ℕ) → conditional-lts.Need-expression-requires (
   expression-reads.Asked,
   expression-reads.Learnt,
@@ -359,9 +399,12 @@ conditional-expression-requires : (t : ℕ) → conditional-lts.Need-expression-
   next-reads.Asked,
   next-reads.Learnt,
 ) (conditional-at t) conditional.Post
-conditional-expression-requires t c κs = (if-ready (wordsIn (c .before .before .before .before .before .before .before .args .reserved .now) (c .before .before .before .before .before .before .before .args .currencies .now) (c .before .before .before .before .before .before .before .args .counters .now)) (c .before .before .before .before .before .before .before .args .depth) (c .before .before .before .before .before .before .before .args .s .now) (c .before .before .before .before .before .before .before .args .c) (c .before .before .before .before .before .before .before .args .d) (c .before .before .before .before .before .before .before .pre .1 .1) (c .before .before .before .before .before .before .before .pre .1 .2) _ (c .before .before .before .before .before .before .before .pre .1 .0 .1), c .before .before .before .before .before .before .before .pre .1 .3)
+conditional-expression-requires t c κs =
+    let start = c .before .before .before .before .before .before .before in
+    let args = start .args in
+    let pre = start .pre in
+    (if-ready (wordsIn (args .reserved .now) (args .currencies .now) (args .counters .now)) (args .depth) (args .s .now) (args .c) (args .d) (pre .1 .1) (pre .1 .2) _ (pre .1 .0 .1), pre .1 .3)
 
--- src/statements.rt:76:20
 conditional-enum-known-r : (t : ℕ) → conditional-lts.Need-enum-known-r (
   expression-reads.Asked,
   expression-reads.Learnt,
@@ -378,7 +421,6 @@ conditional-enum-known-r : (t : ℕ) → conditional-lts.Need-enum-known-r (
 ) (conditional-at t) conditional.Post
 conditional-enum-known-r t c = search needs
 
--- src/statements.rt:77:9
 conditional-enum-told : (t : ℕ) → conditional-lts.Need-enum-told (
   expression-reads.Asked,
   expression-reads.Learnt,
@@ -395,7 +437,6 @@ conditional-enum-told : (t : ℕ) → conditional-lts.Need-enum-told (
 ) (conditional-at t) conditional.Post
 conditional-enum-told t c = search needs
 
--- src/statements.rt:77:9
 conditional-same-length : (t : ℕ) → conditional-lts.Need-same-length (
   expression-reads.Asked,
   expression-reads.Learnt,
@@ -412,7 +453,6 @@ conditional-same-length : (t : ℕ) → conditional-lts.Need-same-length (
 ) (conditional-at t) conditional.Post
 conditional-same-length t c = c .before .before .before .before .expression .kept .1 .1 .1 .1 .1 .1 .0
 
--- src/statements.rt:77:9
 conditional-returns-2 : (t : ℕ) → conditional-lts.Need-returns-2 (
   expression-reads.Asked,
   expression-reads.Learnt,
@@ -427,9 +467,13 @@ conditional-returns-2 : (t : ℕ) → conditional-lts.Need-returns-2 (
   next-reads.Asked,
   next-reads.Learnt,
 ) (conditional-at t) conditional.Post
-conditional-returns-2 t c = refused-on _ _ _ _ _ _ _ _ _ _ _ _ (c .enum-told .given .1) (c .before .before .before .before .expression .ensures) (if-refused (wordsIn (c .before .before .before .before .before .before .before .before .before .before .before .before .args .reserved .now) (c .before .before .before .before .before .before .before .before .before .before .before .before .args .currencies .now) (c .before .before .before .before .before .before .before .before .before .before .before .before .args .counters .now)) (c .before .before .before .before .before .before .before .before .before .before .before .before .args .depth) (c .before .before .before .before .before .before .before .before .before .before .before .before .args .s .now) (c .before .before .before .before .before .before .before .before .before .before .before .before .args .c) (c .before .before .before .before .before .before .before .before .before .before .before .before .args .d) (c .before .before .before .before .before .before .before .before .before .before .before .before .pre .1 .1) (c .before .before .before .before .before .before .before .before .before .before .before .before .pre .1 .2) (c .before .before .before .before .before .before .if1 .left) _ _)
+conditional-returns-2 t c =
+    let at-expression = c .before .before .before .before in
+    let at-if1 = at-expression .before .before in
+    let start = at-if1 .before .before .before .before .before .before in
+    let args = start .args in
+    refused-on _ _ _ _ _ _ _ _ _ _ _ _ (c .enum-told .given .1) (at-expression .expression .ensures) (if-refused (wordsIn (args .reserved .now) (args .currencies .now) (args .counters .now)) (args .depth) (args .s .now) (args .c) (args .d) (start .pre .1 .1) (start .pre .1 .2) (at-if1 .if1 .left) _ _)
 
--- src/statements.rt:79:57
 conditional-sub-block : (t : ℕ) → conditional-lts.Need-sub-block (
   expression-reads.Asked,
   expression-reads.Learnt,
@@ -446,7 +490,6 @@ conditional-sub-block : (t : ℕ) → conditional-lts.Need-sub-block (
 ) (conditional-at t) conditional.Post
 conditional-sub-block t c = omega (arith, c .before .before .before .before .before .before .before .if1 .left)
 
--- src/statements.rt:79:9
 conditional-block-requires : (t : ℕ) → conditional-lts.Need-block-requires (
   expression-reads.Asked,
   expression-reads.Learnt,
@@ -461,9 +504,15 @@ conditional-block-requires : (t : ℕ) → conditional-lts.Need-block-requires (
   next-reads.Asked,
   next-reads.Learnt,
 ) (conditional-at t) conditional.Post
-conditional-block-requires t c κs = (omega (arith, c .before .before .before .before .before .before .before .before .before .before .before .before .before .before .pre .0, c .before .before .before .before .before .before .before .before .if1 .left), (if-body-ready (wordsIn (c .before .before .before .before .before .before .before .before .before .before .before .before .before .before .args .reserved .now) (c .before .before .before .before .before .before .before .before .before .before .before .before .before .before .args .currencies .now) (c .before .before .before .before .before .before .before .before .before .before .before .before .before .before .args .counters .now)) (c .before .before .before .before .before .before .before .before .before .before .before .before .before .before .args .depth) (c .before .before .before .before .before .before .before .before .before .before .before .before .before .before .args .s .now) (c .before .before .before .before .before .before .before .before .before .before .before .before .before .before .args .c) (c .before .before .before .before .before .before .before .before .before .before .before .before .before .before .args .d) (c .before .before .before .before .before .before .before .before .before .before .before .before .before .before .pre .1 .1) (c .before .before .before .before .before .before .before .before .before .before .before .before .before .before .pre .1 .2) (c .before .before .before .before .before .before .before .before .if1 .left) _ (c .before .before .before .before .before .before .before .before .before .before .before .before .before .before .pre .1 .0 .1) _ _ _ _ _ (done-reads _ _ _ _ _ _ _ _ _ (c .before .before .r .given .1) (c .before .before .before .before .before .before .expression .ensures)), c .before .before .before .before .before .before .before .before .before .before .before .before .before .before .pre .1 .3))
+conditional-block-requires t c κs =
+    let at-r = c .before .before in
+    let at-expression = at-r .before .before .before .before in
+    let at-if1 = at-expression .before .before in
+    let start = at-if1 .before .before .before .before .before .before in
+    let pre = start .pre in
+    let args = start .args in
+    (omega (arith, pre .0, at-if1 .if1 .left), (if-body-ready (wordsIn (args .reserved .now) (args .currencies .now) (args .counters .now)) (args .depth) (args .s .now) (args .c) (args .d) (pre .1 .1) (pre .1 .2) (at-if1 .if1 .left) _ (pre .1 .0 .1) _ _ _ _ _ (done-reads _ _ _ _ _ _ _ _ _ (at-r .r .given .1) (at-expression .expression .ensures)), pre .1 .3))
 
--- src/statements.rt:80:21
 conditional-enum-known-q : (t : ℕ) → conditional-lts.Need-enum-known-q (
   expression-reads.Asked,
   expression-reads.Learnt,
@@ -480,7 +529,6 @@ conditional-enum-known-q : (t : ℕ) → conditional-lts.Need-enum-known-q (
 ) (conditional-at t) conditional.Post
 conditional-enum-known-q t c = search needs
 
--- src/statements.rt:81:9
 conditional-enum-told-2 : (t : ℕ) → conditional-lts.Need-enum-told-2 (
   expression-reads.Asked,
   expression-reads.Learnt,
@@ -497,7 +545,6 @@ conditional-enum-told-2 : (t : ℕ) → conditional-lts.Need-enum-told-2 (
 ) (conditional-at t) conditional.Post
 conditional-enum-told-2 t c = search needs
 
--- src/statements.rt:81:9
 conditional-block-refusal-requires : (t : ℕ) → conditional-lts.Need-block-refusal-requires (
   expression-reads.Asked,
   expression-reads.Learnt,
@@ -514,7 +561,6 @@ conditional-block-refusal-requires : (t : ℕ) → conditional-lts.Need-block-re
 ) (conditional-at t) conditional.Post
 conditional-block-refusal-requires t c κs = search needs
 
--- src/statements.rt:81:9
 conditional-same-length-2 : (t : ℕ) → conditional-lts.Need-same-length-2 (
   expression-reads.Asked,
   expression-reads.Learnt,
@@ -529,9 +575,10 @@ conditional-same-length-2 : (t : ℕ) → conditional-lts.Need-same-length-2 (
   next-reads.Asked,
   next-reads.Learnt,
 ) (conditional-at t) conditional.Post
-conditional-same-length-2 t c = c .before .before .before .before .before .block .kept .1 .1 .1 .1 .1 .1 .0 ∙ c .before .before .before .before .before .before .before .before .before .before .before .before .expression .kept .1 .1 .1 .1 .1 .1 .0
+conditional-same-length-2 t c =
+    let at-block = c .before .before .before .before .before in
+    at-block .block .kept .1 .1 .1 .1 .1 .1 .0 ∙ at-block .before .before .before .before .before .before .before .expression .kept .1 .1 .1 .1 .1 .1 .0
 
--- src/statements.rt:81:9
 conditional-returns-3 : (t : ℕ) → conditional-lts.Need-returns-3 (
   expression-reads.Asked,
   expression-reads.Learnt,
@@ -546,9 +593,16 @@ conditional-returns-3 : (t : ℕ) → conditional-lts.Need-returns-3 (
   next-reads.Asked,
   next-reads.Learnt,
 ) (conditional-at t) conditional.Post
-conditional-returns-3 t c = block-refusal-on _ _ _ _ _ _ (c .block-refusal .result) _ _ _ _ _ _ (c .before .enum-told2 .given .1) (c .before .before .before .before .before .block .ensures) (c .block-refusal .ensures) (if-body-refused (wordsIn (c .before .before .before .before .before .before .before .before .before .before .before .before .before .before .before .before .before .before .before .before .args .reserved .now) (c .before .before .before .before .before .before .before .before .before .before .before .before .before .before .before .before .before .before .before .before .args .currencies .now) (c .before .before .before .before .before .before .before .before .before .before .before .before .before .before .before .before .before .before .before .before .args .counters .now)) (c .before .before .before .before .before .before .before .before .before .before .before .before .before .before .before .before .before .before .before .before .args .depth) (c .before .before .before .before .before .before .before .before .before .before .before .before .before .before .before .before .before .before .before .before .args .s .now) (c .before .before .before .before .before .before .before .before .before .before .before .before .before .before .before .before .before .before .before .before .args .c) (c .before .before .before .before .before .before .before .before .before .before .before .before .before .before .before .before .before .before .before .before .args .d) (c .before .before .before .before .before .before .before .before .before .before .before .before .before .before .before .before .before .before .before .before .pre .1 .1) (c .before .before .before .before .before .before .before .before .before .before .before .before .before .before .before .before .before .before .before .before .pre .1 .2) (c .before .before .before .before .before .before .before .before .before .before .before .before .before .before .if1 .left) _ (c .before .before .before .before .before .before .before .before .before .before .before .before .before .before .before .before .before .before .before .before .pre .1 .0 .1) _ _ _ _ _ (done-reads _ _ _ _ _ _ _ _ _ (c .before .before .before .before .before .before .before .before .r .given .1) (c .before .before .before .before .before .before .before .before .before .before .before .before .expression .ensures)) _ _)
+conditional-returns-3 t c =
+    let at-block = c .before .before .before .before .before in
+    let at-r = at-block .before .before .before in
+    let at-expression = at-r .before .before .before .before in
+    let at-if1 = at-expression .before .before in
+    let start = at-if1 .before .before .before .before .before .before in
+    let args = start .args in
+    let pre = start .pre in
+    block-refusal-on _ _ _ _ _ _ (c .block-refusal .result) _ _ _ _ _ _ (c .before .enum-told2 .given .1) (at-block .block .ensures) (c .block-refusal .ensures) (if-body-refused (wordsIn (args .reserved .now) (args .currencies .now) (args .counters .now)) (args .depth) (args .s .now) (args .c) (args .d) (pre .1 .1) (pre .1 .2) (at-if1 .if1 .left) _ (pre .1 .0 .1) _ _ _ _ _ (done-reads _ _ _ _ _ _ _ _ _ (at-r .r .given .1) (at-expression .expression .ensures)) _ _)
 
--- src/statements.rt:84:28
 conditional-sub-branch : (t : ℕ) → conditional-lts.Need-sub-branch (
   expression-reads.Asked,
   expression-reads.Learnt,
@@ -563,9 +617,17 @@ conditional-sub-branch : (t : ℕ) → conditional-lts.Need-sub-branch (
   next-reads.Asked,
   next-reads.Learnt,
 ) (conditional-at t) conditional.Post
-conditional-sub-branch t c = omega (arith, if-numbers (wordsIn (c .before .before .before .before .before .before .before .before .before .before .before .before .before .before .before .before .before .before .before .before .before .before .before .args .reserved .now) (c .before .before .before .before .before .before .before .before .before .before .before .before .before .before .before .before .before .before .before .before .before .before .before .args .currencies .now) (c .before .before .before .before .before .before .before .before .before .before .before .before .before .before .before .before .before .before .before .before .before .before .before .args .counters .now)) (c .before .before .before .before .before .before .before .before .before .before .before .before .before .before .before .before .before .before .before .before .before .before .before .args .depth) (c .before .before .before .before .before .before .before .before .before .before .before .before .before .before .before .before .before .before .before .before .before .before .before .args .s .now) (c .before .before .before .before .before .before .before .before .before .before .before .before .before .before .before .before .before .before .before .before .before .before .before .args .c) (c .before .before .before .before .before .before .before .before .before .before .before .before .before .before .before .before .before .before .before .before .before .before .before .args .d) (c .before .before .before .before .before .before .before .before .before .before .before .before .before .before .before .before .before .before .before .before .before .before .before .pre .1 .1) (c .before .before .before .before .before .before .before .before .before .before .before .before .before .before .before .before .before .before .before .before .before .before .before .pre .1 .2) (c .before .before .before .before .before .before .before .before .before .before .before .before .before .before .before .before .before .if1 .left) _ (c .before .before .before .before .before .before .before .before .before .before .before .before .before .before .before .before .before .before .before .before .before .before .before .pre .1 .0 .1) _ _ _ _ _ (done-reads _ _ _ _ _ _ _ _ _ (c .before .before .before .before .before .before .before .before .before .before .before .r .given .1) (c .before .before .before .before .before .before .before .before .before .before .before .before .before .before .before .expression .ensures)) _ _ _ _ (done-block _ _ _ _ _ _ _ _ _ (c .before .before .before .before .q .given .1) (c .before .before .before .before .before .before .before .before .block .ensures)))
+conditional-sub-branch t c =
+    let at-q = c .before .before .before .before in
+    let at-block = at-q .before .before .before .before in
+    let at-r = at-block .before .before .before in
+    let at-expression = at-r .before .before .before .before in
+    let at-if1 = at-expression .before .before in
+    let start = at-if1 .before .before .before .before .before .before in
+    let args = start .args in
+    let pre = start .pre in
+    omega (arith, if-numbers (wordsIn (args .reserved .now) (args .currencies .now) (args .counters .now)) (args .depth) (args .s .now) (args .c) (args .d) (pre .1 .1) (pre .1 .2) (at-if1 .if1 .left) _ (pre .1 .0 .1) _ _ _ _ _ (done-reads _ _ _ _ _ _ _ _ _ (at-r .r .given .1) (at-expression .expression .ensures)) _ _ _ _ (done-block _ _ _ _ _ _ _ _ _ (at-q .q .given .1) (at-block .block .ensures)))
 
--- src/statements.rt:84:28
 conditional-add-branch : (t : ℕ) → conditional-lts.Need-add-branch (
   expression-reads.Asked,
   expression-reads.Learnt,
@@ -580,9 +642,17 @@ conditional-add-branch : (t : ℕ) → conditional-lts.Need-add-branch (
   next-reads.Asked,
   next-reads.Learnt,
 ) (conditional-at t) conditional.Post
-conditional-add-branch t c = omega (arith, if-numbers (wordsIn (c .before .before .before .before .before .before .before .before .before .before .before .before .before .before .before .before .before .before .before .before .before .before .before .args .reserved .now) (c .before .before .before .before .before .before .before .before .before .before .before .before .before .before .before .before .before .before .before .before .before .before .before .args .currencies .now) (c .before .before .before .before .before .before .before .before .before .before .before .before .before .before .before .before .before .before .before .before .before .before .before .args .counters .now)) (c .before .before .before .before .before .before .before .before .before .before .before .before .before .before .before .before .before .before .before .before .before .before .before .args .depth) (c .before .before .before .before .before .before .before .before .before .before .before .before .before .before .before .before .before .before .before .before .before .before .before .args .s .now) (c .before .before .before .before .before .before .before .before .before .before .before .before .before .before .before .before .before .before .before .before .before .before .before .args .c) (c .before .before .before .before .before .before .before .before .before .before .before .before .before .before .before .before .before .before .before .before .before .before .before .args .d) (c .before .before .before .before .before .before .before .before .before .before .before .before .before .before .before .before .before .before .before .before .before .before .before .pre .1 .1) (c .before .before .before .before .before .before .before .before .before .before .before .before .before .before .before .before .before .before .before .before .before .before .before .pre .1 .2) (c .before .before .before .before .before .before .before .before .before .before .before .before .before .before .before .before .before .if1 .left) _ (c .before .before .before .before .before .before .before .before .before .before .before .before .before .before .before .before .before .before .before .before .before .before .before .pre .1 .0 .1) _ _ _ _ _ (done-reads _ _ _ _ _ _ _ _ _ (c .before .before .before .before .before .before .before .before .before .before .before .r .given .1) (c .before .before .before .before .before .before .before .before .before .before .before .before .before .before .before .expression .ensures)) _ _ _ _ (done-block _ _ _ _ _ _ _ _ _ (c .before .before .before .before .q .given .1) (c .before .before .before .before .before .before .before .before .block .ensures)))
+conditional-add-branch t c =
+    let at-q = c .before .before .before .before in
+    let at-block = at-q .before .before .before .before in
+    let at-r = at-block .before .before .before in
+    let at-expression = at-r .before .before .before .before in
+    let at-if1 = at-expression .before .before in
+    let start = at-if1 .before .before .before .before .before .before in
+    let args = start .args in
+    let pre = start .pre in
+    omega (arith, if-numbers (wordsIn (args .reserved .now) (args .currencies .now) (args .counters .now)) (args .depth) (args .s .now) (args .c) (args .d) (pre .1 .1) (pre .1 .2) (at-if1 .if1 .left) _ (pre .1 .0 .1) _ _ _ _ _ (done-reads _ _ _ _ _ _ _ _ _ (at-r .r .given .1) (at-expression .expression .ensures)) _ _ _ _ (done-block _ _ _ _ _ _ _ _ _ (at-q .q .given .1) (at-block .block .ensures)))
 
--- src/statements.rt:84:39
 conditional-add-branch-2 : (t : ℕ) → conditional-lts.Need-add-branch-2 (
   expression-reads.Asked,
   expression-reads.Learnt,
@@ -597,9 +667,17 @@ conditional-add-branch-2 : (t : ℕ) → conditional-lts.Need-add-branch-2 (
   next-reads.Asked,
   next-reads.Learnt,
 ) (conditional-at t) conditional.Post
-conditional-add-branch-2 t c = omega (arith, if-numbers (wordsIn (c .before .before .before .before .before .before .before .before .before .before .before .before .before .before .before .before .before .before .before .before .before .before .before .args .reserved .now) (c .before .before .before .before .before .before .before .before .before .before .before .before .before .before .before .before .before .before .before .before .before .before .before .args .currencies .now) (c .before .before .before .before .before .before .before .before .before .before .before .before .before .before .before .before .before .before .before .before .before .before .before .args .counters .now)) (c .before .before .before .before .before .before .before .before .before .before .before .before .before .before .before .before .before .before .before .before .before .before .before .args .depth) (c .before .before .before .before .before .before .before .before .before .before .before .before .before .before .before .before .before .before .before .before .before .before .before .args .s .now) (c .before .before .before .before .before .before .before .before .before .before .before .before .before .before .before .before .before .before .before .before .before .before .before .args .c) (c .before .before .before .before .before .before .before .before .before .before .before .before .before .before .before .before .before .before .before .before .before .before .before .args .d) (c .before .before .before .before .before .before .before .before .before .before .before .before .before .before .before .before .before .before .before .before .before .before .before .pre .1 .1) (c .before .before .before .before .before .before .before .before .before .before .before .before .before .before .before .before .before .before .before .before .before .before .before .pre .1 .2) (c .before .before .before .before .before .before .before .before .before .before .before .before .before .before .before .before .before .if1 .left) _ (c .before .before .before .before .before .before .before .before .before .before .before .before .before .before .before .before .before .before .before .before .before .before .before .pre .1 .0 .1) _ _ _ _ _ (done-reads _ _ _ _ _ _ _ _ _ (c .before .before .before .before .before .before .before .before .before .before .before .r .given .1) (c .before .before .before .before .before .before .before .before .before .before .before .before .before .before .before .expression .ensures)) _ _ _ _ (done-block _ _ _ _ _ _ _ _ _ (c .before .before .before .before .q .given .1) (c .before .before .before .before .before .before .before .before .block .ensures)))
+conditional-add-branch-2 t c =
+    let at-q = c .before .before .before .before in
+    let at-block = at-q .before .before .before .before in
+    let at-r = at-block .before .before .before in
+    let at-expression = at-r .before .before .before .before in
+    let at-if1 = at-expression .before .before in
+    let start = at-if1 .before .before .before .before .before .before in
+    let args = start .args in
+    let pre = start .pre in
+    omega (arith, if-numbers (wordsIn (args .reserved .now) (args .currencies .now) (args .counters .now)) (args .depth) (args .s .now) (args .c) (args .d) (pre .1 .1) (pre .1 .2) (at-if1 .if1 .left) _ (pre .1 .0 .1) _ _ _ _ _ (done-reads _ _ _ _ _ _ _ _ _ (at-r .r .given .1) (at-expression .expression .ensures)) _ _ _ _ (done-block _ _ _ _ _ _ _ _ _ (at-q .q .given .1) (at-block .block .ensures)))
 
--- src/statements.rt:84:21
 conditional-branch-requires : (t : ℕ) → conditional-lts.Need-branch-requires (
   expression-reads.Asked,
   expression-reads.Learnt,
@@ -616,7 +694,6 @@ conditional-branch-requires : (t : ℕ) → conditional-lts.Need-branch-requires
 ) (conditional-at t) conditional.Post
 conditional-branch-requires t c κs = search needs
 
--- src/statements.rt:84:9
 conditional-put-requires : (t : ℕ) → conditional-lts.Need-put-requires (
   expression-reads.Asked,
   expression-reads.Learnt,
@@ -633,7 +710,6 @@ conditional-put-requires : (t : ℕ) → conditional-lts.Need-put-requires (
 ) (conditional-at t) conditional.Post
 conditional-put-requires t c κs = search needs
 
--- src/statements.rt:85:30
 conditional-add-t31 : (t : ℕ) → conditional-lts.Need-add-t31 (
   expression-reads.Asked,
   expression-reads.Learnt,
@@ -648,9 +724,17 @@ conditional-add-t31 : (t : ℕ) → conditional-lts.Need-add-t31 (
   next-reads.Asked,
   next-reads.Learnt,
 ) (conditional-at t) conditional.Post
-conditional-add-t31 t c = omega (arith, if-numbers (wordsIn (c .before .before .before .before .before .before .before .before .before .before .before .before .before .before .before .before .before .before .before .before .before .before .before .before .before .before .before .args .reserved .now) (c .before .before .before .before .before .before .before .before .before .before .before .before .before .before .before .before .before .before .before .before .before .before .before .before .before .before .before .args .currencies .now) (c .before .before .before .before .before .before .before .before .before .before .before .before .before .before .before .before .before .before .before .before .before .before .before .before .before .before .before .args .counters .now)) (c .before .before .before .before .before .before .before .before .before .before .before .before .before .before .before .before .before .before .before .before .before .before .before .before .before .before .before .args .depth) (c .before .before .before .before .before .before .before .before .before .before .before .before .before .before .before .before .before .before .before .before .before .before .before .before .before .before .before .args .s .now) (c .before .before .before .before .before .before .before .before .before .before .before .before .before .before .before .before .before .before .before .before .before .before .before .before .before .before .before .args .c) (c .before .before .before .before .before .before .before .before .before .before .before .before .before .before .before .before .before .before .before .before .before .before .before .before .before .before .before .args .d) (c .before .before .before .before .before .before .before .before .before .before .before .before .before .before .before .before .before .before .before .before .before .before .before .before .before .before .before .pre .1 .1) (c .before .before .before .before .before .before .before .before .before .before .before .before .before .before .before .before .before .before .before .before .before .before .before .before .before .before .before .pre .1 .2) (c .before .before .before .before .before .before .before .before .before .before .before .before .before .before .before .before .before .before .before .before .before .if1 .left) _ (c .before .before .before .before .before .before .before .before .before .before .before .before .before .before .before .before .before .before .before .before .before .before .before .before .before .before .before .pre .1 .0 .1) _ _ _ _ _ (done-reads _ _ _ _ _ _ _ _ _ (c .before .before .before .before .before .before .before .before .before .before .before .before .before .before .before .r .given .1) (c .before .before .before .before .before .before .before .before .before .before .before .before .before .before .before .before .before .before .before .expression .ensures)) _ _ _ _ (done-block _ _ _ _ _ _ _ _ _ (c .before .before .before .before .before .before .before .before .q .given .1) (c .before .before .before .before .before .before .before .before .before .before .before .before .block .ensures)))
+conditional-add-t31 t c =
+    let at-q = c .before .before .before .before .before .before .before .before in
+    let at-block = at-q .before .before .before .before in
+    let at-r = at-block .before .before .before in
+    let at-expression = at-r .before .before .before .before in
+    let at-if1 = at-expression .before .before in
+    let start = at-if1 .before .before .before .before .before .before in
+    let args = start .args in
+    let pre = start .pre in
+    omega (arith, if-numbers (wordsIn (args .reserved .now) (args .currencies .now) (args .counters .now)) (args .depth) (args .s .now) (args .c) (args .d) (pre .1 .1) (pre .1 .2) (at-if1 .if1 .left) _ (pre .1 .0 .1) _ _ _ _ _ (done-reads _ _ _ _ _ _ _ _ _ (at-r .r .given .1) (at-expression .expression .ensures)) _ _ _ _ (done-block _ _ _ _ _ _ _ _ _ (at-q .q .given .1) (at-block .block .ensures)))
 
--- src/statements.rt:85:9
 conditional-same-length-3 : (t : ℕ) → conditional-lts.Need-same-length-3 (
   expression-reads.Asked,
   expression-reads.Learnt,
@@ -665,9 +749,11 @@ conditional-same-length-3 : (t : ℕ) → conditional-lts.Need-same-length-3 (
   next-reads.Asked,
   next-reads.Learnt,
 ) (conditional-at t) conditional.Post
-conditional-same-length-3 t c = c .before .before .put .kept .0 ∙ (c .before .before .before .before .before .before .before .before .before .before .before .before .block .kept .1 .1 .1 .1 .1 .1 .0 ∙ c .before .before .before .before .before .before .before .before .before .before .before .before .before .before .before .before .before .before .before .expression .kept .1 .1 .1 .1 .1 .1 .0)
+conditional-same-length-3 t c =
+    let at-put = c .before .before in
+    let at-block = at-put .before .before .before .before .before .before .before .before .before .before in
+    at-put .put .kept .0 ∙ (at-block .block .kept .1 .1 .1 .1 .1 .1 .0 ∙ at-block .before .before .before .before .before .before .before .expression .kept .1 .1 .1 .1 .1 .1 .0)
 
--- src/statements.rt:85:9
 conditional-returns-4 : (t : ℕ) → conditional-lts.Need-returns-4 (
   expression-reads.Asked,
   expression-reads.Learnt,
@@ -682,9 +768,19 @@ conditional-returns-4 : (t : ℕ) → conditional-lts.Need-returns-4 (
   next-reads.Asked,
   next-reads.Learnt,
 ) (conditional-at t) conditional.Post
-conditional-returns-4 t c = if-done (wordsIn (c .before .before .before .before .before .before .before .before .before .before .before .before .before .before .before .before .before .before .before .before .before .before .before .before .before .before .before .args .reserved .now) (c .before .before .before .before .before .before .before .before .before .before .before .before .before .before .before .before .before .before .before .before .before .before .before .before .before .before .before .args .currencies .now) (c .before .before .before .before .before .before .before .before .before .before .before .before .before .before .before .before .before .before .before .before .before .before .before .before .before .before .before .args .counters .now)) (c .before .before .before .before .before .before .before .before .before .before .before .before .before .before .before .before .before .before .before .before .before .before .before .before .before .before .before .args .depth) (c .before .before .before .before .before .before .before .before .before .before .before .before .before .before .before .before .before .before .before .before .before .before .before .before .before .before .before .args .s .now) (c .before .before .before .before .before .before .before .before .before .before .before .before .before .before .before .before .before .before .before .before .before .before .before .before .before .before .before .args .c) (c .before .before .before .before .before .before .before .before .before .before .before .before .before .before .before .before .before .before .before .before .before .before .before .before .before .before .before .args .d) (c .before .before .before .before .before .before .before .before .before .before .before .before .before .before .before .before .before .before .before .before .before .before .before .before .before .before .before .pre .1 .1) (c .before .before .before .before .before .before .before .before .before .before .before .before .before .before .before .before .before .before .before .before .before .before .before .before .before .before .before .pre .1 .2) (c .before .before .before .before .before .before .before .before .before .before .before .before .before .before .before .before .before .before .before .before .before .if1 .left) _ (c .before .before .before .before .before .before .before .before .before .before .before .before .before .before .before .before .before .before .before .before .before .before .before .before .before .before .before .pre .1 .0 .1) _ _ _ _ _ (done-reads _ _ _ _ _ _ _ _ _ (c .before .before .before .before .before .before .before .before .before .before .before .before .before .before .before .r .given .1) (c .before .before .before .before .before .before .before .before .before .before .before .before .before .before .before .before .before .before .before .expression .ensures)) _ _ _ _ (done-block _ _ _ _ _ _ _ _ _ (c .before .before .before .before .before .before .before .before .q .given .1) (c .before .before .before .before .before .before .before .before .before .before .before .before .block .ensures)) (c .before .before .before .before .before .if2 .taken) _ (put-fields _ _ _ _ _ _ _ _ _ (c .before .before .before .branch .ensures) (c .before .before .put .ensures))
+conditional-returns-4 t c =
+    let at-put = c .before .before in
+    let at-if2 = at-put .before .before .before in
+    let at-q = at-if2 .before .before .before in
+    let at-block = at-q .before .before .before .before in
+    let at-r = at-block .before .before .before in
+    let at-expression = at-r .before .before .before .before in
+    let at-if1 = at-expression .before .before in
+    let start = at-if1 .before .before .before .before .before .before in
+    let args = start .args in
+    let pre = start .pre in
+    if-done (wordsIn (args .reserved .now) (args .currencies .now) (args .counters .now)) (args .depth) (args .s .now) (args .c) (args .d) (pre .1 .1) (pre .1 .2) (at-if1 .if1 .left) _ (pre .1 .0 .1) _ _ _ _ _ (done-reads _ _ _ _ _ _ _ _ _ (at-r .r .given .1) (at-expression .expression .ensures)) _ _ _ _ (done-block _ _ _ _ _ _ _ _ _ (at-q .q .given .1) (at-block .block .ensures)) (at-if2 .if2 .taken) _ (put-fields _ _ _ _ _ _ _ _ _ (at-put .before .branch .ensures) (at-put .put .ensures))
 
--- src/statements.rt:92:9
 conditional-next-requires : (t : ℕ) → conditional-lts.Need-next-requires (
   expression-reads.Asked,
   expression-reads.Learnt,
@@ -699,9 +795,10 @@ conditional-next-requires : (t : ℕ) → conditional-lts.Need-next-requires (
   next-reads.Asked,
   next-reads.Learnt,
 ) (conditional-at t) conditional.Post
-conditional-next-requires t c κs = (done-block _ _ _ _ _ _ _ _ _ (c .before .before .before .q .given .1) (c .before .before .before .before .before .before .before .block .ensures)) .holds
+conditional-next-requires t c κs =
+    let at-q = c .before .before .before in
+    (done-block _ _ _ _ _ _ _ _ _ (at-q .q .given .1) (at-q .before .before .before .before .block .ensures)) .holds
 
--- src/statements.rt:93:9
 conditional-sub-block-2 : (t : ℕ) → conditional-lts.Need-sub-block-2 (
   expression-reads.Asked,
   expression-reads.Learnt,
@@ -718,7 +815,6 @@ conditional-sub-block-2 : (t : ℕ) → conditional-lts.Need-sub-block-2 (
 ) (conditional-at t) conditional.Post
 conditional-sub-block-2 t c = omega (arith, c .before .before .before .before .before .before .before .before .before .before .before .before .before .before .before .before .before .if1 .left)
 
--- src/statements.rt:87:9
 conditional-block-requires-2 : (t : ℕ) → conditional-lts.Need-block-requires-2 (
   expression-reads.Asked,
   expression-reads.Learnt,
@@ -733,9 +829,18 @@ conditional-block-requires-2 : (t : ℕ) → conditional-lts.Need-block-requires
   next-reads.Asked,
   next-reads.Learnt,
 ) (conditional-at t) conditional.Post
-conditional-block-requires-2 t c κs = (omega (arith, c .before .before .before .before .before .before .before .before .before .before .before .before .before .before .before .before .before .before .before .before .before .before .before .before .pre .0, c .before .before .before .before .before .before .before .before .before .before .before .before .before .before .before .before .before .before .if1 .left), (else-ready (wordsIn (c .before .before .before .before .before .before .before .before .before .before .before .before .before .before .before .before .before .before .before .before .before .before .before .before .args .reserved .now) (c .before .before .before .before .before .before .before .before .before .before .before .before .before .before .before .before .before .before .before .before .before .before .before .before .args .currencies .now) (c .before .before .before .before .before .before .before .before .before .before .before .before .before .before .before .before .before .before .before .before .before .before .before .before .args .counters .now)) (c .before .before .before .before .before .before .before .before .before .before .before .before .before .before .before .before .before .before .before .before .before .before .before .before .args .depth) (c .before .before .before .before .before .before .before .before .before .before .before .before .before .before .before .before .before .before .before .before .before .before .before .before .args .s .now) (c .before .before .before .before .before .before .before .before .before .before .before .before .before .before .before .before .before .before .before .before .before .before .before .before .args .c) (c .before .before .before .before .before .before .before .before .before .before .before .before .before .before .before .before .before .before .before .before .before .before .before .before .args .d) (c .before .before .before .before .before .before .before .before .before .before .before .before .before .before .before .before .before .before .before .before .before .before .before .before .pre .1 .1) (c .before .before .before .before .before .before .before .before .before .before .before .before .before .before .before .before .before .before .before .before .before .before .before .before .pre .1 .2) (c .before .before .before .before .before .before .before .before .before .before .before .before .before .before .before .before .before .before .if1 .left) _ (c .before .before .before .before .before .before .before .before .before .before .before .before .before .before .before .before .before .before .before .before .before .before .before .before .pre .1 .0 .1) _ _ _ _ _ (done-reads _ _ _ _ _ _ _ _ _ (c .before .before .before .before .before .before .before .before .before .before .before .before .r .given .1) (c .before .before .before .before .before .before .before .before .before .before .before .before .before .before .before .before .expression .ensures)) _ _ _ _ (done-block _ _ _ _ _ _ _ _ _ (c .before .before .before .before .before .q .given .1) (c .before .before .before .before .before .before .before .before .before .block .ensures)) (c .before .before .if2 .left) (c .before .next .result) (c .before .next .ensures), c .before .before .before .before .before .before .before .before .before .before .before .before .before .before .before .before .before .before .before .before .before .before .before .before .pre .1 .3))
+conditional-block-requires-2 t c κs =
+    let at-if2 = c .before .before in
+    let at-q = at-if2 .before .before .before in
+    let at-block = at-q .before .before .before .before in
+    let at-r = at-block .before .before .before in
+    let at-expression = at-r .before .before .before .before in
+    let at-if1 = at-expression .before .before in
+    let start = at-if1 .before .before .before .before .before .before in
+    let pre = start .pre in
+    let args = start .args in
+    (omega (arith, pre .0, at-if1 .if1 .left), (else-ready (wordsIn (args .reserved .now) (args .currencies .now) (args .counters .now)) (args .depth) (args .s .now) (args .c) (args .d) (pre .1 .1) (pre .1 .2) (at-if1 .if1 .left) _ (pre .1 .0 .1) _ _ _ _ _ (done-reads _ _ _ _ _ _ _ _ _ (at-r .r .given .1) (at-expression .expression .ensures)) _ _ _ _ (done-block _ _ _ _ _ _ _ _ _ (at-q .q .given .1) (at-block .block .ensures)) (at-if2 .if2 .left) (c .before .next .result) (c .before .next .ensures), pre .1 .3))
 
--- src/statements.rt:97:21
 conditional-enum-known-p : (t : ℕ) → conditional-lts.Need-enum-known-p (
   expression-reads.Asked,
   expression-reads.Learnt,
@@ -752,7 +857,6 @@ conditional-enum-known-p : (t : ℕ) → conditional-lts.Need-enum-known-p (
 ) (conditional-at t) conditional.Post
 conditional-enum-known-p t c = search needs
 
--- src/statements.rt:98:9
 conditional-enum-told-3 : (t : ℕ) → conditional-lts.Need-enum-told-3 (
   expression-reads.Asked,
   expression-reads.Learnt,
@@ -769,7 +873,6 @@ conditional-enum-told-3 : (t : ℕ) → conditional-lts.Need-enum-told-3 (
 ) (conditional-at t) conditional.Post
 conditional-enum-told-3 t c = search needs
 
--- src/statements.rt:98:9
 conditional-block-refusal-requires-2 : (t : ℕ) → conditional-lts.Need-block-refusal-requires-2 (
   expression-reads.Asked,
   expression-reads.Learnt,
@@ -786,7 +889,6 @@ conditional-block-refusal-requires-2 : (t : ℕ) → conditional-lts.Need-block-
 ) (conditional-at t) conditional.Post
 conditional-block-refusal-requires-2 t c κs = search needs
 
--- src/statements.rt:98:9
 conditional-same-length-4 : (t : ℕ) → conditional-lts.Need-same-length-4 (
   expression-reads.Asked,
   expression-reads.Learnt,
@@ -801,9 +903,11 @@ conditional-same-length-4 : (t : ℕ) → conditional-lts.Need-same-length-4 (
   next-reads.Asked,
   next-reads.Learnt,
 ) (conditional-at t) conditional.Post
-conditional-same-length-4 t c = c .before .before .before .before .before .block2 .kept .1 .1 .1 .1 .1 .1 .0 ∙ (c .before .before .before .before .before .before .before .before .before .before .before .before .before .before .before .block .kept .1 .1 .1 .1 .1 .1 .0 ∙ c .before .before .before .before .before .before .before .before .before .before .before .before .before .before .before .before .before .before .before .before .before .before .expression .kept .1 .1 .1 .1 .1 .1 .0)
+conditional-same-length-4 t c =
+    let at-block2 = c .before .before .before .before .before in
+    let at-block = at-block2 .before .before .before .before .before .before .before .before .before .before in
+    at-block2 .block2 .kept .1 .1 .1 .1 .1 .1 .0 ∙ (at-block .block .kept .1 .1 .1 .1 .1 .1 .0 ∙ at-block .before .before .before .before .before .before .before .expression .kept .1 .1 .1 .1 .1 .1 .0)
 
--- src/statements.rt:98:9
 conditional-returns-5 : (t : ℕ) → conditional-lts.Need-returns-5 (
   expression-reads.Asked,
   expression-reads.Learnt,
@@ -818,9 +922,19 @@ conditional-returns-5 : (t : ℕ) → conditional-lts.Need-returns-5 (
   next-reads.Asked,
   next-reads.Learnt,
 ) (conditional-at t) conditional.Post
-conditional-returns-5 t c = block-refusal-on _ _ _ _ _ _ (c .block-refusal2 .result) _ _ _ _ _ _ (c .before .enum-told3 .given .1) (c .before .before .before .before .before .block2 .ensures) (c .block-refusal2 .ensures) (else-refused (wordsIn (c .before .before .before .before .before .before .before .before .before .before .before .before .before .before .before .before .before .before .before .before .before .before .before .before .before .before .before .before .before .before .args .reserved .now) (c .before .before .before .before .before .before .before .before .before .before .before .before .before .before .before .before .before .before .before .before .before .before .before .before .before .before .before .before .before .before .args .currencies .now) (c .before .before .before .before .before .before .before .before .before .before .before .before .before .before .before .before .before .before .before .before .before .before .before .before .before .before .before .before .before .before .args .counters .now)) (c .before .before .before .before .before .before .before .before .before .before .before .before .before .before .before .before .before .before .before .before .before .before .before .before .before .before .before .before .before .before .args .depth) (c .before .before .before .before .before .before .before .before .before .before .before .before .before .before .before .before .before .before .before .before .before .before .before .before .before .before .before .before .before .before .args .s .now) (c .before .before .before .before .before .before .before .before .before .before .before .before .before .before .before .before .before .before .before .before .before .before .before .before .before .before .before .before .before .before .args .c) (c .before .before .before .before .before .before .before .before .before .before .before .before .before .before .before .before .before .before .before .before .before .before .before .before .before .before .before .before .before .before .args .d) (c .before .before .before .before .before .before .before .before .before .before .before .before .before .before .before .before .before .before .before .before .before .before .before .before .before .before .before .before .before .before .pre .1 .1) (c .before .before .before .before .before .before .before .before .before .before .before .before .before .before .before .before .before .before .before .before .before .before .before .before .before .before .before .before .before .before .pre .1 .2) (c .before .before .before .before .before .before .before .before .before .before .before .before .before .before .before .before .before .before .before .before .before .before .before .before .if1 .left) _ (c .before .before .before .before .before .before .before .before .before .before .before .before .before .before .before .before .before .before .before .before .before .before .before .before .before .before .before .before .before .before .pre .1 .0 .1) _ _ _ _ _ (done-reads _ _ _ _ _ _ _ _ _ (c .before .before .before .before .before .before .before .before .before .before .before .before .before .before .before .before .before .before .r .given .1) (c .before .before .before .before .before .before .before .before .before .before .before .before .before .before .before .before .before .before .before .before .before .before .expression .ensures)) _ _ _ _ (done-block _ _ _ _ _ _ _ _ _ (c .before .before .before .before .before .before .before .before .before .before .before .q .given .1) (c .before .before .before .before .before .before .before .before .before .before .before .before .before .before .before .block .ensures)) (c .before .before .before .before .before .before .before .before .if2 .left) (c .before .before .before .before .before .before .before .next .result) (c .before .before .before .before .before .before .before .next .ensures) _ _)
+conditional-returns-5 t c =
+    let at-block2 = c .before .before .before .before .before in
+    let at-next = at-block2 .before .before in
+    let at-q = at-next .before .before .before .before in
+    let at-block = at-q .before .before .before .before in
+    let at-r = at-block .before .before .before in
+    let at-expression = at-r .before .before .before .before in
+    let at-if1 = at-expression .before .before in
+    let start = at-if1 .before .before .before .before .before .before in
+    let args = start .args in
+    let pre = start .pre in
+    block-refusal-on _ _ _ _ _ _ (c .block-refusal2 .result) _ _ _ _ _ _ (c .before .enum-told3 .given .1) (at-block2 .block2 .ensures) (c .block-refusal2 .ensures) (else-refused (wordsIn (args .reserved .now) (args .currencies .now) (args .counters .now)) (args .depth) (args .s .now) (args .c) (args .d) (pre .1 .1) (pre .1 .2) (at-if1 .if1 .left) _ (pre .1 .0 .1) _ _ _ _ _ (done-reads _ _ _ _ _ _ _ _ _ (at-r .r .given .1) (at-expression .expression .ensures)) _ _ _ _ (done-block _ _ _ _ _ _ _ _ _ (at-q .q .given .1) (at-block .block .ensures)) (at-next .before .if2 .left) (at-next .next .result) (at-next .next .ensures) _ _)
 
--- src/statements.rt:100:24
 conditional-sub-branch-2 : (t : ℕ) → conditional-lts.Need-sub-branch-2 (
   expression-reads.Asked,
   expression-reads.Learnt,
@@ -835,9 +949,21 @@ conditional-sub-branch-2 : (t : ℕ) → conditional-lts.Need-sub-branch-2 (
   next-reads.Asked,
   next-reads.Learnt,
 ) (conditional-at t) conditional.Post
-conditional-sub-branch-2 t c = omega (arith, else-numbers (wordsIn (c .before .before .before .before .before .before .before .before .before .before .before .before .before .before .before .before .before .before .before .before .before .before .before .before .before .before .before .before .before .before .before .args .reserved .now) (c .before .before .before .before .before .before .before .before .before .before .before .before .before .before .before .before .before .before .before .before .before .before .before .before .before .before .before .before .before .before .before .args .currencies .now) (c .before .before .before .before .before .before .before .before .before .before .before .before .before .before .before .before .before .before .before .before .before .before .before .before .before .before .before .before .before .before .before .args .counters .now)) (c .before .before .before .before .before .before .before .before .before .before .before .before .before .before .before .before .before .before .before .before .before .before .before .before .before .before .before .before .before .before .before .args .depth) (c .before .before .before .before .before .before .before .before .before .before .before .before .before .before .before .before .before .before .before .before .before .before .before .before .before .before .before .before .before .before .before .args .s .now) (c .before .before .before .before .before .before .before .before .before .before .before .before .before .before .before .before .before .before .before .before .before .before .before .before .before .before .before .before .before .before .before .args .c) (c .before .before .before .before .before .before .before .before .before .before .before .before .before .before .before .before .before .before .before .before .before .before .before .before .before .before .before .before .before .before .before .args .d) (c .before .before .before .before .before .before .before .before .before .before .before .before .before .before .before .before .before .before .before .before .before .before .before .before .before .before .before .before .before .before .before .pre .1 .1) (c .before .before .before .before .before .before .before .before .before .before .before .before .before .before .before .before .before .before .before .before .before .before .before .before .before .before .before .before .before .before .before .pre .1 .2) (c .before .before .before .before .before .before .before .before .before .before .before .before .before .before .before .before .before .before .before .before .before .before .before .before .before .if1 .left) _ (c .before .before .before .before .before .before .before .before .before .before .before .before .before .before .before .before .before .before .before .before .before .before .before .before .before .before .before .before .before .before .before .pre .1 .0 .1) _ _ _ _ _ (done-reads _ _ _ _ _ _ _ _ _ (c .before .before .before .before .before .before .before .before .before .before .before .before .before .before .before .before .before .before .before .r .given .1) (c .before .before .before .before .before .before .before .before .before .before .before .before .before .before .before .before .before .before .before .before .before .before .before .expression .ensures)) _ _ _ _ (done-block _ _ _ _ _ _ _ _ _ (c .before .before .before .before .before .before .before .before .before .before .before .before .q .given .1) (c .before .before .before .before .before .before .before .before .before .before .before .before .before .before .before .before .block .ensures)) (c .before .before .before .before .before .before .before .before .before .if2 .left) (c .before .before .before .before .before .before .before .before .next .result) (c .before .before .before .before .before .before .before .before .next .ensures) _ _ _ _ (done-block _ _ _ _ _ _ _ _ _ (c .before .before .p .given .1) (c .before .before .before .before .before .before .block2 .ensures)), if-numbers (wordsIn (c .before .before .before .before .before .before .before .before .before .before .before .before .before .before .before .before .before .before .before .before .before .before .before .before .before .before .before .before .before .before .before .args .reserved .now) (c .before .before .before .before .before .before .before .before .before .before .before .before .before .before .before .before .before .before .before .before .before .before .before .before .before .before .before .before .before .before .before .args .currencies .now) (c .before .before .before .before .before .before .before .before .before .before .before .before .before .before .before .before .before .before .before .before .before .before .before .before .before .before .before .before .before .before .before .args .counters .now)) (c .before .before .before .before .before .before .before .before .before .before .before .before .before .before .before .before .before .before .before .before .before .before .before .before .before .before .before .before .before .before .before .args .depth) (c .before .before .before .before .before .before .before .before .before .before .before .before .before .before .before .before .before .before .before .before .before .before .before .before .before .before .before .before .before .before .before .args .s .now) (c .before .before .before .before .before .before .before .before .before .before .before .before .before .before .before .before .before .before .before .before .before .before .before .before .before .before .before .before .before .before .before .args .c) (c .before .before .before .before .before .before .before .before .before .before .before .before .before .before .before .before .before .before .before .before .before .before .before .before .before .before .before .before .before .before .before .args .d) (c .before .before .before .before .before .before .before .before .before .before .before .before .before .before .before .before .before .before .before .before .before .before .before .before .before .before .before .before .before .before .before .pre .1 .1) (c .before .before .before .before .before .before .before .before .before .before .before .before .before .before .before .before .before .before .before .before .before .before .before .before .before .before .before .before .before .before .before .pre .1 .2) (c .before .before .before .before .before .before .before .before .before .before .before .before .before .before .before .before .before .before .before .before .before .before .before .before .before .if1 .left) _ (c .before .before .before .before .before .before .before .before .before .before .before .before .before .before .before .before .before .before .before .before .before .before .before .before .before .before .before .before .before .before .before .pre .1 .0 .1) _ _ _ _ _ (done-reads _ _ _ _ _ _ _ _ _ (c .before .before .before .before .before .before .before .before .before .before .before .before .before .before .before .before .before .before .before .r .given .1) (c .before .before .before .before .before .before .before .before .before .before .before .before .before .before .before .before .before .before .before .before .before .before .before .expression .ensures)) _ _ _ _ (done-block _ _ _ _ _ _ _ _ _ (c .before .before .before .before .before .before .before .before .before .before .before .before .q .given .1) (c .before .before .before .before .before .before .before .before .before .before .before .before .before .before .before .before .block .ensures)))
+conditional-sub-branch-2 t c =
+    let at-p = c .before .before in
+    let at-block2 = at-p .before .before .before .before in
+    let at-next = at-block2 .before .before in
+    let at-q = at-next .before .before .before .before in
+    let at-block = at-q .before .before .before .before in
+    let at-r = at-block .before .before .before in
+    let at-expression = at-r .before .before .before .before in
+    let at-if1 = at-expression .before .before in
+    let start = at-if1 .before .before .before .before .before .before in
+    let args = start .args in
+    let pre = start .pre in
+    let words = wordsIn (args .reserved .now) (args .currencies .now) (args .counters .now) in
+    omega (arith, else-numbers words (args .depth) (args .s .now) (args .c) (args .d) (pre .1 .1) (pre .1 .2) (at-if1 .if1 .left) _ (pre .1 .0 .1) _ _ _ _ _ (done-reads _ _ _ _ _ _ _ _ _ (at-r .r .given .1) (at-expression .expression .ensures)) _ _ _ _ (done-block _ _ _ _ _ _ _ _ _ (at-q .q .given .1) (at-block .block .ensures)) (at-next .before .if2 .left) (at-next .next .result) (at-next .next .ensures) _ _ _ _ (done-block _ _ _ _ _ _ _ _ _ (at-p .p .given .1) (at-block2 .block2 .ensures)), if-numbers words (args .depth) (args .s .now) (args .c) (args .d) (pre .1 .1) (pre .1 .2) (at-if1 .if1 .left) _ (pre .1 .0 .1) _ _ _ _ _ (done-reads _ _ _ _ _ _ _ _ _ (at-r .r .given .1) (at-expression .expression .ensures)) _ _ _ _ (done-block _ _ _ _ _ _ _ _ _ (at-q .q .given .1) (at-block .block .ensures)))
 
--- src/statements.rt:100:24
 conditional-add-branch-3 : (t : ℕ) → conditional-lts.Need-add-branch-3 (
   expression-reads.Asked,
   expression-reads.Learnt,
@@ -852,9 +978,21 @@ conditional-add-branch-3 : (t : ℕ) → conditional-lts.Need-add-branch-3 (
   next-reads.Asked,
   next-reads.Learnt,
 ) (conditional-at t) conditional.Post
-conditional-add-branch-3 t c = omega (arith, else-numbers (wordsIn (c .before .before .before .before .before .before .before .before .before .before .before .before .before .before .before .before .before .before .before .before .before .before .before .before .before .before .before .before .before .before .before .args .reserved .now) (c .before .before .before .before .before .before .before .before .before .before .before .before .before .before .before .before .before .before .before .before .before .before .before .before .before .before .before .before .before .before .before .args .currencies .now) (c .before .before .before .before .before .before .before .before .before .before .before .before .before .before .before .before .before .before .before .before .before .before .before .before .before .before .before .before .before .before .before .args .counters .now)) (c .before .before .before .before .before .before .before .before .before .before .before .before .before .before .before .before .before .before .before .before .before .before .before .before .before .before .before .before .before .before .before .args .depth) (c .before .before .before .before .before .before .before .before .before .before .before .before .before .before .before .before .before .before .before .before .before .before .before .before .before .before .before .before .before .before .before .args .s .now) (c .before .before .before .before .before .before .before .before .before .before .before .before .before .before .before .before .before .before .before .before .before .before .before .before .before .before .before .before .before .before .before .args .c) (c .before .before .before .before .before .before .before .before .before .before .before .before .before .before .before .before .before .before .before .before .before .before .before .before .before .before .before .before .before .before .before .args .d) (c .before .before .before .before .before .before .before .before .before .before .before .before .before .before .before .before .before .before .before .before .before .before .before .before .before .before .before .before .before .before .before .pre .1 .1) (c .before .before .before .before .before .before .before .before .before .before .before .before .before .before .before .before .before .before .before .before .before .before .before .before .before .before .before .before .before .before .before .pre .1 .2) (c .before .before .before .before .before .before .before .before .before .before .before .before .before .before .before .before .before .before .before .before .before .before .before .before .before .if1 .left) _ (c .before .before .before .before .before .before .before .before .before .before .before .before .before .before .before .before .before .before .before .before .before .before .before .before .before .before .before .before .before .before .before .pre .1 .0 .1) _ _ _ _ _ (done-reads _ _ _ _ _ _ _ _ _ (c .before .before .before .before .before .before .before .before .before .before .before .before .before .before .before .before .before .before .before .r .given .1) (c .before .before .before .before .before .before .before .before .before .before .before .before .before .before .before .before .before .before .before .before .before .before .before .expression .ensures)) _ _ _ _ (done-block _ _ _ _ _ _ _ _ _ (c .before .before .before .before .before .before .before .before .before .before .before .before .q .given .1) (c .before .before .before .before .before .before .before .before .before .before .before .before .before .before .before .before .block .ensures)) (c .before .before .before .before .before .before .before .before .before .if2 .left) (c .before .before .before .before .before .before .before .before .next .result) (c .before .before .before .before .before .before .before .before .next .ensures) _ _ _ _ (done-block _ _ _ _ _ _ _ _ _ (c .before .before .p .given .1) (c .before .before .before .before .before .before .block2 .ensures)), if-numbers (wordsIn (c .before .before .before .before .before .before .before .before .before .before .before .before .before .before .before .before .before .before .before .before .before .before .before .before .before .before .before .before .before .before .before .args .reserved .now) (c .before .before .before .before .before .before .before .before .before .before .before .before .before .before .before .before .before .before .before .before .before .before .before .before .before .before .before .before .before .before .before .args .currencies .now) (c .before .before .before .before .before .before .before .before .before .before .before .before .before .before .before .before .before .before .before .before .before .before .before .before .before .before .before .before .before .before .before .args .counters .now)) (c .before .before .before .before .before .before .before .before .before .before .before .before .before .before .before .before .before .before .before .before .before .before .before .before .before .before .before .before .before .before .before .args .depth) (c .before .before .before .before .before .before .before .before .before .before .before .before .before .before .before .before .before .before .before .before .before .before .before .before .before .before .before .before .before .before .before .args .s .now) (c .before .before .before .before .before .before .before .before .before .before .before .before .before .before .before .before .before .before .before .before .before .before .before .before .before .before .before .before .before .before .before .args .c) (c .before .before .before .before .before .before .before .before .before .before .before .before .before .before .before .before .before .before .before .before .before .before .before .before .before .before .before .before .before .before .before .args .d) (c .before .before .before .before .before .before .before .before .before .before .before .before .before .before .before .before .before .before .before .before .before .before .before .before .before .before .before .before .before .before .before .pre .1 .1) (c .before .before .before .before .before .before .before .before .before .before .before .before .before .before .before .before .before .before .before .before .before .before .before .before .before .before .before .before .before .before .before .pre .1 .2) (c .before .before .before .before .before .before .before .before .before .before .before .before .before .before .before .before .before .before .before .before .before .before .before .before .before .if1 .left) _ (c .before .before .before .before .before .before .before .before .before .before .before .before .before .before .before .before .before .before .before .before .before .before .before .before .before .before .before .before .before .before .before .pre .1 .0 .1) _ _ _ _ _ (done-reads _ _ _ _ _ _ _ _ _ (c .before .before .before .before .before .before .before .before .before .before .before .before .before .before .before .before .before .before .before .r .given .1) (c .before .before .before .before .before .before .before .before .before .before .before .before .before .before .before .before .before .before .before .before .before .before .before .expression .ensures)) _ _ _ _ (done-block _ _ _ _ _ _ _ _ _ (c .before .before .before .before .before .before .before .before .before .before .before .before .q .given .1) (c .before .before .before .before .before .before .before .before .before .before .before .before .before .before .before .before .block .ensures)))
+conditional-add-branch-3 t c =
+    let at-p = c .before .before in
+    let at-block2 = at-p .before .before .before .before in
+    let at-next = at-block2 .before .before in
+    let at-q = at-next .before .before .before .before in
+    let at-block = at-q .before .before .before .before in
+    let at-r = at-block .before .before .before in
+    let at-expression = at-r .before .before .before .before in
+    let at-if1 = at-expression .before .before in
+    let start = at-if1 .before .before .before .before .before .before in
+    let args = start .args in
+    let pre = start .pre in
+    let words = wordsIn (args .reserved .now) (args .currencies .now) (args .counters .now) in
+    omega (arith, else-numbers words (args .depth) (args .s .now) (args .c) (args .d) (pre .1 .1) (pre .1 .2) (at-if1 .if1 .left) _ (pre .1 .0 .1) _ _ _ _ _ (done-reads _ _ _ _ _ _ _ _ _ (at-r .r .given .1) (at-expression .expression .ensures)) _ _ _ _ (done-block _ _ _ _ _ _ _ _ _ (at-q .q .given .1) (at-block .block .ensures)) (at-next .before .if2 .left) (at-next .next .result) (at-next .next .ensures) _ _ _ _ (done-block _ _ _ _ _ _ _ _ _ (at-p .p .given .1) (at-block2 .block2 .ensures)), if-numbers words (args .depth) (args .s .now) (args .c) (args .d) (pre .1 .1) (pre .1 .2) (at-if1 .if1 .left) _ (pre .1 .0 .1) _ _ _ _ _ (done-reads _ _ _ _ _ _ _ _ _ (at-r .r .given .1) (at-expression .expression .ensures)) _ _ _ _ (done-block _ _ _ _ _ _ _ _ _ (at-q .q .given .1) (at-block .block .ensures)))
 
--- src/statements.rt:100:35
 conditional-add-branch-4 : (t : ℕ) → conditional-lts.Need-add-branch-4 (
   expression-reads.Asked,
   expression-reads.Learnt,
@@ -869,9 +1007,21 @@ conditional-add-branch-4 : (t : ℕ) → conditional-lts.Need-add-branch-4 (
   next-reads.Asked,
   next-reads.Learnt,
 ) (conditional-at t) conditional.Post
-conditional-add-branch-4 t c = omega (arith, else-numbers (wordsIn (c .before .before .before .before .before .before .before .before .before .before .before .before .before .before .before .before .before .before .before .before .before .before .before .before .before .before .before .before .before .before .before .args .reserved .now) (c .before .before .before .before .before .before .before .before .before .before .before .before .before .before .before .before .before .before .before .before .before .before .before .before .before .before .before .before .before .before .before .args .currencies .now) (c .before .before .before .before .before .before .before .before .before .before .before .before .before .before .before .before .before .before .before .before .before .before .before .before .before .before .before .before .before .before .before .args .counters .now)) (c .before .before .before .before .before .before .before .before .before .before .before .before .before .before .before .before .before .before .before .before .before .before .before .before .before .before .before .before .before .before .before .args .depth) (c .before .before .before .before .before .before .before .before .before .before .before .before .before .before .before .before .before .before .before .before .before .before .before .before .before .before .before .before .before .before .before .args .s .now) (c .before .before .before .before .before .before .before .before .before .before .before .before .before .before .before .before .before .before .before .before .before .before .before .before .before .before .before .before .before .before .before .args .c) (c .before .before .before .before .before .before .before .before .before .before .before .before .before .before .before .before .before .before .before .before .before .before .before .before .before .before .before .before .before .before .before .args .d) (c .before .before .before .before .before .before .before .before .before .before .before .before .before .before .before .before .before .before .before .before .before .before .before .before .before .before .before .before .before .before .before .pre .1 .1) (c .before .before .before .before .before .before .before .before .before .before .before .before .before .before .before .before .before .before .before .before .before .before .before .before .before .before .before .before .before .before .before .pre .1 .2) (c .before .before .before .before .before .before .before .before .before .before .before .before .before .before .before .before .before .before .before .before .before .before .before .before .before .if1 .left) _ (c .before .before .before .before .before .before .before .before .before .before .before .before .before .before .before .before .before .before .before .before .before .before .before .before .before .before .before .before .before .before .before .pre .1 .0 .1) _ _ _ _ _ (done-reads _ _ _ _ _ _ _ _ _ (c .before .before .before .before .before .before .before .before .before .before .before .before .before .before .before .before .before .before .before .r .given .1) (c .before .before .before .before .before .before .before .before .before .before .before .before .before .before .before .before .before .before .before .before .before .before .before .expression .ensures)) _ _ _ _ (done-block _ _ _ _ _ _ _ _ _ (c .before .before .before .before .before .before .before .before .before .before .before .before .q .given .1) (c .before .before .before .before .before .before .before .before .before .before .before .before .before .before .before .before .block .ensures)) (c .before .before .before .before .before .before .before .before .before .if2 .left) (c .before .before .before .before .before .before .before .before .next .result) (c .before .before .before .before .before .before .before .before .next .ensures) _ _ _ _ (done-block _ _ _ _ _ _ _ _ _ (c .before .before .p .given .1) (c .before .before .before .before .before .before .block2 .ensures)), if-numbers (wordsIn (c .before .before .before .before .before .before .before .before .before .before .before .before .before .before .before .before .before .before .before .before .before .before .before .before .before .before .before .before .before .before .before .args .reserved .now) (c .before .before .before .before .before .before .before .before .before .before .before .before .before .before .before .before .before .before .before .before .before .before .before .before .before .before .before .before .before .before .before .args .currencies .now) (c .before .before .before .before .before .before .before .before .before .before .before .before .before .before .before .before .before .before .before .before .before .before .before .before .before .before .before .before .before .before .before .args .counters .now)) (c .before .before .before .before .before .before .before .before .before .before .before .before .before .before .before .before .before .before .before .before .before .before .before .before .before .before .before .before .before .before .before .args .depth) (c .before .before .before .before .before .before .before .before .before .before .before .before .before .before .before .before .before .before .before .before .before .before .before .before .before .before .before .before .before .before .before .args .s .now) (c .before .before .before .before .before .before .before .before .before .before .before .before .before .before .before .before .before .before .before .before .before .before .before .before .before .before .before .before .before .before .before .args .c) (c .before .before .before .before .before .before .before .before .before .before .before .before .before .before .before .before .before .before .before .before .before .before .before .before .before .before .before .before .before .before .before .args .d) (c .before .before .before .before .before .before .before .before .before .before .before .before .before .before .before .before .before .before .before .before .before .before .before .before .before .before .before .before .before .before .before .pre .1 .1) (c .before .before .before .before .before .before .before .before .before .before .before .before .before .before .before .before .before .before .before .before .before .before .before .before .before .before .before .before .before .before .before .pre .1 .2) (c .before .before .before .before .before .before .before .before .before .before .before .before .before .before .before .before .before .before .before .before .before .before .before .before .before .if1 .left) _ (c .before .before .before .before .before .before .before .before .before .before .before .before .before .before .before .before .before .before .before .before .before .before .before .before .before .before .before .before .before .before .before .pre .1 .0 .1) _ _ _ _ _ (done-reads _ _ _ _ _ _ _ _ _ (c .before .before .before .before .before .before .before .before .before .before .before .before .before .before .before .before .before .before .before .r .given .1) (c .before .before .before .before .before .before .before .before .before .before .before .before .before .before .before .before .before .before .before .before .before .before .before .expression .ensures)) _ _ _ _ (done-block _ _ _ _ _ _ _ _ _ (c .before .before .before .before .before .before .before .before .before .before .before .before .q .given .1) (c .before .before .before .before .before .before .before .before .before .before .before .before .before .before .before .before .block .ensures)))
+conditional-add-branch-4 t c =
+    let at-p = c .before .before in
+    let at-block2 = at-p .before .before .before .before in
+    let at-next = at-block2 .before .before in
+    let at-q = at-next .before .before .before .before in
+    let at-block = at-q .before .before .before .before in
+    let at-r = at-block .before .before .before in
+    let at-expression = at-r .before .before .before .before in
+    let at-if1 = at-expression .before .before in
+    let start = at-if1 .before .before .before .before .before .before in
+    let args = start .args in
+    let pre = start .pre in
+    let words = wordsIn (args .reserved .now) (args .currencies .now) (args .counters .now) in
+    omega (arith, else-numbers words (args .depth) (args .s .now) (args .c) (args .d) (pre .1 .1) (pre .1 .2) (at-if1 .if1 .left) _ (pre .1 .0 .1) _ _ _ _ _ (done-reads _ _ _ _ _ _ _ _ _ (at-r .r .given .1) (at-expression .expression .ensures)) _ _ _ _ (done-block _ _ _ _ _ _ _ _ _ (at-q .q .given .1) (at-block .block .ensures)) (at-next .before .if2 .left) (at-next .next .result) (at-next .next .ensures) _ _ _ _ (done-block _ _ _ _ _ _ _ _ _ (at-p .p .given .1) (at-block2 .block2 .ensures)), if-numbers words (args .depth) (args .s .now) (args .c) (args .d) (pre .1 .1) (pre .1 .2) (at-if1 .if1 .left) _ (pre .1 .0 .1) _ _ _ _ _ (done-reads _ _ _ _ _ _ _ _ _ (at-r .r .given .1) (at-expression .expression .ensures)) _ _ _ _ (done-block _ _ _ _ _ _ _ _ _ (at-q .q .given .1) (at-block .block .ensures)))
 
--- src/statements.rt:100:35
 conditional-add-branch-5 : (t : ℕ) → conditional-lts.Need-add-branch-5 (
   expression-reads.Asked,
   expression-reads.Learnt,
@@ -886,9 +1036,21 @@ conditional-add-branch-5 : (t : ℕ) → conditional-lts.Need-add-branch-5 (
   next-reads.Asked,
   next-reads.Learnt,
 ) (conditional-at t) conditional.Post
-conditional-add-branch-5 t c = omega (arith, else-numbers (wordsIn (c .before .before .before .before .before .before .before .before .before .before .before .before .before .before .before .before .before .before .before .before .before .before .before .before .before .before .before .before .before .before .before .args .reserved .now) (c .before .before .before .before .before .before .before .before .before .before .before .before .before .before .before .before .before .before .before .before .before .before .before .before .before .before .before .before .before .before .before .args .currencies .now) (c .before .before .before .before .before .before .before .before .before .before .before .before .before .before .before .before .before .before .before .before .before .before .before .before .before .before .before .before .before .before .before .args .counters .now)) (c .before .before .before .before .before .before .before .before .before .before .before .before .before .before .before .before .before .before .before .before .before .before .before .before .before .before .before .before .before .before .before .args .depth) (c .before .before .before .before .before .before .before .before .before .before .before .before .before .before .before .before .before .before .before .before .before .before .before .before .before .before .before .before .before .before .before .args .s .now) (c .before .before .before .before .before .before .before .before .before .before .before .before .before .before .before .before .before .before .before .before .before .before .before .before .before .before .before .before .before .before .before .args .c) (c .before .before .before .before .before .before .before .before .before .before .before .before .before .before .before .before .before .before .before .before .before .before .before .before .before .before .before .before .before .before .before .args .d) (c .before .before .before .before .before .before .before .before .before .before .before .before .before .before .before .before .before .before .before .before .before .before .before .before .before .before .before .before .before .before .before .pre .1 .1) (c .before .before .before .before .before .before .before .before .before .before .before .before .before .before .before .before .before .before .before .before .before .before .before .before .before .before .before .before .before .before .before .pre .1 .2) (c .before .before .before .before .before .before .before .before .before .before .before .before .before .before .before .before .before .before .before .before .before .before .before .before .before .if1 .left) _ (c .before .before .before .before .before .before .before .before .before .before .before .before .before .before .before .before .before .before .before .before .before .before .before .before .before .before .before .before .before .before .before .pre .1 .0 .1) _ _ _ _ _ (done-reads _ _ _ _ _ _ _ _ _ (c .before .before .before .before .before .before .before .before .before .before .before .before .before .before .before .before .before .before .before .r .given .1) (c .before .before .before .before .before .before .before .before .before .before .before .before .before .before .before .before .before .before .before .before .before .before .before .expression .ensures)) _ _ _ _ (done-block _ _ _ _ _ _ _ _ _ (c .before .before .before .before .before .before .before .before .before .before .before .before .q .given .1) (c .before .before .before .before .before .before .before .before .before .before .before .before .before .before .before .before .block .ensures)) (c .before .before .before .before .before .before .before .before .before .if2 .left) (c .before .before .before .before .before .before .before .before .next .result) (c .before .before .before .before .before .before .before .before .next .ensures) _ _ _ _ (done-block _ _ _ _ _ _ _ _ _ (c .before .before .p .given .1) (c .before .before .before .before .before .before .block2 .ensures)), if-numbers (wordsIn (c .before .before .before .before .before .before .before .before .before .before .before .before .before .before .before .before .before .before .before .before .before .before .before .before .before .before .before .before .before .before .before .args .reserved .now) (c .before .before .before .before .before .before .before .before .before .before .before .before .before .before .before .before .before .before .before .before .before .before .before .before .before .before .before .before .before .before .before .args .currencies .now) (c .before .before .before .before .before .before .before .before .before .before .before .before .before .before .before .before .before .before .before .before .before .before .before .before .before .before .before .before .before .before .before .args .counters .now)) (c .before .before .before .before .before .before .before .before .before .before .before .before .before .before .before .before .before .before .before .before .before .before .before .before .before .before .before .before .before .before .before .args .depth) (c .before .before .before .before .before .before .before .before .before .before .before .before .before .before .before .before .before .before .before .before .before .before .before .before .before .before .before .before .before .before .before .args .s .now) (c .before .before .before .before .before .before .before .before .before .before .before .before .before .before .before .before .before .before .before .before .before .before .before .before .before .before .before .before .before .before .before .args .c) (c .before .before .before .before .before .before .before .before .before .before .before .before .before .before .before .before .before .before .before .before .before .before .before .before .before .before .before .before .before .before .before .args .d) (c .before .before .before .before .before .before .before .before .before .before .before .before .before .before .before .before .before .before .before .before .before .before .before .before .before .before .before .before .before .before .before .pre .1 .1) (c .before .before .before .before .before .before .before .before .before .before .before .before .before .before .before .before .before .before .before .before .before .before .before .before .before .before .before .before .before .before .before .pre .1 .2) (c .before .before .before .before .before .before .before .before .before .before .before .before .before .before .before .before .before .before .before .before .before .before .before .before .before .if1 .left) _ (c .before .before .before .before .before .before .before .before .before .before .before .before .before .before .before .before .before .before .before .before .before .before .before .before .before .before .before .before .before .before .before .pre .1 .0 .1) _ _ _ _ _ (done-reads _ _ _ _ _ _ _ _ _ (c .before .before .before .before .before .before .before .before .before .before .before .before .before .before .before .before .before .before .before .r .given .1) (c .before .before .before .before .before .before .before .before .before .before .before .before .before .before .before .before .before .before .before .before .before .before .before .expression .ensures)) _ _ _ _ (done-block _ _ _ _ _ _ _ _ _ (c .before .before .before .before .before .before .before .before .before .before .before .before .q .given .1) (c .before .before .before .before .before .before .before .before .before .before .before .before .before .before .before .before .block .ensures)))
+conditional-add-branch-5 t c =
+    let at-p = c .before .before in
+    let at-block2 = at-p .before .before .before .before in
+    let at-next = at-block2 .before .before in
+    let at-q = at-next .before .before .before .before in
+    let at-block = at-q .before .before .before .before in
+    let at-r = at-block .before .before .before in
+    let at-expression = at-r .before .before .before .before in
+    let at-if1 = at-expression .before .before in
+    let start = at-if1 .before .before .before .before .before .before in
+    let args = start .args in
+    let pre = start .pre in
+    let words = wordsIn (args .reserved .now) (args .currencies .now) (args .counters .now) in
+    omega (arith, else-numbers words (args .depth) (args .s .now) (args .c) (args .d) (pre .1 .1) (pre .1 .2) (at-if1 .if1 .left) _ (pre .1 .0 .1) _ _ _ _ _ (done-reads _ _ _ _ _ _ _ _ _ (at-r .r .given .1) (at-expression .expression .ensures)) _ _ _ _ (done-block _ _ _ _ _ _ _ _ _ (at-q .q .given .1) (at-block .block .ensures)) (at-next .before .if2 .left) (at-next .next .result) (at-next .next .ensures) _ _ _ _ (done-block _ _ _ _ _ _ _ _ _ (at-p .p .given .1) (at-block2 .block2 .ensures)), if-numbers words (args .depth) (args .s .now) (args .c) (args .d) (pre .1 .1) (pre .1 .2) (at-if1 .if1 .left) _ (pre .1 .0 .1) _ _ _ _ _ (done-reads _ _ _ _ _ _ _ _ _ (at-r .r .given .1) (at-expression .expression .ensures)) _ _ _ _ (done-block _ _ _ _ _ _ _ _ _ (at-q .q .given .1) (at-block .block .ensures)))
 
--- src/statements.rt:100:53
 conditional-add-branch-6 : (t : ℕ) → conditional-lts.Need-add-branch-6 (
   expression-reads.Asked,
   expression-reads.Learnt,
@@ -903,9 +1065,21 @@ conditional-add-branch-6 : (t : ℕ) → conditional-lts.Need-add-branch-6 (
   next-reads.Asked,
   next-reads.Learnt,
 ) (conditional-at t) conditional.Post
-conditional-add-branch-6 t c = omega (arith, else-numbers (wordsIn (c .before .before .before .before .before .before .before .before .before .before .before .before .before .before .before .before .before .before .before .before .before .before .before .before .before .before .before .before .before .before .before .args .reserved .now) (c .before .before .before .before .before .before .before .before .before .before .before .before .before .before .before .before .before .before .before .before .before .before .before .before .before .before .before .before .before .before .before .args .currencies .now) (c .before .before .before .before .before .before .before .before .before .before .before .before .before .before .before .before .before .before .before .before .before .before .before .before .before .before .before .before .before .before .before .args .counters .now)) (c .before .before .before .before .before .before .before .before .before .before .before .before .before .before .before .before .before .before .before .before .before .before .before .before .before .before .before .before .before .before .before .args .depth) (c .before .before .before .before .before .before .before .before .before .before .before .before .before .before .before .before .before .before .before .before .before .before .before .before .before .before .before .before .before .before .before .args .s .now) (c .before .before .before .before .before .before .before .before .before .before .before .before .before .before .before .before .before .before .before .before .before .before .before .before .before .before .before .before .before .before .before .args .c) (c .before .before .before .before .before .before .before .before .before .before .before .before .before .before .before .before .before .before .before .before .before .before .before .before .before .before .before .before .before .before .before .args .d) (c .before .before .before .before .before .before .before .before .before .before .before .before .before .before .before .before .before .before .before .before .before .before .before .before .before .before .before .before .before .before .before .pre .1 .1) (c .before .before .before .before .before .before .before .before .before .before .before .before .before .before .before .before .before .before .before .before .before .before .before .before .before .before .before .before .before .before .before .pre .1 .2) (c .before .before .before .before .before .before .before .before .before .before .before .before .before .before .before .before .before .before .before .before .before .before .before .before .before .if1 .left) _ (c .before .before .before .before .before .before .before .before .before .before .before .before .before .before .before .before .before .before .before .before .before .before .before .before .before .before .before .before .before .before .before .pre .1 .0 .1) _ _ _ _ _ (done-reads _ _ _ _ _ _ _ _ _ (c .before .before .before .before .before .before .before .before .before .before .before .before .before .before .before .before .before .before .before .r .given .1) (c .before .before .before .before .before .before .before .before .before .before .before .before .before .before .before .before .before .before .before .before .before .before .before .expression .ensures)) _ _ _ _ (done-block _ _ _ _ _ _ _ _ _ (c .before .before .before .before .before .before .before .before .before .before .before .before .q .given .1) (c .before .before .before .before .before .before .before .before .before .before .before .before .before .before .before .before .block .ensures)) (c .before .before .before .before .before .before .before .before .before .if2 .left) (c .before .before .before .before .before .before .before .before .next .result) (c .before .before .before .before .before .before .before .before .next .ensures) _ _ _ _ (done-block _ _ _ _ _ _ _ _ _ (c .before .before .p .given .1) (c .before .before .before .before .before .before .block2 .ensures)), if-numbers (wordsIn (c .before .before .before .before .before .before .before .before .before .before .before .before .before .before .before .before .before .before .before .before .before .before .before .before .before .before .before .before .before .before .before .args .reserved .now) (c .before .before .before .before .before .before .before .before .before .before .before .before .before .before .before .before .before .before .before .before .before .before .before .before .before .before .before .before .before .before .before .args .currencies .now) (c .before .before .before .before .before .before .before .before .before .before .before .before .before .before .before .before .before .before .before .before .before .before .before .before .before .before .before .before .before .before .before .args .counters .now)) (c .before .before .before .before .before .before .before .before .before .before .before .before .before .before .before .before .before .before .before .before .before .before .before .before .before .before .before .before .before .before .before .args .depth) (c .before .before .before .before .before .before .before .before .before .before .before .before .before .before .before .before .before .before .before .before .before .before .before .before .before .before .before .before .before .before .before .args .s .now) (c .before .before .before .before .before .before .before .before .before .before .before .before .before .before .before .before .before .before .before .before .before .before .before .before .before .before .before .before .before .before .before .args .c) (c .before .before .before .before .before .before .before .before .before .before .before .before .before .before .before .before .before .before .before .before .before .before .before .before .before .before .before .before .before .before .before .args .d) (c .before .before .before .before .before .before .before .before .before .before .before .before .before .before .before .before .before .before .before .before .before .before .before .before .before .before .before .before .before .before .before .pre .1 .1) (c .before .before .before .before .before .before .before .before .before .before .before .before .before .before .before .before .before .before .before .before .before .before .before .before .before .before .before .before .before .before .before .pre .1 .2) (c .before .before .before .before .before .before .before .before .before .before .before .before .before .before .before .before .before .before .before .before .before .before .before .before .before .if1 .left) _ (c .before .before .before .before .before .before .before .before .before .before .before .before .before .before .before .before .before .before .before .before .before .before .before .before .before .before .before .before .before .before .before .pre .1 .0 .1) _ _ _ _ _ (done-reads _ _ _ _ _ _ _ _ _ (c .before .before .before .before .before .before .before .before .before .before .before .before .before .before .before .before .before .before .before .r .given .1) (c .before .before .before .before .before .before .before .before .before .before .before .before .before .before .before .before .before .before .before .before .before .before .before .expression .ensures)) _ _ _ _ (done-block _ _ _ _ _ _ _ _ _ (c .before .before .before .before .before .before .before .before .before .before .before .before .q .given .1) (c .before .before .before .before .before .before .before .before .before .before .before .before .before .before .before .before .block .ensures)))
+conditional-add-branch-6 t c =
+    let at-p = c .before .before in
+    let at-block2 = at-p .before .before .before .before in
+    let at-next = at-block2 .before .before in
+    let at-q = at-next .before .before .before .before in
+    let at-block = at-q .before .before .before .before in
+    let at-r = at-block .before .before .before in
+    let at-expression = at-r .before .before .before .before in
+    let at-if1 = at-expression .before .before in
+    let start = at-if1 .before .before .before .before .before .before in
+    let args = start .args in
+    let pre = start .pre in
+    let words = wordsIn (args .reserved .now) (args .currencies .now) (args .counters .now) in
+    omega (arith, else-numbers words (args .depth) (args .s .now) (args .c) (args .d) (pre .1 .1) (pre .1 .2) (at-if1 .if1 .left) _ (pre .1 .0 .1) _ _ _ _ _ (done-reads _ _ _ _ _ _ _ _ _ (at-r .r .given .1) (at-expression .expression .ensures)) _ _ _ _ (done-block _ _ _ _ _ _ _ _ _ (at-q .q .given .1) (at-block .block .ensures)) (at-next .before .if2 .left) (at-next .next .result) (at-next .next .ensures) _ _ _ _ (done-block _ _ _ _ _ _ _ _ _ (at-p .p .given .1) (at-block2 .block2 .ensures)), if-numbers words (args .depth) (args .s .now) (args .c) (args .d) (pre .1 .1) (pre .1 .2) (at-if1 .if1 .left) _ (pre .1 .0 .1) _ _ _ _ _ (done-reads _ _ _ _ _ _ _ _ _ (at-r .r .given .1) (at-expression .expression .ensures)) _ _ _ _ (done-block _ _ _ _ _ _ _ _ _ (at-q .q .given .1) (at-block .block .ensures)))
 
--- src/statements.rt:100:17
 conditional-branch-requires-2 : (t : ℕ) → conditional-lts.Need-branch-requires-2 (
   expression-reads.Asked,
   expression-reads.Learnt,
@@ -922,7 +1096,6 @@ conditional-branch-requires-2 : (t : ℕ) → conditional-lts.Need-branch-requir
 ) (conditional-at t) conditional.Post
 conditional-branch-requires-2 t c κs = search needs
 
--- src/statements.rt:100:5
 conditional-put-requires-2 : (t : ℕ) → conditional-lts.Need-put-requires-2 (
   expression-reads.Asked,
   expression-reads.Learnt,
@@ -939,7 +1112,6 @@ conditional-put-requires-2 : (t : ℕ) → conditional-lts.Need-put-requires-2 (
 ) (conditional-at t) conditional.Post
 conditional-put-requires-2 t c κs = search needs
 
--- src/statements.rt:101:19
 conditional-add-t22 : (t : ℕ) → conditional-lts.Need-add-t22 (
   expression-reads.Asked,
   expression-reads.Learnt,
@@ -954,9 +1126,21 @@ conditional-add-t22 : (t : ℕ) → conditional-lts.Need-add-t22 (
   next-reads.Asked,
   next-reads.Learnt,
 ) (conditional-at t) conditional.Post
-conditional-add-t22 t c = omega (arith, else-numbers (wordsIn (c .before .before .before .before .before .before .before .before .before .before .before .before .before .before .before .before .before .before .before .before .before .before .before .before .before .before .before .before .before .before .before .before .before .before .before .args .reserved .now) (c .before .before .before .before .before .before .before .before .before .before .before .before .before .before .before .before .before .before .before .before .before .before .before .before .before .before .before .before .before .before .before .before .before .before .before .args .currencies .now) (c .before .before .before .before .before .before .before .before .before .before .before .before .before .before .before .before .before .before .before .before .before .before .before .before .before .before .before .before .before .before .before .before .before .before .before .args .counters .now)) (c .before .before .before .before .before .before .before .before .before .before .before .before .before .before .before .before .before .before .before .before .before .before .before .before .before .before .before .before .before .before .before .before .before .before .before .args .depth) (c .before .before .before .before .before .before .before .before .before .before .before .before .before .before .before .before .before .before .before .before .before .before .before .before .before .before .before .before .before .before .before .before .before .before .before .args .s .now) (c .before .before .before .before .before .before .before .before .before .before .before .before .before .before .before .before .before .before .before .before .before .before .before .before .before .before .before .before .before .before .before .before .before .before .before .args .c) (c .before .before .before .before .before .before .before .before .before .before .before .before .before .before .before .before .before .before .before .before .before .before .before .before .before .before .before .before .before .before .before .before .before .before .before .args .d) (c .before .before .before .before .before .before .before .before .before .before .before .before .before .before .before .before .before .before .before .before .before .before .before .before .before .before .before .before .before .before .before .before .before .before .before .pre .1 .1) (c .before .before .before .before .before .before .before .before .before .before .before .before .before .before .before .before .before .before .before .before .before .before .before .before .before .before .before .before .before .before .before .before .before .before .before .pre .1 .2) (c .before .before .before .before .before .before .before .before .before .before .before .before .before .before .before .before .before .before .before .before .before .before .before .before .before .before .before .before .before .if1 .left) _ (c .before .before .before .before .before .before .before .before .before .before .before .before .before .before .before .before .before .before .before .before .before .before .before .before .before .before .before .before .before .before .before .before .before .before .before .pre .1 .0 .1) _ _ _ _ _ (done-reads _ _ _ _ _ _ _ _ _ (c .before .before .before .before .before .before .before .before .before .before .before .before .before .before .before .before .before .before .before .before .before .before .before .r .given .1) (c .before .before .before .before .before .before .before .before .before .before .before .before .before .before .before .before .before .before .before .before .before .before .before .before .before .before .before .expression .ensures)) _ _ _ _ (done-block _ _ _ _ _ _ _ _ _ (c .before .before .before .before .before .before .before .before .before .before .before .before .before .before .before .before .q .given .1) (c .before .before .before .before .before .before .before .before .before .before .before .before .before .before .before .before .before .before .before .before .block .ensures)) (c .before .before .before .before .before .before .before .before .before .before .before .before .before .if2 .left) (c .before .before .before .before .before .before .before .before .before .before .before .before .next .result) (c .before .before .before .before .before .before .before .before .before .before .before .before .next .ensures) _ _ _ _ (done-block _ _ _ _ _ _ _ _ _ (c .before .before .before .before .before .before .p .given .1) (c .before .before .before .before .before .before .before .before .before .before .block2 .ensures)), if-numbers (wordsIn (c .before .before .before .before .before .before .before .before .before .before .before .before .before .before .before .before .before .before .before .before .before .before .before .before .before .before .before .before .before .before .before .before .before .before .before .args .reserved .now) (c .before .before .before .before .before .before .before .before .before .before .before .before .before .before .before .before .before .before .before .before .before .before .before .before .before .before .before .before .before .before .before .before .before .before .before .args .currencies .now) (c .before .before .before .before .before .before .before .before .before .before .before .before .before .before .before .before .before .before .before .before .before .before .before .before .before .before .before .before .before .before .before .before .before .before .before .args .counters .now)) (c .before .before .before .before .before .before .before .before .before .before .before .before .before .before .before .before .before .before .before .before .before .before .before .before .before .before .before .before .before .before .before .before .before .before .before .args .depth) (c .before .before .before .before .before .before .before .before .before .before .before .before .before .before .before .before .before .before .before .before .before .before .before .before .before .before .before .before .before .before .before .before .before .before .before .args .s .now) (c .before .before .before .before .before .before .before .before .before .before .before .before .before .before .before .before .before .before .before .before .before .before .before .before .before .before .before .before .before .before .before .before .before .before .before .args .c) (c .before .before .before .before .before .before .before .before .before .before .before .before .before .before .before .before .before .before .before .before .before .before .before .before .before .before .before .before .before .before .before .before .before .before .before .args .d) (c .before .before .before .before .before .before .before .before .before .before .before .before .before .before .before .before .before .before .before .before .before .before .before .before .before .before .before .before .before .before .before .before .before .before .before .pre .1 .1) (c .before .before .before .before .before .before .before .before .before .before .before .before .before .before .before .before .before .before .before .before .before .before .before .before .before .before .before .before .before .before .before .before .before .before .before .pre .1 .2) (c .before .before .before .before .before .before .before .before .before .before .before .before .before .before .before .before .before .before .before .before .before .before .before .before .before .before .before .before .before .if1 .left) _ (c .before .before .before .before .before .before .before .before .before .before .before .before .before .before .before .before .before .before .before .before .before .before .before .before .before .before .before .before .before .before .before .before .before .before .before .pre .1 .0 .1) _ _ _ _ _ (done-reads _ _ _ _ _ _ _ _ _ (c .before .before .before .before .before .before .before .before .before .before .before .before .before .before .before .before .before .before .before .before .before .before .before .r .given .1) (c .before .before .before .before .before .before .before .before .before .before .before .before .before .before .before .before .before .before .before .before .before .before .before .before .before .before .before .expression .ensures)) _ _ _ _ (done-block _ _ _ _ _ _ _ _ _ (c .before .before .before .before .before .before .before .before .before .before .before .before .before .before .before .before .q .given .1) (c .before .before .before .before .before .before .before .before .before .before .before .before .before .before .before .before .before .before .before .before .block .ensures)))
+conditional-add-t22 t c =
+    let at-p = c .before .before .before .before .before .before in
+    let at-block2 = at-p .before .before .before .before in
+    let at-next = at-block2 .before .before in
+    let at-q = at-next .before .before .before .before in
+    let at-block = at-q .before .before .before .before in
+    let at-r = at-block .before .before .before in
+    let at-expression = at-r .before .before .before .before in
+    let at-if1 = at-expression .before .before in
+    let start = at-if1 .before .before .before .before .before .before in
+    let args = start .args in
+    let pre = start .pre in
+    let words = wordsIn (args .reserved .now) (args .currencies .now) (args .counters .now) in
+    omega (arith, else-numbers words (args .depth) (args .s .now) (args .c) (args .d) (pre .1 .1) (pre .1 .2) (at-if1 .if1 .left) _ (pre .1 .0 .1) _ _ _ _ _ (done-reads _ _ _ _ _ _ _ _ _ (at-r .r .given .1) (at-expression .expression .ensures)) _ _ _ _ (done-block _ _ _ _ _ _ _ _ _ (at-q .q .given .1) (at-block .block .ensures)) (at-next .before .if2 .left) (at-next .next .result) (at-next .next .ensures) _ _ _ _ (done-block _ _ _ _ _ _ _ _ _ (at-p .p .given .1) (at-block2 .block2 .ensures)), if-numbers words (args .depth) (args .s .now) (args .c) (args .d) (pre .1 .1) (pre .1 .2) (at-if1 .if1 .left) _ (pre .1 .0 .1) _ _ _ _ _ (done-reads _ _ _ _ _ _ _ _ _ (at-r .r .given .1) (at-expression .expression .ensures)) _ _ _ _ (done-block _ _ _ _ _ _ _ _ _ (at-q .q .given .1) (at-block .block .ensures)))
 
--- src/statements.rt:58:1
 conditional-same-length-5 : (t : ℕ) → conditional-lts.Need-same-length-5 (
   expression-reads.Asked,
   expression-reads.Learnt,
@@ -971,9 +1155,12 @@ conditional-same-length-5 : (t : ℕ) → conditional-lts.Need-same-length-5 (
   next-reads.Asked,
   next-reads.Learnt,
 ) (conditional-at t) conditional.Post
-conditional-same-length-5 t c = c .before .before .put2 .kept .0 ∙ (c .before .before .before .before .before .before .before .before .before .before .block2 .kept .1 .1 .1 .1 .1 .1 .0 ∙ (c .before .before .before .before .before .before .before .before .before .before .before .before .before .before .before .before .before .before .before .before .block .kept .1 .1 .1 .1 .1 .1 .0 ∙ c .before .before .before .before .before .before .before .before .before .before .before .before .before .before .before .before .before .before .before .before .before .before .before .before .before .before .before .expression .kept .1 .1 .1 .1 .1 .1 .0))
+conditional-same-length-5 t c =
+    let at-put2 = c .before .before in
+    let at-block2 = at-put2 .before .before .before .before .before .before .before .before in
+    let at-block = at-block2 .before .before .before .before .before .before .before .before .before .before in
+    at-put2 .put2 .kept .0 ∙ (at-block2 .block2 .kept .1 .1 .1 .1 .1 .1 .0 ∙ (at-block .block .kept .1 .1 .1 .1 .1 .1 .0 ∙ at-block .before .before .before .before .before .before .before .expression .kept .1 .1 .1 .1 .1 .1 .0))
 
--- src/statements.rt:58:1
 conditional-returns-6 : (t : ℕ) → conditional-lts.Need-returns-6 (
   expression-reads.Asked,
   expression-reads.Learnt,
@@ -988,9 +1175,21 @@ conditional-returns-6 : (t : ℕ) → conditional-lts.Need-returns-6 (
   next-reads.Asked,
   next-reads.Learnt,
 ) (conditional-at t) conditional.Post
-conditional-returns-6 t c = else-done (wordsIn (c .before .before .before .before .before .before .before .before .before .before .before .before .before .before .before .before .before .before .before .before .before .before .before .before .before .before .before .before .before .before .before .before .before .before .before .args .reserved .now) (c .before .before .before .before .before .before .before .before .before .before .before .before .before .before .before .before .before .before .before .before .before .before .before .before .before .before .before .before .before .before .before .before .before .before .before .args .currencies .now) (c .before .before .before .before .before .before .before .before .before .before .before .before .before .before .before .before .before .before .before .before .before .before .before .before .before .before .before .before .before .before .before .before .before .before .before .args .counters .now)) (c .before .before .before .before .before .before .before .before .before .before .before .before .before .before .before .before .before .before .before .before .before .before .before .before .before .before .before .before .before .before .before .before .before .before .before .args .depth) (c .before .before .before .before .before .before .before .before .before .before .before .before .before .before .before .before .before .before .before .before .before .before .before .before .before .before .before .before .before .before .before .before .before .before .before .args .s .now) (c .before .before .before .before .before .before .before .before .before .before .before .before .before .before .before .before .before .before .before .before .before .before .before .before .before .before .before .before .before .before .before .before .before .before .before .args .c) (c .before .before .before .before .before .before .before .before .before .before .before .before .before .before .before .before .before .before .before .before .before .before .before .before .before .before .before .before .before .before .before .before .before .before .before .args .d) (c .before .before .before .before .before .before .before .before .before .before .before .before .before .before .before .before .before .before .before .before .before .before .before .before .before .before .before .before .before .before .before .before .before .before .before .pre .1 .1) (c .before .before .before .before .before .before .before .before .before .before .before .before .before .before .before .before .before .before .before .before .before .before .before .before .before .before .before .before .before .before .before .before .before .before .before .pre .1 .2) (c .before .before .before .before .before .before .before .before .before .before .before .before .before .before .before .before .before .before .before .before .before .before .before .before .before .before .before .before .before .if1 .left) _ (c .before .before .before .before .before .before .before .before .before .before .before .before .before .before .before .before .before .before .before .before .before .before .before .before .before .before .before .before .before .before .before .before .before .before .before .pre .1 .0 .1) _ _ _ _ _ (done-reads _ _ _ _ _ _ _ _ _ (c .before .before .before .before .before .before .before .before .before .before .before .before .before .before .before .before .before .before .before .before .before .before .before .r .given .1) (c .before .before .before .before .before .before .before .before .before .before .before .before .before .before .before .before .before .before .before .before .before .before .before .before .before .before .before .expression .ensures)) _ _ _ _ (done-block _ _ _ _ _ _ _ _ _ (c .before .before .before .before .before .before .before .before .before .before .before .before .before .before .before .before .q .given .1) (c .before .before .before .before .before .before .before .before .before .before .before .before .before .before .before .before .before .before .before .before .block .ensures)) (c .before .before .before .before .before .before .before .before .before .before .before .before .before .if2 .left) (c .before .before .before .before .before .before .before .before .before .before .before .before .next .result) (c .before .before .before .before .before .before .before .before .before .before .before .before .next .ensures) _ _ _ _ (done-block _ _ _ _ _ _ _ _ _ (c .before .before .before .before .before .before .p .given .1) (c .before .before .before .before .before .before .before .before .before .before .block2 .ensures)) _ (put-fields _ _ _ _ _ _ _ _ _ (c .before .before .before .branch2 .ensures) (c .before .before .put2 .ensures))
+conditional-returns-6 t c =
+    let at-put2 = c .before .before in
+    let at-p = at-put2 .before .before .before .before in
+    let at-block2 = at-p .before .before .before .before in
+    let at-next = at-block2 .before .before in
+    let at-q = at-next .before .before .before .before in
+    let at-block = at-q .before .before .before .before in
+    let at-r = at-block .before .before .before in
+    let at-expression = at-r .before .before .before .before in
+    let at-if1 = at-expression .before .before in
+    let start = at-if1 .before .before .before .before .before .before in
+    let args = start .args in
+    let pre = start .pre in
+    else-done (wordsIn (args .reserved .now) (args .currencies .now) (args .counters .now)) (args .depth) (args .s .now) (args .c) (args .d) (pre .1 .1) (pre .1 .2) (at-if1 .if1 .left) _ (pre .1 .0 .1) _ _ _ _ _ (done-reads _ _ _ _ _ _ _ _ _ (at-r .r .given .1) (at-expression .expression .ensures)) _ _ _ _ (done-block _ _ _ _ _ _ _ _ _ (at-q .q .given .1) (at-block .block .ensures)) (at-next .before .if2 .left) (at-next .next .result) (at-next .next .ensures) _ _ _ _ (done-block _ _ _ _ _ _ _ _ _ (at-p .p .given .1) (at-block2 .block2 .ensures)) _ (put-fields _ _ _ _ _ _ _ _ _ (at-put2 .before .branch2 .ensures) (at-put2 .put2 .ensures))
 
--- src/statements.rt:120:9
 repetition-returns : (t : ℕ) → repetition-lts.Need-returns (
   loop-head-reads.Asked,
   loop-head-reads.Learnt,
@@ -1007,9 +1206,11 @@ repetition-returns : (t : ℕ) → repetition-lts.Need-returns (
   put-reads.Asked,
   put-reads.Learnt,
 ) (repetition-at t) repetition.Post
-repetition-returns t c = for-0 (c .before .before .before .before .before .before .args .reserved .now) (c .before .before .before .before .before .before .args .currencies .now) (c .before .before .before .before .before .before .args .counters .now) (c .before .before .before .before .before .before .args .depth) (c .before .before .before .before .before .before .args .s .now) (c .before .before .before .before .before .before .args .c) (c .before .before .before .before .before .before .args .d) (c .before .before .before .before .before .before .pre .1 .1) (c .before .before .before .before .before .before .pre .1 .2) (c .if1 .taken)
+repetition-returns t c =
+    let start = c .before .before .before .before .before .before in
+    let args = start .args in
+    for-0 (args .reserved .now) (args .currencies .now) (args .counters .now) (args .depth) (args .s .now) (args .c) (args .d) (start .pre .1 .1) (start .pre .1 .2) (c .if1 .taken)
 
--- src/statements.rt:122:9
 repetition-loop-head-requires : (t : ℕ) → repetition-lts.Need-loop-head-requires (
   loop-head-reads.Asked,
   loop-head-reads.Learnt,
@@ -1028,7 +1229,6 @@ repetition-loop-head-requires : (t : ℕ) → repetition-lts.Need-loop-head-requ
 ) (repetition-at t) repetition.Post
 repetition-loop-head-requires t c κs = c .before .before .before .before .before .before .pre .1 .1 .holds
 
--- src/statements.rt:123:20
 repetition-enum-known-v : (t : ℕ) → repetition-lts.Need-enum-known-v (
   loop-head-reads.Asked,
   loop-head-reads.Learnt,
@@ -1047,7 +1247,6 @@ repetition-enum-known-v : (t : ℕ) → repetition-lts.Need-enum-known-v (
 ) (repetition-at t) repetition.Post
 repetition-enum-known-v t c = search needs
 
--- src/statements.rt:124:9
 repetition-enum-told : (t : ℕ) → repetition-lts.Need-enum-told (
   loop-head-reads.Asked,
   loop-head-reads.Learnt,
@@ -1066,7 +1265,6 @@ repetition-enum-told : (t : ℕ) → repetition-lts.Need-enum-told (
 ) (repetition-at t) repetition.Post
 repetition-enum-told t c = search needs
 
--- src/statements.rt:124:9
 repetition-number-refusal-requires : (t : ℕ) → repetition-lts.Need-number-refusal-requires (
   loop-head-reads.Asked,
   loop-head-reads.Learnt,
@@ -1085,7 +1283,6 @@ repetition-number-refusal-requires : (t : ℕ) → repetition-lts.Need-number-re
 ) (repetition-at t) repetition.Post
 repetition-number-refusal-requires t c κs = search needs
 
--- src/statements.rt:124:9
 repetition-returns-2 : (t : ℕ) → repetition-lts.Need-returns-2 (
   loop-head-reads.Asked,
   loop-head-reads.Learnt,
@@ -1102,9 +1299,12 @@ repetition-returns-2 : (t : ℕ) → repetition-lts.Need-returns-2 (
   put-reads.Asked,
   put-reads.Learnt,
 ) (repetition-at t) repetition.Post
-repetition-returns-2 t c = head-refusal-on _ _ _ _ (c .number-refusal .result) _ _ _ _ _ _ (c .before .enum-told .given .1) (c .before .before .before .loop-head .ensures) (c .number-refusal .ensures) (for-head-refused (c .before .before .before .before .before .before .before .before .before .before .args .reserved .now) (c .before .before .before .before .before .before .before .before .before .before .args .currencies .now) (c .before .before .before .before .before .before .before .before .before .before .args .counters .now) (c .before .before .before .before .before .before .before .before .before .before .args .depth) (c .before .before .before .before .before .before .before .before .before .before .args .s .now) (c .before .before .before .before .before .before .before .before .before .before .args .c) (c .before .before .before .before .before .before .before .before .before .before .args .d) (c .before .before .before .before .before .before .before .before .before .before .pre .1 .1) (c .before .before .before .before .before .before .before .before .before .before .pre .1 .2) (c .before .before .before .before .if1 .left) _ _)
+repetition-returns-2 t c =
+    let at-loop-head = c .before .before .before in
+    let start = at-loop-head .before .before .before .before .before .before .before in
+    let args = start .args in
+    head-refusal-on _ _ _ _ (c .number-refusal .result) _ _ _ _ _ _ (c .before .enum-told .given .1) (at-loop-head .loop-head .ensures) (c .number-refusal .ensures) (for-head-refused (args .reserved .now) (args .currencies .now) (args .counters .now) (args .depth) (args .s .now) (args .c) (args .d) (start .pre .1 .1) (start .pre .1 .2) (at-loop-head .before .if1 .left) _ _)
 
--- src/statements.rt:126:62
 repetition-sub-expression : (t : ℕ) → repetition-lts.Need-sub-expression (
   loop-head-reads.Asked,
   loop-head-reads.Learnt,
@@ -1123,7 +1323,6 @@ repetition-sub-expression : (t : ℕ) → repetition-lts.Need-sub-expression (
 ) (repetition-at t) repetition.Post
 repetition-sub-expression t c = omega (arith, c .before .before .before .before .if1 .left)
 
--- src/statements.rt:126:9
 repetition-expression-requires : (t : ℕ) → repetition-lts.Need-expression-requires (
   loop-head-reads.Asked,
   loop-head-reads.Learnt,
@@ -1140,9 +1339,14 @@ repetition-expression-requires : (t : ℕ) → repetition-lts.Need-expression-re
   put-reads.Asked,
   put-reads.Learnt,
 ) (repetition-at t) repetition.Post
-repetition-expression-requires t c κs = (for-ready (c .before .before .before .before .before .before .before .before .before .before .before .args .reserved .now) (c .before .before .before .before .before .before .before .before .before .before .before .args .currencies .now) (c .before .before .before .before .before .before .before .before .before .before .before .args .counters .now) (c .before .before .before .before .before .before .before .before .before .before .before .args .depth) (c .before .before .before .before .before .before .before .before .before .before .before .args .s .now) (c .before .before .before .before .before .before .before .before .before .before .before .args .c) (c .before .before .before .before .before .before .before .before .before .before .before .args .d) (c .before .before .before .before .before .before .before .before .before .before .before .pre .1 .1) (c .before .before .before .before .before .before .before .before .before .before .before .pre .1 .2) (c .before .before .before .before .before .if1 .left) _ (head-is _ _ _ _ _ _ (c .before .before .v .given .1) (c .before .before .before .before .loop-head .ensures)) _ (c .before .before .before .before .before .before .before .before .before .before .before .pre .1 .0 .1), c .before .before .before .before .before .before .before .before .before .before .before .pre .1 .3)
+repetition-expression-requires t c κs =
+    let at-v = c .before .before in
+    let at-loop-head = at-v .before .before in
+    let start = at-loop-head .before .before .before .before .before .before .before in
+    let args = start .args in
+    let pre = start .pre in
+    (for-ready (args .reserved .now) (args .currencies .now) (args .counters .now) (args .depth) (args .s .now) (args .c) (args .d) (pre .1 .1) (pre .1 .2) (at-loop-head .before .if1 .left) _ (head-is _ _ _ _ _ _ (at-v .v .given .1) (at-loop-head .loop-head .ensures)) _ (pre .1 .0 .1), pre .1 .3)
 
--- src/statements.rt:127:20
 repetition-enum-known-r : (t : ℕ) → repetition-lts.Need-enum-known-r (
   loop-head-reads.Asked,
   loop-head-reads.Learnt,
@@ -1161,7 +1365,6 @@ repetition-enum-known-r : (t : ℕ) → repetition-lts.Need-enum-known-r (
 ) (repetition-at t) repetition.Post
 repetition-enum-known-r t c = search needs
 
--- src/statements.rt:128:9
 repetition-enum-told-2 : (t : ℕ) → repetition-lts.Need-enum-told-2 (
   loop-head-reads.Asked,
   loop-head-reads.Learnt,
@@ -1180,7 +1383,6 @@ repetition-enum-told-2 : (t : ℕ) → repetition-lts.Need-enum-told-2 (
 ) (repetition-at t) repetition.Post
 repetition-enum-told-2 t c = search needs
 
--- src/statements.rt:128:9
 repetition-same-length : (t : ℕ) → repetition-lts.Need-same-length (
   loop-head-reads.Asked,
   loop-head-reads.Learnt,
@@ -1199,7 +1401,6 @@ repetition-same-length : (t : ℕ) → repetition-lts.Need-same-length (
 ) (repetition-at t) repetition.Post
 repetition-same-length t c = c .before .before .before .before .expression .kept .1 .1 .1 .1 .1 .1 .0
 
--- src/statements.rt:128:9
 repetition-returns-3 : (t : ℕ) → repetition-lts.Need-returns-3 (
   loop-head-reads.Asked,
   loop-head-reads.Learnt,
@@ -1216,9 +1417,14 @@ repetition-returns-3 : (t : ℕ) → repetition-lts.Need-returns-3 (
   put-reads.Asked,
   put-reads.Learnt,
 ) (repetition-at t) repetition.Post
-repetition-returns-3 t c = refused-on _ _ _ _ _ _ _ _ _ _ _ _ (c .enum-told2 .given .1) (c .before .before .before .before .expression .ensures) (for-refused (c .before .before .before .before .before .before .before .before .before .before .before .before .before .before .before .before .args .reserved .now) (c .before .before .before .before .before .before .before .before .before .before .before .before .before .before .before .before .args .currencies .now) (c .before .before .before .before .before .before .before .before .before .before .before .before .before .before .before .before .args .counters .now) (c .before .before .before .before .before .before .before .before .before .before .before .before .before .before .before .before .args .depth) (c .before .before .before .before .before .before .before .before .before .before .before .before .before .before .before .before .args .s .now) (c .before .before .before .before .before .before .before .before .before .before .before .before .before .before .before .before .args .c) (c .before .before .before .before .before .before .before .before .before .before .before .before .before .before .before .before .args .d) (c .before .before .before .before .before .before .before .before .before .before .before .before .before .before .before .before .pre .1 .1) (c .before .before .before .before .before .before .before .before .before .before .before .before .before .before .before .before .pre .1 .2) (c .before .before .before .before .before .before .before .before .before .before .if1 .left) _ (head-is _ _ _ _ _ _ (c .before .before .before .before .before .before .before .v .given .1) (c .before .before .before .before .before .before .before .before .before .loop-head .ensures)) _ _)
+repetition-returns-3 t c =
+    let at-expression = c .before .before .before .before in
+    let at-v = at-expression .before .before .before in
+    let at-loop-head = at-v .before .before in
+    let start = at-loop-head .before .before .before .before .before .before .before in
+    let args = start .args in
+    refused-on _ _ _ _ _ _ _ _ _ _ _ _ (c .enum-told2 .given .1) (at-expression .expression .ensures) (for-refused (args .reserved .now) (args .currencies .now) (args .counters .now) (args .depth) (args .s .now) (args .c) (args .d) (start .pre .1 .1) (start .pre .1 .2) (at-loop-head .before .if1 .left) _ (head-is _ _ _ _ _ _ (at-v .v .given .1) (at-loop-head .loop-head .ensures)) _ _)
 
--- src/statements.rt:130:57
 repetition-sub-block : (t : ℕ) → repetition-lts.Need-sub-block (
   loop-head-reads.Asked,
   loop-head-reads.Learnt,
@@ -1237,7 +1443,6 @@ repetition-sub-block : (t : ℕ) → repetition-lts.Need-sub-block (
 ) (repetition-at t) repetition.Post
 repetition-sub-block t c = omega (arith, c .before .before .before .before .before .before .before .before .before .before .before .if1 .left)
 
--- src/statements.rt:130:9
 repetition-block-requires : (t : ℕ) → repetition-lts.Need-block-requires (
   loop-head-reads.Asked,
   loop-head-reads.Learnt,
@@ -1254,9 +1459,16 @@ repetition-block-requires : (t : ℕ) → repetition-lts.Need-block-requires (
   put-reads.Asked,
   put-reads.Learnt,
 ) (repetition-at t) repetition.Post
-repetition-block-requires t c κs = (omega (arith, c .before .before .before .before .before .before .before .before .before .before .before .before .before .before .before .before .before .before .pre .0, c .before .before .before .before .before .before .before .before .before .before .before .before .if1 .left), (for-body-ready (c .before .before .before .before .before .before .before .before .before .before .before .before .before .before .before .before .before .before .args .reserved .now) (c .before .before .before .before .before .before .before .before .before .before .before .before .before .before .before .before .before .before .args .currencies .now) (c .before .before .before .before .before .before .before .before .before .before .before .before .before .before .before .before .before .before .args .counters .now) (c .before .before .before .before .before .before .before .before .before .before .before .before .before .before .before .before .before .before .args .depth) (c .before .before .before .before .before .before .before .before .before .before .before .before .before .before .before .before .before .before .args .s .now) (c .before .before .before .before .before .before .before .before .before .before .before .before .before .before .before .before .before .before .args .c) (c .before .before .before .before .before .before .before .before .before .before .before .before .before .before .before .before .before .before .args .d) (c .before .before .before .before .before .before .before .before .before .before .before .before .before .before .before .before .before .before .pre .1 .1) (c .before .before .before .before .before .before .before .before .before .before .before .before .before .before .before .before .before .before .pre .1 .2) (c .before .before .before .before .before .before .before .before .before .before .before .before .if1 .left) _ (head-is _ _ _ _ _ _ (c .before .before .before .before .before .before .before .before .before .v .given .1) (c .before .before .before .before .before .before .before .before .before .before .before .loop-head .ensures)) _ (c .before .before .before .before .before .before .before .before .before .before .before .before .before .before .before .before .before .before .pre .1 .0 .1) _ _ _ _ _ (done-reads _ _ _ _ _ _ _ _ _ (c .before .before .r .given .1) (c .before .before .before .before .before .before .expression .ensures)), c .before .before .before .before .before .before .before .before .before .before .before .before .before .before .before .before .before .before .pre .1 .3))
+repetition-block-requires t c κs =
+    let at-r = c .before .before in
+    let at-expression = at-r .before .before .before .before in
+    let at-v = at-expression .before .before .before in
+    let at-loop-head = at-v .before .before in
+    let start = at-loop-head .before .before .before .before .before .before .before in
+    let pre = start .pre in
+    let args = start .args in
+    (omega (arith, pre .0, at-loop-head .before .if1 .left), (for-body-ready (args .reserved .now) (args .currencies .now) (args .counters .now) (args .depth) (args .s .now) (args .c) (args .d) (pre .1 .1) (pre .1 .2) (at-loop-head .before .if1 .left) _ (head-is _ _ _ _ _ _ (at-v .v .given .1) (at-loop-head .loop-head .ensures)) _ (pre .1 .0 .1) _ _ _ _ _ (done-reads _ _ _ _ _ _ _ _ _ (at-r .r .given .1) (at-expression .expression .ensures)), pre .1 .3))
 
--- src/statements.rt:131:21
 repetition-enum-known-q : (t : ℕ) → repetition-lts.Need-enum-known-q (
   loop-head-reads.Asked,
   loop-head-reads.Learnt,
@@ -1275,7 +1487,6 @@ repetition-enum-known-q : (t : ℕ) → repetition-lts.Need-enum-known-q (
 ) (repetition-at t) repetition.Post
 repetition-enum-known-q t c = search needs
 
--- src/statements.rt:132:9
 repetition-enum-told-3 : (t : ℕ) → repetition-lts.Need-enum-told-3 (
   loop-head-reads.Asked,
   loop-head-reads.Learnt,
@@ -1294,7 +1505,6 @@ repetition-enum-told-3 : (t : ℕ) → repetition-lts.Need-enum-told-3 (
 ) (repetition-at t) repetition.Post
 repetition-enum-told-3 t c = search needs
 
--- src/statements.rt:132:9
 repetition-block-refusal-requires : (t : ℕ) → repetition-lts.Need-block-refusal-requires (
   loop-head-reads.Asked,
   loop-head-reads.Learnt,
@@ -1313,7 +1523,6 @@ repetition-block-refusal-requires : (t : ℕ) → repetition-lts.Need-block-refu
 ) (repetition-at t) repetition.Post
 repetition-block-refusal-requires t c κs = search needs
 
--- src/statements.rt:132:9
 repetition-same-length-2 : (t : ℕ) → repetition-lts.Need-same-length-2 (
   loop-head-reads.Asked,
   loop-head-reads.Learnt,
@@ -1330,9 +1539,10 @@ repetition-same-length-2 : (t : ℕ) → repetition-lts.Need-same-length-2 (
   put-reads.Asked,
   put-reads.Learnt,
 ) (repetition-at t) repetition.Post
-repetition-same-length-2 t c = c .before .before .before .before .before .block .kept .1 .1 .1 .1 .1 .1 .0 ∙ c .before .before .before .before .before .before .before .before .before .before .before .before .expression .kept .1 .1 .1 .1 .1 .1 .0
+repetition-same-length-2 t c =
+    let at-block = c .before .before .before .before .before in
+    at-block .block .kept .1 .1 .1 .1 .1 .1 .0 ∙ at-block .before .before .before .before .before .before .before .expression .kept .1 .1 .1 .1 .1 .1 .0
 
--- src/statements.rt:132:9
 repetition-returns-4 : (t : ℕ) → repetition-lts.Need-returns-4 (
   loop-head-reads.Asked,
   loop-head-reads.Learnt,
@@ -1349,9 +1559,17 @@ repetition-returns-4 : (t : ℕ) → repetition-lts.Need-returns-4 (
   put-reads.Asked,
   put-reads.Learnt,
 ) (repetition-at t) repetition.Post
-repetition-returns-4 t c = block-refusal-on _ _ _ _ _ _ (c .block-refusal .result) _ _ _ _ _ _ (c .before .enum-told3 .given .1) (c .before .before .before .before .before .block .ensures) (c .block-refusal .ensures) (for-body-refused (c .before .before .before .before .before .before .before .before .before .before .before .before .before .before .before .before .before .before .before .before .before .before .before .before .args .reserved .now) (c .before .before .before .before .before .before .before .before .before .before .before .before .before .before .before .before .before .before .before .before .before .before .before .before .args .currencies .now) (c .before .before .before .before .before .before .before .before .before .before .before .before .before .before .before .before .before .before .before .before .before .before .before .before .args .counters .now) (c .before .before .before .before .before .before .before .before .before .before .before .before .before .before .before .before .before .before .before .before .before .before .before .before .args .depth) (c .before .before .before .before .before .before .before .before .before .before .before .before .before .before .before .before .before .before .before .before .before .before .before .before .args .s .now) (c .before .before .before .before .before .before .before .before .before .before .before .before .before .before .before .before .before .before .before .before .before .before .before .before .args .c) (c .before .before .before .before .before .before .before .before .before .before .before .before .before .before .before .before .before .before .before .before .before .before .before .before .args .d) (c .before .before .before .before .before .before .before .before .before .before .before .before .before .before .before .before .before .before .before .before .before .before .before .before .pre .1 .1) (c .before .before .before .before .before .before .before .before .before .before .before .before .before .before .before .before .before .before .before .before .before .before .before .before .pre .1 .2) (c .before .before .before .before .before .before .before .before .before .before .before .before .before .before .before .before .before .before .if1 .left) _ (head-is _ _ _ _ _ _ (c .before .before .before .before .before .before .before .before .before .before .before .before .before .before .before .v .given .1) (c .before .before .before .before .before .before .before .before .before .before .before .before .before .before .before .before .before .loop-head .ensures)) _ (c .before .before .before .before .before .before .before .before .before .before .before .before .before .before .before .before .before .before .before .before .before .before .before .before .pre .1 .0 .1) _ _ _ _ _ (done-reads _ _ _ _ _ _ _ _ _ (c .before .before .before .before .before .before .before .before .r .given .1) (c .before .before .before .before .before .before .before .before .before .before .before .before .expression .ensures)) _ _)
+repetition-returns-4 t c =
+    let at-block = c .before .before .before .before .before in
+    let at-r = at-block .before .before .before in
+    let at-expression = at-r .before .before .before .before in
+    let at-v = at-expression .before .before .before in
+    let at-loop-head = at-v .before .before in
+    let start = at-loop-head .before .before .before .before .before .before .before in
+    let args = start .args in
+    let pre = start .pre in
+    block-refusal-on _ _ _ _ _ _ (c .block-refusal .result) _ _ _ _ _ _ (c .before .enum-told3 .given .1) (at-block .block .ensures) (c .block-refusal .ensures) (for-body-refused (args .reserved .now) (args .currencies .now) (args .counters .now) (args .depth) (args .s .now) (args .c) (args .d) (pre .1 .1) (pre .1 .2) (at-loop-head .before .if1 .left) _ (head-is _ _ _ _ _ _ (at-v .v .given .1) (at-loop-head .loop-head .ensures)) _ (pre .1 .0 .1) _ _ _ _ _ (done-reads _ _ _ _ _ _ _ _ _ (at-r .r .given .1) (at-expression .expression .ensures)) _ _)
 
--- src/statements.rt:134:25
 repetition-sub-each : (t : ℕ) → repetition-lts.Need-sub-each (
   loop-head-reads.Asked,
   loop-head-reads.Learnt,
@@ -1368,9 +1586,18 @@ repetition-sub-each : (t : ℕ) → repetition-lts.Need-sub-each (
   put-reads.Asked,
   put-reads.Learnt,
 ) (repetition-at t) repetition.Post
-repetition-sub-each t c = omega (arith, for-numbers (c .before .before .before .before .before .before .before .before .before .before .before .before .before .before .before .before .before .before .before .before .before .before .before .before .before .args .reserved .now) (c .before .before .before .before .before .before .before .before .before .before .before .before .before .before .before .before .before .before .before .before .before .before .before .before .before .args .currencies .now) (c .before .before .before .before .before .before .before .before .before .before .before .before .before .before .before .before .before .before .before .before .before .before .before .before .before .args .counters .now) (c .before .before .before .before .before .before .before .before .before .before .before .before .before .before .before .before .before .before .before .before .before .before .before .before .before .args .depth) (c .before .before .before .before .before .before .before .before .before .before .before .before .before .before .before .before .before .before .before .before .before .before .before .before .before .args .s .now) (c .before .before .before .before .before .before .before .before .before .before .before .before .before .before .before .before .before .before .before .before .before .before .before .before .before .args .c) (c .before .before .before .before .before .before .before .before .before .before .before .before .before .before .before .before .before .before .before .before .before .before .before .before .before .args .d) (c .before .before .before .before .before .before .before .before .before .before .before .before .before .before .before .before .before .before .before .before .before .before .before .before .before .pre .1 .1) (c .before .before .before .before .before .before .before .before .before .before .before .before .before .before .before .before .before .before .before .before .before .before .before .before .before .pre .1 .2) (c .before .before .before .before .before .before .before .before .before .before .before .before .before .before .before .before .before .before .before .if1 .left) _ (head-is _ _ _ _ _ _ (c .before .before .before .before .before .before .before .before .before .before .before .before .before .before .before .before .v .given .1) (c .before .before .before .before .before .before .before .before .before .before .before .before .before .before .before .before .before .before .loop-head .ensures)) _ (c .before .before .before .before .before .before .before .before .before .before .before .before .before .before .before .before .before .before .before .before .before .before .before .before .before .pre .1 .0 .1) _ _ _ _ _ (done-reads _ _ _ _ _ _ _ _ _ (c .before .before .before .before .before .before .before .before .before .r .given .1) (c .before .before .before .before .before .before .before .before .before .before .before .before .before .expression .ensures)) _ _ _ _ (done-block _ _ _ _ _ _ _ _ _ (c .before .before .q .given .1) (c .before .before .before .before .before .before .block .ensures)))
+repetition-sub-each t c =
+    let at-q = c .before .before in
+    let at-block = at-q .before .before .before .before in
+    let at-r = at-block .before .before .before in
+    let at-expression = at-r .before .before .before .before in
+    let at-v = at-expression .before .before .before in
+    let at-loop-head = at-v .before .before in
+    let start = at-loop-head .before .before .before .before .before .before .before in
+    let args = start .args in
+    let pre = start .pre in
+    omega (arith, for-numbers (args .reserved .now) (args .currencies .now) (args .counters .now) (args .depth) (args .s .now) (args .c) (args .d) (pre .1 .1) (pre .1 .2) (at-loop-head .before .if1 .left) _ (head-is _ _ _ _ _ _ (at-v .v .given .1) (at-loop-head .loop-head .ensures)) _ (pre .1 .0 .1) _ _ _ _ _ (done-reads _ _ _ _ _ _ _ _ _ (at-r .r .given .1) (at-expression .expression .ensures)) _ _ _ _ (done-block _ _ _ _ _ _ _ _ _ (at-q .q .given .1) (at-block .block .ensures)))
 
--- src/statements.rt:134:25
 repetition-add-each : (t : ℕ) → repetition-lts.Need-add-each (
   loop-head-reads.Asked,
   loop-head-reads.Learnt,
@@ -1387,9 +1614,18 @@ repetition-add-each : (t : ℕ) → repetition-lts.Need-add-each (
   put-reads.Asked,
   put-reads.Learnt,
 ) (repetition-at t) repetition.Post
-repetition-add-each t c = omega (arith, for-numbers (c .before .before .before .before .before .before .before .before .before .before .before .before .before .before .before .before .before .before .before .before .before .before .before .before .before .args .reserved .now) (c .before .before .before .before .before .before .before .before .before .before .before .before .before .before .before .before .before .before .before .before .before .before .before .before .before .args .currencies .now) (c .before .before .before .before .before .before .before .before .before .before .before .before .before .before .before .before .before .before .before .before .before .before .before .before .before .args .counters .now) (c .before .before .before .before .before .before .before .before .before .before .before .before .before .before .before .before .before .before .before .before .before .before .before .before .before .args .depth) (c .before .before .before .before .before .before .before .before .before .before .before .before .before .before .before .before .before .before .before .before .before .before .before .before .before .args .s .now) (c .before .before .before .before .before .before .before .before .before .before .before .before .before .before .before .before .before .before .before .before .before .before .before .before .before .args .c) (c .before .before .before .before .before .before .before .before .before .before .before .before .before .before .before .before .before .before .before .before .before .before .before .before .before .args .d) (c .before .before .before .before .before .before .before .before .before .before .before .before .before .before .before .before .before .before .before .before .before .before .before .before .before .pre .1 .1) (c .before .before .before .before .before .before .before .before .before .before .before .before .before .before .before .before .before .before .before .before .before .before .before .before .before .pre .1 .2) (c .before .before .before .before .before .before .before .before .before .before .before .before .before .before .before .before .before .before .before .if1 .left) _ (head-is _ _ _ _ _ _ (c .before .before .before .before .before .before .before .before .before .before .before .before .before .before .before .before .v .given .1) (c .before .before .before .before .before .before .before .before .before .before .before .before .before .before .before .before .before .before .loop-head .ensures)) _ (c .before .before .before .before .before .before .before .before .before .before .before .before .before .before .before .before .before .before .before .before .before .before .before .before .before .pre .1 .0 .1) _ _ _ _ _ (done-reads _ _ _ _ _ _ _ _ _ (c .before .before .before .before .before .before .before .before .before .r .given .1) (c .before .before .before .before .before .before .before .before .before .before .before .before .before .expression .ensures)) _ _ _ _ (done-block _ _ _ _ _ _ _ _ _ (c .before .before .q .given .1) (c .before .before .before .before .before .before .block .ensures)))
+repetition-add-each t c =
+    let at-q = c .before .before in
+    let at-block = at-q .before .before .before .before in
+    let at-r = at-block .before .before .before in
+    let at-expression = at-r .before .before .before .before in
+    let at-v = at-expression .before .before .before in
+    let at-loop-head = at-v .before .before in
+    let start = at-loop-head .before .before .before .before .before .before .before in
+    let args = start .args in
+    let pre = start .pre in
+    omega (arith, for-numbers (args .reserved .now) (args .currencies .now) (args .counters .now) (args .depth) (args .s .now) (args .c) (args .d) (pre .1 .1) (pre .1 .2) (at-loop-head .before .if1 .left) _ (head-is _ _ _ _ _ _ (at-v .v .given .1) (at-loop-head .loop-head .ensures)) _ (pre .1 .0 .1) _ _ _ _ _ (done-reads _ _ _ _ _ _ _ _ _ (at-r .r .given .1) (at-expression .expression .ensures)) _ _ _ _ (done-block _ _ _ _ _ _ _ _ _ (at-q .q .given .1) (at-block .block .ensures)))
 
--- src/statements.rt:134:36
 repetition-add-each-2 : (t : ℕ) → repetition-lts.Need-add-each-2 (
   loop-head-reads.Asked,
   loop-head-reads.Learnt,
@@ -1406,9 +1642,18 @@ repetition-add-each-2 : (t : ℕ) → repetition-lts.Need-add-each-2 (
   put-reads.Asked,
   put-reads.Learnt,
 ) (repetition-at t) repetition.Post
-repetition-add-each-2 t c = omega (arith, for-numbers (c .before .before .before .before .before .before .before .before .before .before .before .before .before .before .before .before .before .before .before .before .before .before .before .before .before .args .reserved .now) (c .before .before .before .before .before .before .before .before .before .before .before .before .before .before .before .before .before .before .before .before .before .before .before .before .before .args .currencies .now) (c .before .before .before .before .before .before .before .before .before .before .before .before .before .before .before .before .before .before .before .before .before .before .before .before .before .args .counters .now) (c .before .before .before .before .before .before .before .before .before .before .before .before .before .before .before .before .before .before .before .before .before .before .before .before .before .args .depth) (c .before .before .before .before .before .before .before .before .before .before .before .before .before .before .before .before .before .before .before .before .before .before .before .before .before .args .s .now) (c .before .before .before .before .before .before .before .before .before .before .before .before .before .before .before .before .before .before .before .before .before .before .before .before .before .args .c) (c .before .before .before .before .before .before .before .before .before .before .before .before .before .before .before .before .before .before .before .before .before .before .before .before .before .args .d) (c .before .before .before .before .before .before .before .before .before .before .before .before .before .before .before .before .before .before .before .before .before .before .before .before .before .pre .1 .1) (c .before .before .before .before .before .before .before .before .before .before .before .before .before .before .before .before .before .before .before .before .before .before .before .before .before .pre .1 .2) (c .before .before .before .before .before .before .before .before .before .before .before .before .before .before .before .before .before .before .before .if1 .left) _ (head-is _ _ _ _ _ _ (c .before .before .before .before .before .before .before .before .before .before .before .before .before .before .before .before .v .given .1) (c .before .before .before .before .before .before .before .before .before .before .before .before .before .before .before .before .before .before .loop-head .ensures)) _ (c .before .before .before .before .before .before .before .before .before .before .before .before .before .before .before .before .before .before .before .before .before .before .before .before .before .pre .1 .0 .1) _ _ _ _ _ (done-reads _ _ _ _ _ _ _ _ _ (c .before .before .before .before .before .before .before .before .before .r .given .1) (c .before .before .before .before .before .before .before .before .before .before .before .before .before .expression .ensures)) _ _ _ _ (done-block _ _ _ _ _ _ _ _ _ (c .before .before .q .given .1) (c .before .before .before .before .before .before .block .ensures)))
+repetition-add-each-2 t c =
+    let at-q = c .before .before in
+    let at-block = at-q .before .before .before .before in
+    let at-r = at-block .before .before .before in
+    let at-expression = at-r .before .before .before .before in
+    let at-v = at-expression .before .before .before in
+    let at-loop-head = at-v .before .before in
+    let start = at-loop-head .before .before .before .before .before .before .before in
+    let args = start .args in
+    let pre = start .pre in
+    omega (arith, for-numbers (args .reserved .now) (args .currencies .now) (args .counters .now) (args .depth) (args .s .now) (args .c) (args .d) (pre .1 .1) (pre .1 .2) (at-loop-head .before .if1 .left) _ (head-is _ _ _ _ _ _ (at-v .v .given .1) (at-loop-head .loop-head .ensures)) _ (pre .1 .0 .1) _ _ _ _ _ (done-reads _ _ _ _ _ _ _ _ _ (at-r .r .given .1) (at-expression .expression .ensures)) _ _ _ _ (done-block _ _ _ _ _ _ _ _ _ (at-q .q .given .1) (at-block .block .ensures)))
 
--- src/statements.rt:134:17
 repetition-each-requires : (t : ℕ) → repetition-lts.Need-each-requires (
   loop-head-reads.Asked,
   loop-head-reads.Learnt,
@@ -1427,7 +1672,6 @@ repetition-each-requires : (t : ℕ) → repetition-lts.Need-each-requires (
 ) (repetition-at t) repetition.Post
 repetition-each-requires t c κs = start-in (c .before .before .before .before .before .before .before .before .before .before .before .before .before .before .before .before .before .before .before .before .before .before .before .before .before .pre .1 .1 .holds)
 
--- src/statements.rt:134:5
 repetition-put-requires : (t : ℕ) → repetition-lts.Need-put-requires (
   loop-head-reads.Asked,
   loop-head-reads.Learnt,
@@ -1446,7 +1690,6 @@ repetition-put-requires : (t : ℕ) → repetition-lts.Need-put-requires (
 ) (repetition-at t) repetition.Post
 repetition-put-requires t c κs = search needs
 
--- src/statements.rt:135:19
 repetition-add-t20 : (t : ℕ) → repetition-lts.Need-add-t20 (
   loop-head-reads.Asked,
   loop-head-reads.Learnt,
@@ -1463,9 +1706,18 @@ repetition-add-t20 : (t : ℕ) → repetition-lts.Need-add-t20 (
   put-reads.Asked,
   put-reads.Learnt,
 ) (repetition-at t) repetition.Post
-repetition-add-t20 t c = omega (arith, for-numbers (c .before .before .before .before .before .before .before .before .before .before .before .before .before .before .before .before .before .before .before .before .before .before .before .before .before .before .before .before .before .args .reserved .now) (c .before .before .before .before .before .before .before .before .before .before .before .before .before .before .before .before .before .before .before .before .before .before .before .before .before .before .before .before .before .args .currencies .now) (c .before .before .before .before .before .before .before .before .before .before .before .before .before .before .before .before .before .before .before .before .before .before .before .before .before .before .before .before .before .args .counters .now) (c .before .before .before .before .before .before .before .before .before .before .before .before .before .before .before .before .before .before .before .before .before .before .before .before .before .before .before .before .before .args .depth) (c .before .before .before .before .before .before .before .before .before .before .before .before .before .before .before .before .before .before .before .before .before .before .before .before .before .before .before .before .before .args .s .now) (c .before .before .before .before .before .before .before .before .before .before .before .before .before .before .before .before .before .before .before .before .before .before .before .before .before .before .before .before .before .args .c) (c .before .before .before .before .before .before .before .before .before .before .before .before .before .before .before .before .before .before .before .before .before .before .before .before .before .before .before .before .before .args .d) (c .before .before .before .before .before .before .before .before .before .before .before .before .before .before .before .before .before .before .before .before .before .before .before .before .before .before .before .before .before .pre .1 .1) (c .before .before .before .before .before .before .before .before .before .before .before .before .before .before .before .before .before .before .before .before .before .before .before .before .before .before .before .before .before .pre .1 .2) (c .before .before .before .before .before .before .before .before .before .before .before .before .before .before .before .before .before .before .before .before .before .before .before .if1 .left) _ (head-is _ _ _ _ _ _ (c .before .before .before .before .before .before .before .before .before .before .before .before .before .before .before .before .before .before .before .before .v .given .1) (c .before .before .before .before .before .before .before .before .before .before .before .before .before .before .before .before .before .before .before .before .before .before .loop-head .ensures)) _ (c .before .before .before .before .before .before .before .before .before .before .before .before .before .before .before .before .before .before .before .before .before .before .before .before .before .before .before .before .before .pre .1 .0 .1) _ _ _ _ _ (done-reads _ _ _ _ _ _ _ _ _ (c .before .before .before .before .before .before .before .before .before .before .before .before .before .r .given .1) (c .before .before .before .before .before .before .before .before .before .before .before .before .before .before .before .before .before .expression .ensures)) _ _ _ _ (done-block _ _ _ _ _ _ _ _ _ (c .before .before .before .before .before .before .q .given .1) (c .before .before .before .before .before .before .before .before .before .before .block .ensures)))
+repetition-add-t20 t c =
+    let at-q = c .before .before .before .before .before .before in
+    let at-block = at-q .before .before .before .before in
+    let at-r = at-block .before .before .before in
+    let at-expression = at-r .before .before .before .before in
+    let at-v = at-expression .before .before .before in
+    let at-loop-head = at-v .before .before in
+    let start = at-loop-head .before .before .before .before .before .before .before in
+    let args = start .args in
+    let pre = start .pre in
+    omega (arith, for-numbers (args .reserved .now) (args .currencies .now) (args .counters .now) (args .depth) (args .s .now) (args .c) (args .d) (pre .1 .1) (pre .1 .2) (at-loop-head .before .if1 .left) _ (head-is _ _ _ _ _ _ (at-v .v .given .1) (at-loop-head .loop-head .ensures)) _ (pre .1 .0 .1) _ _ _ _ _ (done-reads _ _ _ _ _ _ _ _ _ (at-r .r .given .1) (at-expression .expression .ensures)) _ _ _ _ (done-block _ _ _ _ _ _ _ _ _ (at-q .q .given .1) (at-block .block .ensures)))
 
--- src/statements.rt:105:1
 repetition-same-length-3 : (t : ℕ) → repetition-lts.Need-same-length-3 (
   loop-head-reads.Asked,
   loop-head-reads.Learnt,
@@ -1482,9 +1734,11 @@ repetition-same-length-3 : (t : ℕ) → repetition-lts.Need-same-length-3 (
   put-reads.Asked,
   put-reads.Learnt,
 ) (repetition-at t) repetition.Post
-repetition-same-length-3 t c = c .before .before .put .kept .0 ∙ (c .before .before .before .before .before .before .before .before .before .before .block .kept .1 .1 .1 .1 .1 .1 .0 ∙ c .before .before .before .before .before .before .before .before .before .before .before .before .before .before .before .before .before .expression .kept .1 .1 .1 .1 .1 .1 .0)
+repetition-same-length-3 t c =
+    let at-put = c .before .before in
+    let at-block = at-put .before .before .before .before .before .before .before .before in
+    at-put .put .kept .0 ∙ (at-block .block .kept .1 .1 .1 .1 .1 .1 .0 ∙ at-block .before .before .before .before .before .before .before .expression .kept .1 .1 .1 .1 .1 .1 .0)
 
--- src/statements.rt:105:1
 repetition-returns-5 : (t : ℕ) → repetition-lts.Need-returns-5 (
   loop-head-reads.Asked,
   loop-head-reads.Learnt,
@@ -1501,9 +1755,19 @@ repetition-returns-5 : (t : ℕ) → repetition-lts.Need-returns-5 (
   put-reads.Asked,
   put-reads.Learnt,
 ) (repetition-at t) repetition.Post
-repetition-returns-5 t c = for-done (c .before .before .before .before .before .before .before .before .before .before .before .before .before .before .before .before .before .before .before .before .before .before .before .before .before .before .before .before .before .args .reserved .now) (c .before .before .before .before .before .before .before .before .before .before .before .before .before .before .before .before .before .before .before .before .before .before .before .before .before .before .before .before .before .args .currencies .now) (c .before .before .before .before .before .before .before .before .before .before .before .before .before .before .before .before .before .before .before .before .before .before .before .before .before .before .before .before .before .args .counters .now) (c .before .before .before .before .before .before .before .before .before .before .before .before .before .before .before .before .before .before .before .before .before .before .before .before .before .before .before .before .before .args .depth) (c .before .before .before .before .before .before .before .before .before .before .before .before .before .before .before .before .before .before .before .before .before .before .before .before .before .before .before .before .before .args .s .now) (c .before .before .before .before .before .before .before .before .before .before .before .before .before .before .before .before .before .before .before .before .before .before .before .before .before .before .before .before .before .args .c) (c .before .before .before .before .before .before .before .before .before .before .before .before .before .before .before .before .before .before .before .before .before .before .before .before .before .before .before .before .before .args .d) (c .before .before .before .before .before .before .before .before .before .before .before .before .before .before .before .before .before .before .before .before .before .before .before .before .before .before .before .before .before .pre .1 .1) (c .before .before .before .before .before .before .before .before .before .before .before .before .before .before .before .before .before .before .before .before .before .before .before .before .before .before .before .before .before .pre .1 .2) (c .before .before .before .before .before .before .before .before .before .before .before .before .before .before .before .before .before .before .before .before .before .before .before .if1 .left) _ (head-is _ _ _ _ _ _ (c .before .before .before .before .before .before .before .before .before .before .before .before .before .before .before .before .before .before .before .before .v .given .1) (c .before .before .before .before .before .before .before .before .before .before .before .before .before .before .before .before .before .before .before .before .before .before .loop-head .ensures)) _ (c .before .before .before .before .before .before .before .before .before .before .before .before .before .before .before .before .before .before .before .before .before .before .before .before .before .before .before .before .before .pre .1 .0 .1) _ _ _ _ _ (done-reads _ _ _ _ _ _ _ _ _ (c .before .before .before .before .before .before .before .before .before .before .before .before .before .r .given .1) (c .before .before .before .before .before .before .before .before .before .before .before .before .before .before .before .before .before .expression .ensures)) _ _ _ _ (done-block _ _ _ _ _ _ _ _ _ (c .before .before .before .before .before .before .q .given .1) (c .before .before .before .before .before .before .before .before .before .before .block .ensures)) _ (put-fields _ _ _ _ _ _ _ _ _ (c .before .before .before .each .ensures) (c .before .before .put .ensures))
+repetition-returns-5 t c =
+    let at-put = c .before .before in
+    let at-q = at-put .before .before .before .before in
+    let at-block = at-q .before .before .before .before in
+    let at-r = at-block .before .before .before in
+    let at-expression = at-r .before .before .before .before in
+    let at-v = at-expression .before .before .before in
+    let at-loop-head = at-v .before .before in
+    let start = at-loop-head .before .before .before .before .before .before .before in
+    let args = start .args in
+    let pre = start .pre in
+    for-done (args .reserved .now) (args .currencies .now) (args .counters .now) (args .depth) (args .s .now) (args .c) (args .d) (pre .1 .1) (pre .1 .2) (at-loop-head .before .if1 .left) _ (head-is _ _ _ _ _ _ (at-v .v .given .1) (at-loop-head .loop-head .ensures)) _ (pre .1 .0 .1) _ _ _ _ _ (done-reads _ _ _ _ _ _ _ _ _ (at-r .r .given .1) (at-expression .expression .ensures)) _ _ _ _ (done-block _ _ _ _ _ _ _ _ _ (at-q .q .given .1) (at-block .block .ensures)) _ (put-fields _ _ _ _ _ _ _ _ _ (at-put .before .each .ensures) (at-put .put .ensures))
 
--- src/statements.rt:46:9
 statement-next-requires : (t : ℕ) → statement-lts.Need-next-requires (
   next-reads.Asked,
   next-reads.Learnt,
@@ -1520,7 +1784,6 @@ statement-next-requires : (t : ℕ) → statement-lts.Need-next-requires (
 ) (statement-at t) statement′.Post
 statement-next-requires t c κs = c .before .before .before .before .before .pre .1 .0 .0
 
--- src/statements.rt:49:17
 statement-begun-requires : (t : ℕ) → statement-lts.Need-begun-requires (
   next-reads.Asked,
   next-reads.Learnt,
@@ -1535,9 +1798,11 @@ statement-begun-requires : (t : ℕ) → statement-lts.Need-begun-requires (
   ended-reads.Asked,
   ended-reads.Learnt,
 ) (statement-at t) statement′.Post
-statement-begun-requires t c κs = (c .before .before .before .before .before .before .before .before .pre .1 .0, c .before .before .next .ensures, c .before .match .keys1, c .before .before .before .before .before .before .before .before .pre .1 .1)
+statement-begun-requires t c κs =
+    let at-next = c .before .before in
+    let start = at-next .before .before .before .before .before .before in
+    (start .pre .1 .0, at-next .next .ensures, c .before .match .keys1, start .pre .1 .1)
 
--- src/statements.rt:50:15
 statement-conditional-requires : (t : ℕ) → statement-lts.Need-conditional-requires (
   next-reads.Asked,
   next-reads.Learnt,
@@ -1552,9 +1817,11 @@ statement-conditional-requires : (t : ℕ) → statement-lts.Need-conditional-re
   ended-reads.Asked,
   ended-reads.Learnt,
 ) (statement-at t) statement′.Post
-statement-conditional-requires t c κs = (omega (arith, c .before .before .before .before .before .before .before .before .pre .0), (c .before .before .before .before .before .before .before .before .pre .1 .0, c .before .before .next .ensures, c .before .match .keys2, c .before .before .before .before .before .before .before .before .pre .1 .1))
+statement-conditional-requires t c κs =
+    let at-next = c .before .before in
+    let pre = at-next .before .before .before .before .before .before .pre in
+    (omega (arith, pre .0), (pre .1 .0, at-next .next .ensures, c .before .match .keys2, pre .1 .1))
 
--- src/statements.rt:51:16
 statement-repetition-requires : (t : ℕ) → statement-lts.Need-repetition-requires (
   next-reads.Asked,
   next-reads.Learnt,
@@ -1569,9 +1836,11 @@ statement-repetition-requires : (t : ℕ) → statement-lts.Need-repetition-requ
   ended-reads.Asked,
   ended-reads.Learnt,
 ) (statement-at t) statement′.Post
-statement-repetition-requires t c κs = (omega (arith, c .before .before .before .before .before .before .before .before .pre .0), (c .before .before .before .before .before .before .before .before .pre .1 .0, c .before .before .next .ensures, c .before .match .keys3, c .before .before .before .before .before .before .before .before .pre .1 .1))
+statement-repetition-requires t c κs =
+    let at-next = c .before .before in
+    let pre = at-next .before .before .before .before .before .before .pre in
+    (omega (arith, pre .0), (pre .1 .0, at-next .next .ensures, c .before .match .keys3, pre .1 .1))
 
--- src/statements.rt:52:17
 statement-paid-requires : (t : ℕ) → statement-lts.Need-paid-requires (
   next-reads.Asked,
   next-reads.Learnt,
@@ -1586,9 +1855,11 @@ statement-paid-requires : (t : ℕ) → statement-lts.Need-paid-requires (
   ended-reads.Asked,
   ended-reads.Learnt,
 ) (statement-at t) statement′.Post
-statement-paid-requires t c κs = (c .before .before .before .before .before .before .before .before .pre .1 .0, c .before .before .next .ensures, c .before .match .keys4, c .before .before .before .before .before .before .before .before .pre .1 .1)
+statement-paid-requires t c κs =
+    let at-next = c .before .before in
+    let start = at-next .before .before .before .before .before .before in
+    (start .pre .1 .0, at-next .next .ensures, c .before .match .keys4, start .pre .1 .1)
 
--- src/statements.rt:53:14
 statement-ended-requires : (t : ℕ) → statement-lts.Need-ended-requires (
   next-reads.Asked,
   next-reads.Learnt,
@@ -1603,9 +1874,10 @@ statement-ended-requires : (t : ℕ) → statement-lts.Need-ended-requires (
   ended-reads.Asked,
   ended-reads.Learnt,
 ) (statement-at t) statement′.Post
-statement-ended-requires t c κs = (c .before .before .before .before .before .before .before .before .pre .1 .0, c .before .before .before .before .before .before .before .before .pre .1 .1)
+statement-ended-requires t c κs =
+    let start = c .before .before .before .before .before .before .before .before in
+    (start .pre .1 .0, start .pre .1 .1)
 
--- src/statements.rt:33:1
 statement-same-length : (t : ℕ) → statement-lts.Need-same-length (
   next-reads.Asked,
   next-reads.Learnt,
@@ -1622,7 +1894,6 @@ statement-same-length : (t : ℕ) → statement-lts.Need-same-length (
 ) (statement-at t) statement′.Post
 statement-same-length t c = search needs
 
--- src/statements.rt:33:1
 statement-returns : (t : ℕ) → statement-lts.Need-returns (
   next-reads.Asked,
   next-reads.Learnt,
@@ -1637,9 +1908,13 @@ statement-returns : (t : ℕ) → statement-lts.Need-returns (
   ended-reads.Asked,
   ended-reads.Learnt,
 ) (statement-at t) statement′.Post
-statement-returns t c = meets-as _ _ _ _ _ (c .before .before .begun .result) _ (stat-name (wordsIn (c .before .before .before .before .before .before .before .before .before .before .before .args .reserved .now) (c .before .before .before .before .before .before .before .before .before .before .before .args .currencies .now) (c .before .before .before .before .before .before .before .before .before .before .before .args .counters .now)) (c .before .before .before .before .before .before .before .before .before .before .before .args .s .now) (c .before .before .before .before .before .before .before .before .before .before .before .args .c) (c .before .before .before .before .before .before .before .before .before .before .before .pre .1 .0 .0) (c .before .before .before .before .before .before .before .before .before .before .before .args .depth) (c .before .before .before .before .match .keys1)) (c .before .before .begun .ensures)
+statement-returns t c =
+    let at-begun = c .before .before in
+    let at-match = at-begun .before .before in
+    let start = at-match .before .before .before .before .before .before .before in
+    let args = start .args in
+    meets-as _ _ _ _ _ (at-begun .begun .result) _ (stat-name (wordsIn (args .reserved .now) (args .currencies .now) (args .counters .now)) (args .s .now) (args .c) (start .pre .1 .0 .0) (args .depth) (at-match .match .keys1)) (at-begun .begun .ensures)
 
--- src/statements.rt:33:1
 statement-same-length-2 : (t : ℕ) → statement-lts.Need-same-length-2 (
   next-reads.Asked,
   next-reads.Learnt,
@@ -1656,7 +1931,6 @@ statement-same-length-2 : (t : ℕ) → statement-lts.Need-same-length-2 (
 ) (statement-at t) statement′.Post
 statement-same-length-2 t c = search needs
 
--- src/statements.rt:33:1
 statement-returns-2 : (t : ℕ) → statement-lts.Need-returns-2 (
   next-reads.Asked,
   next-reads.Learnt,
@@ -1671,9 +1945,13 @@ statement-returns-2 : (t : ℕ) → statement-lts.Need-returns-2 (
   ended-reads.Asked,
   ended-reads.Learnt,
 ) (statement-at t) statement′.Post
-statement-returns-2 t c = meets-as _ _ _ _ _ (c .before .before .conditional .result) _ (stat-if (wordsIn (c .before .before .before .before .before .before .before .before .before .before .before .args .reserved .now) (c .before .before .before .before .before .before .before .before .before .before .before .args .currencies .now) (c .before .before .before .before .before .before .before .before .before .before .before .args .counters .now)) (c .before .before .before .before .before .before .before .before .before .before .before .args .s .now) (c .before .before .before .before .before .before .before .before .before .before .before .args .c) (c .before .before .before .before .before .before .before .before .before .before .before .pre .1 .0 .0) (c .before .before .before .before .before .before .before .before .before .before .before .args .depth) (c .before .before .before .before .match .keys2)) (c .before .before .conditional .ensures)
+statement-returns-2 t c =
+    let at-conditional = c .before .before in
+    let at-match = at-conditional .before .before in
+    let start = at-match .before .before .before .before .before .before .before in
+    let args = start .args in
+    meets-as _ _ _ _ _ (at-conditional .conditional .result) _ (stat-if (wordsIn (args .reserved .now) (args .currencies .now) (args .counters .now)) (args .s .now) (args .c) (start .pre .1 .0 .0) (args .depth) (at-match .match .keys2)) (at-conditional .conditional .ensures)
 
--- src/statements.rt:33:1
 statement-same-length-3 : (t : ℕ) → statement-lts.Need-same-length-3 (
   next-reads.Asked,
   next-reads.Learnt,
@@ -1690,7 +1968,6 @@ statement-same-length-3 : (t : ℕ) → statement-lts.Need-same-length-3 (
 ) (statement-at t) statement′.Post
 statement-same-length-3 t c = search needs
 
--- src/statements.rt:33:1
 statement-returns-3 : (t : ℕ) → statement-lts.Need-returns-3 (
   next-reads.Asked,
   next-reads.Learnt,
@@ -1705,9 +1982,13 @@ statement-returns-3 : (t : ℕ) → statement-lts.Need-returns-3 (
   ended-reads.Asked,
   ended-reads.Learnt,
 ) (statement-at t) statement′.Post
-statement-returns-3 t c = meets-as _ _ _ _ _ (c .before .before .repetition .result) _ (stat-for (wordsIn (c .before .before .before .before .before .before .before .before .before .before .before .args .reserved .now) (c .before .before .before .before .before .before .before .before .before .before .before .args .currencies .now) (c .before .before .before .before .before .before .before .before .before .before .before .args .counters .now)) (c .before .before .before .before .before .before .before .before .before .before .before .args .s .now) (c .before .before .before .before .before .before .before .before .before .before .before .args .c) (c .before .before .before .before .before .before .before .before .before .before .before .pre .1 .0 .0) (c .before .before .before .before .before .before .before .before .before .before .before .args .depth) (c .before .before .before .before .match .keys3)) (c .before .before .repetition .ensures)
+statement-returns-3 t c =
+    let at-repetition = c .before .before in
+    let at-match = at-repetition .before .before in
+    let start = at-match .before .before .before .before .before .before .before in
+    let args = start .args in
+    meets-as _ _ _ _ _ (at-repetition .repetition .result) _ (stat-for (wordsIn (args .reserved .now) (args .currencies .now) (args .counters .now)) (args .s .now) (args .c) (start .pre .1 .0 .0) (args .depth) (at-match .match .keys3)) (at-repetition .repetition .ensures)
 
--- src/statements.rt:33:1
 statement-same-length-4 : (t : ℕ) → statement-lts.Need-same-length-4 (
   next-reads.Asked,
   next-reads.Learnt,
@@ -1724,7 +2005,6 @@ statement-same-length-4 : (t : ℕ) → statement-lts.Need-same-length-4 (
 ) (statement-at t) statement′.Post
 statement-same-length-4 t c = search needs
 
--- src/statements.rt:33:1
 statement-returns-4 : (t : ℕ) → statement-lts.Need-returns-4 (
   next-reads.Asked,
   next-reads.Learnt,
@@ -1739,9 +2019,13 @@ statement-returns-4 : (t : ℕ) → statement-lts.Need-returns-4 (
   ended-reads.Asked,
   ended-reads.Learnt,
 ) (statement-at t) statement′.Post
-statement-returns-4 t c = meets-as _ _ _ _ _ (c .before .before .paid .result) _ (stat-pays (wordsIn (c .before .before .before .before .before .before .before .before .before .before .before .args .reserved .now) (c .before .before .before .before .before .before .before .before .before .before .before .args .currencies .now) (c .before .before .before .before .before .before .before .before .before .before .before .args .counters .now)) (c .before .before .before .before .before .before .before .before .before .before .before .args .s .now) (c .before .before .before .before .before .before .before .before .before .before .before .args .c) (c .before .before .before .before .before .before .before .before .before .before .before .pre .1 .0 .0) (c .before .before .before .before .before .before .before .before .before .before .before .args .depth) (c .before .before .before .before .match .keys4)) (c .before .before .paid .ensures)
+statement-returns-4 t c =
+    let at-paid = c .before .before in
+    let at-match = at-paid .before .before in
+    let start = at-match .before .before .before .before .before .before .before in
+    let args = start .args in
+    meets-as _ _ _ _ _ (at-paid .paid .result) _ (stat-pays (wordsIn (args .reserved .now) (args .currencies .now) (args .counters .now)) (args .s .now) (args .c) (start .pre .1 .0 .0) (args .depth) (at-match .match .keys4)) (at-paid .paid .ensures)
 
--- src/statements.rt:33:1
 statement-same-length-5 : (t : ℕ) → statement-lts.Need-same-length-5 (
   next-reads.Asked,
   next-reads.Learnt,
@@ -1758,7 +2042,6 @@ statement-same-length-5 : (t : ℕ) → statement-lts.Need-same-length-5 (
 ) (statement-at t) statement′.Post
 statement-same-length-5 t c = search needs
 
--- src/statements.rt:33:1
 statement-returns-5 : (t : ℕ) → statement-lts.Need-returns-5 (
   next-reads.Asked,
   next-reads.Learnt,
@@ -1774,8 +2057,12 @@ statement-returns-5 : (t : ℕ) → statement-lts.Need-returns-5 (
   ended-reads.Learnt,
 ) (statement-at t) statement′.Post
 statement-returns-5 t c =
-    let r = c .before .before .before .before .match .rest in
-    meets-as _ _ _ _ _ (c .before .before .ended .result) _ (stat-ended (wordsIn (c .before .before .before .before .before .before .before .before .before .before .before .args .reserved .now) (c .before .before .before .before .before .before .before .before .before .before .before .args .currencies .now) (c .before .before .before .before .before .before .before .before .before .before .before .args .counters .now)) (c .before .before .before .before .before .before .before .before .before .before .before .args .s .now) (c .before .before .before .before .before .before .before .before .before .before .before .args .c) (c .before .before .before .before .before .before .before .before .before .before .before .pre .1 .0 .0) (c .before .before .before .before .before .before .before .before .before .before .before .args .depth) (r .0 .0 .0 .1) (r .0 .0 .1) (r .0 .1) (r .1)) (c .before .before .ended .ensures)
+    let at-ended = c .before .before in
+    let at-match = at-ended .before .before in
+    let start = at-match .before .before .before .before .before .before .before in
+    let args = start .args in
+    let r = at-match .match .rest in
+    meets-as _ _ _ _ _ (at-ended .ended .result) _ (stat-ended (wordsIn (args .reserved .now) (args .currencies .now) (args .counters .now)) (args .s .now) (args .c) (start .pre .1 .0 .0) (args .depth) (r .0 .0 .0 .1) (r .0 .0 .1) (r .0 .1) (r .1)) (at-ended .ended .ensures)
 
 pub +block+conditional+repetition+statement-spec : {M : Type 1} → statement M
 +block+conditional+repetition+statement-spec =
