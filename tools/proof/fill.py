@@ -3,10 +3,13 @@
 A file of answers begins with comments, lines that begin with `#`, which head the proof file. Then it has blocks, each under a line that begins with `@`:
   @use          `use` lines
   @define NAME  a term that answers name
-  @ NAME        the answer of the fact NAME; a first line `unfolding ..` goes under its signature
+  @ NAME..      the answer of these facts, where a `*` stands for anything; a first line `unfolding ..` goes under the signature
 In an answer and in a term `%NAME` is that term, or else the path in `c` to the thing of that name, and `%@PLACE` the path to that place's record.
 What an answer uses more than once is bound by a `let`. A fact without an answer is left to the search, where the check did not try it in vain.
 """
+import difflib
+import fnmatch
+import os
 import re
 
 SEARCH = 'use borrow.Author.Needs.{needs}'
@@ -18,7 +21,7 @@ class Answers:
     """A file of answers, read."""
 
     def __init__(self, path):
-        self.path, self.uses, self.terms, self.facts, self.head, self.lines = path, [], {}, {}, [], {}
+        self.path, self.uses, self.terms, self.facts, self.head, self.lines = os.path.relpath(path), [], {}, {}, [], {}
         block = self.head
         with open(path) as file:
             for number, line in enumerate(file.read().split('\n'), 1):
@@ -34,12 +37,18 @@ class Answers:
     def block(self, words, number):
         if words[0] == '@use':
             return self.uses
-        kind, name = (self.terms, words[1]) if words[0] == '@define' else (self.facts, words[1])
-        if name in kind:
-            raise SystemExit('%s:%d: %s has an answer above' % (self.path, number, name))
-        self.lines.setdefault(name, number)
-        kind[name] = []
-        return kind[name]
+        kind, text = self.terms if words[0] == '@define' else self.facts, []
+        for name in words[1:]:
+            if name in kind:
+                raise SystemExit('%s:%d: %s stands above' % (self.path, number, name))
+            kind[name] = text
+            if kind is self.facts:
+                self.lines[name] = number
+        return text
+
+    def of(self, fact):
+        """The name under which a fact has its answer: its own, or else the first that fits."""
+        return next((name for name in [fact, *self.facts] if name in self.facts and fnmatch.fnmatchcase(fact, name)), None)
 
 
 def paths(member, place):
@@ -177,27 +186,35 @@ def plain(skeleton):
     return re.sub(r'\.\{\n((?:  .*,\n)+)\}\n', lambda m: '.{' + ', '.join(x.strip(' ,') for x in m.group(1).splitlines()) + '}\n', text)
 
 
+def unused(answers, used, searched):
+    """What is said of the answers that fit no fact: facts that the search is left with may have been theirs."""
+    for name in answers.facts:
+        if name not in used:
+            like = difflib.get_close_matches(name, searched, 3)
+            yield '%s:%d: no fact is called %s%s' % (answers.path, answers.lines[name], name, '; without an answer: ' + ', '.join(like) if like else '')
+
+
 def filled(function, answers):
     """The proof file that answers make of what is left of a function, the facts without an answer, and what else does not fit."""
     head, *blocks = plain(function['skeleton']).rstrip('\n').split('\n\n')
-    unanswered, faults, used = [], [], set()
+    unanswered, searched, faults, used = [], [], [], set()
     # For a loop or a cycle the check tries no search.
-    searched = any(block.endswith(' = search needs') for block in blocks)
+    tried = any(block.endswith(' = search needs') for block in blocks)
     for i, block in enumerate(blocks):
         fact = re.search(r'^(\S+)((?: \S+)*) = (\?|search needs)$', block, re.M)
-        if not fact or fact.group(1) not in answers.facts and fact.group(3) != '?':
+        if not fact or not answers.of(fact.group(1)) and fact.group(3) != '?':
             continue
-        name, missing = fact.group(1), []
-        used.add(name)
-        answer = answers.facts.get(name) or ('?' if searched or block.startswith('abbrev ') else 'search needs')
-        if answer == '?':
-            unanswered.append(name)
+        name, own, missing = fact.group(1), answers.of(fact.group(1)), []
+        used.add(own)
+        answer = answers.facts[own] if own else '?' if tried or block.startswith('abbrev ') else 'search needs'
+        if not own:
+            (unanswered if answer == '?' else searched).append(name)
         under, text = re.match(r'(unfolding.*\n)?([\s\S]*)', answer).groups()
         text = expanded(text, answers.terms, *known_at(function['members'], name), missing)
-        faults += ['%s:%d: nothing is called %s at %s' % (answers.path, answers.lines.get(name, 0), m, name) for m in missing]
+        faults += ['%s:%d: nothing is called %s at %s' % (answers.path, answers.lines[own], m, name) for m in missing]
         text = '\n    ' + text.replace('\n', '\n    ') if '\n' in text else ' ' + text
         blocks[i] = block[:fact.start()] + (under or '') + name + fact.group(2) + ' =' + text + block[fact.end():]
-    faults += ['%s:%d: no fact is called %s' % (answers.path, answers.lines[name], name) for name in answers.facts if name not in used]
+    faults += unused(answers, used, unanswered + searched)
     body = '\n\n'.join(blocks) + '\n'
     top = [line for line in answers.head if line.strip()] + joined([SEARCH, *head.split('\n'), *answers.uses], body)
     return '\n'.join(top) + '\n\n' + body, unanswered, faults

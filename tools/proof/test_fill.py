@@ -71,10 +71,20 @@ class Fill(unittest.TestCase):
     def test_a_bound_name_is_no_name_of_the_answer(self):
         self.assertIn('let args′ = c .before', answer('@ asked\nλ args. f args (%args .a) (%args .b) (%args .c)'))
 
+    def test_one_answer_of_several_facts(self):
+        text = made('@ found asked\nf %args')[0]
+        self.assertIn('found c = f c .args', text)
+        self.assertIn('asked c κs = f c .before', text)
+
+    def test_a_pattern_yields_to_a_name(self):
+        text = made('@ *\nf\n@ asked\ng')[0]
+        self.assertIn('found c = f\n', text)
+        self.assertIn('asked c κs = g\n', text)
+
     def test_what_fits_nothing_is_said(self):
-        _, unanswered, faults = made('@ other\nf\n@define words\ng %nothing')
+        _, unanswered, faults = made('@ asked-2\nf\n@define words\ng %nothing')
         self.assertEqual(unanswered, ['asked'])
-        self.assertIn('no fact is called other', faults[0])
+        self.assertIn('no fact is called asked-2; without an answer: asked', faults[0])
         self.assertIn('nothing is called nothing at asked', made('@ asked\n%nothing')[2][0])
 
     def test_lines_of_the_head_and_positions(self):
