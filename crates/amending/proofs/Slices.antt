@@ -1,7 +1,7 @@
 -- Memory goes on holding its state when it is lent in other slices that begin with the same words.
-use mathlib.Core.Path.{_≡_, refl, sym, ap, _∙_}
+use mathlib.Core.Path.{_≡_, sym, ap, _∙_}
 use mathlib.Core.Bool.{Bool, true, false, _||_}
-use mathlib.Core.List.{List, [], _++_, append-nil}
+use mathlib.Core.List.{List, [], append-nil}
 use Prim.Native.Nat.{ℕ, _*_, _/_, _≤_}
 use native.Mathlib.Omega.{arith}
 use lib.Dec.{ltb}
@@ -11,11 +11,10 @@ use Rattle.tokens.specs.Text.{if_then_else_}
 use Rattle.tokens.specs.Names.{Lists}
 use Rattle.grammar.specs.Sizes.{recordWidth, entryWidth, mostRecords, mostStatements}
 use Rattle.grammar.specs.Script.{Entry, nodes, tokensOf}
-use Rattle.grammar.specs.Words.{Row, rowsWords, rowOf}
+use Rattle.grammar.specs.Words.{rowsWords, rowOf}
 use Rattle.amending.specs.Amending.{State, Rooms, over}
 use Rattle.amending.specs.Entries.{rowsFrom}
-use Rattle.amending.specs.Lent.{Lent, lentOf}
-use Rattle.amending.specs.Memory.{Memory, roomsIn, usedIn, heldBy}
+use Rattle.amending.specs.Memory.{Memory, roomsIn}
 use Rattle.amending.specs.States.{Holds, Begins}
 use Rattle.amending.specs.declared.held.Held.{Held}
 use Rattle.amending.proofs.EntryLaws.{rows-of-words, words-of-rows, rows-count}

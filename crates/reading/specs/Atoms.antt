@@ -1,6 +1,5 @@
 -- The primaries that are one token, as readers of their own.
 use mathlib.Core.Bool.{Bool}
-use lib.Ieee.{neg}
 use Rattle.tokens.specs.Text.{if_then_else_}
 use Rattle.tokens.specs.Numbers.{value, signed}
 use Rattle.grammar.specs.Trees.{Tree, none as unused}

@@ -7,7 +7,6 @@ use Rattle.tokens.specs.Names.{Lists}
 use Rattle.tokens.specs.Tokens.{scan, tokens, endOf}
 use Rattle.reading.specs.Meets.{listed}
 use Rattle.grammar.specs.Script.{Outcome, accepted, refused, ofTokens, readScript, nodes, tokensOf}
-use Rattle.reading.specs.declared.judging.Counts.{Counts}
 use Rattle.reading.specs.declared.judging.Judged.{Judged}
 use Rattle.reading.specs.declared.judging.Judged.the-variants as judged
 

@@ -1,14 +1,14 @@
 -- A token is `;` or `}` exactly where its last byte is.
-use mathlib.Core.Path.{_≡_, refl, sym, ap, _∙_, subst}
-use mathlib.Core.Bool.{Bool, true, false, _&&_, _||_, not, true≢false}
+use mathlib.Core.Path.{_≡_, refl, sym, ap, _∙_}
+use mathlib.Core.Bool.{Bool, true, false, _||_, not, true≢false}
 use mathlib.Core.List.{List, [], _∷_, _++_}
 use Prim.Native.Nat.{ℕ, zero, suc, _+_, _-_, _≤_, _<_}
 use Prim.Native.String.{String}
 use native.Mathlib.Omega.{arith}
-use lib.Dec.{T, leb, ltb, eqb}
+use lib.Dec.{leb, ltb, eqb}
 use lib.Seq.{length-take-le, getD-append-add}
 use borrow.Author.Tests.{ltb-true, eqb-true}
-use lib.ListN.{length, take, drop, getD}
+use lib.ListN.{length, take, getD}
 use Rattle.tokens.specs.Text.{if_then_else_, bytes, same, begins, leading, letter, digit, nameByte, numberByte, blank, every}
 use Rattle.tokens.specs.Numbers.{numberFault}
 use Rattle.tokens.specs.Tokens.{Token, Lexeme, gap, piece, fault, word, numeral, quoted, sign, signs, keywords, entry, code, lexeme, Lexed, lexed, refused, before, taken, scan}

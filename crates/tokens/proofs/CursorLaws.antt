@@ -9,10 +9,9 @@ use borrow.Author.Tests.{ne-eqb, eq-eqb}
 use lib.ListN.{length, getD, take, drop, length-take, drop-of-length-le}
 use lib.Seq.{drop-drop}
 use Rattle.tokens.specs.Limits.{mostBytes}
-use Rattle.tokens.specs.Tokens.{Lexeme, gap, piece, fault, code, lexeme}
-use Rattle.tokens.specs.Lexing.{byteAt, lexemeAt, markAt, settled, settleFrom, cursorOf, cursorAt}
+use Rattle.tokens.specs.Tokens.{code}
+use Rattle.tokens.specs.Lexing.{lexemeAt, markAt, settled, settleFrom, cursorOf, cursorAt}
 use Rattle.tokens.specs.declared.lexing.Mark.{Mark}
-use Rattle.tokens.specs.declared.cursor.Cursor.{Cursor}
 use Rattle.tokens.proofs.Cuts.{Wide, lexeme-wide}
 use Rattle.tokens.proofs.Shapes.{lexeme-fits}
 use Rattle.tokens.proofs.LexLaws.{front}

@@ -1,18 +1,18 @@
 -- A text further on, and a text cut off at the end of a lexeme.
 use mathlib.Core.Path.{_≡_, refl, sym, ap, _∙_, subst}
-use mathlib.Core.Bool.{Bool, true, false, _&&_, _||_, not, true≢false}
-use mathlib.Core.List.{List, [], _∷_, _++_, append-nil, map}
-use Prim.Native.Nat.{ℕ, zero, suc, _+_, _-_, _≤_, _<_}
+use mathlib.Core.Bool.{Bool, true, false, _||_, not, true≢false}
+use mathlib.Core.List.{List, [], _∷_, _++_, map}
+use Prim.Native.Nat.{ℕ, zero, suc, _+_, _-_, _≤_}
 use Prim.Native.String.{String}
 use native.Mathlib.Omega.{arith}
-use native.Mathlib.Nat.{add-zero, add-suc, suc-add}
-use lib.Dec.{T, leb, ltb, eqb, leb→le}
+use native.Mathlib.Nat.{suc-add}
+use lib.Dec.{T, leb, ltb, eqb}
 use lib.Seq.{take-append-le}
-use borrow.Author.Tests.{ltb-true, lt-ltb, eqb-true, leb-true, le-leb}
-use lib.ListN.{length, take, length-append}
+use borrow.Author.Tests.{lt-ltb, eqb-true, leb-true}
+use lib.ListN.{length, take}
 use Rattle.tokens.specs.Text.{if_then_else_, bytes, same, begins, leading, letter, digit, nameByte, numberByte, blank, every}
 use Rattle.tokens.specs.Numbers.{numberFault}
-use Rattle.tokens.specs.Tokens.{Token, Lexeme, gap, piece, fault, word, numeral, quoted, sign, signs, keywords, entry, code, cut, lexeme, Lexed, lexed, refused, before, taken, scan, tokens}
+use Rattle.tokens.specs.Tokens.{Token, Lexeme, gap, piece, fault, word, numeral, quoted, sign, signs, entry, cut, lexeme, Lexed, lexed, refused, before, taken, scan, tokens}
 use Rattle.tokens.proofs.Joins.{width, Joint, over, rest, here, joint-le, body, word-width, numeral-width, sign-stays}
 
 -- ---- further on

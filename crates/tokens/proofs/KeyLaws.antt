@@ -1,6 +1,6 @@
 -- A word is told by its key: what a table has for a word's bytes it has for their number.
 use mathlib.Core.Path.{_≡_, refl, sym, ap, _∙_}
-use mathlib.Core.Bool.{Bool, true, false, _&&_, _||_, not, true≢false}
+use mathlib.Core.Bool.{Bool, true, false, not, true≢false}
 use mathlib.Core.List.{List, [], _∷_, _++_}
 use Prim.Native.Nat.{ℕ, suc, _+_, _-_, _*_, _^_, _≤_, _<_}
 use Prim.Native.String.{String}
@@ -12,7 +12,7 @@ use borrow.Author.Tests.{eq-eqb, ne-eqb, eqb-true, eqb-false, lt-ltb, ltb-true, 
 use lib.ListN.{length, getD, take, drop, length-take, length-drop, drop-of-length-le, List·getD-eq-default}
 use lib.Seq.{drop-cons, getD-take, getD-drop}
 use Rattle.tokens.specs.Text.{if_then_else_, bytes, same, begins, every}
-use Rattle.tokens.specs.Tokens.{entry, pairs, lones, signs, keywords, Lexeme, piece, fault, word, sign}
+use Rattle.tokens.specs.Tokens.{entry, pairs, lones, signs, keywords, piece, fault, word, sign}
 use Rattle.tokens.specs.Keys.{pack, lookup, keyed, keyOf, keywordBy, pairBy, firstByte, loneBy}
 use Rattle.tokens.proofs.Shapes.{entry-found, entry-every, begins-le, same-eq}
 

@@ -1,20 +1,20 @@
 -- What stands at a place of a text: the first token there, by the tests of the code.
-use mathlib.Core.Path.{_≡_, refl, sym, ap, _∙_, subst}
+use mathlib.Core.Path.{_≡_, refl, sym, ap, _∙_}
 use mathlib.Core.Bool.{Bool, true, false, _&&_, _||_, not, true≢false}
 use mathlib.Core.List.{List, [], _∷_}
-use Prim.Native.Nat.{ℕ, zero, suc, _+_, _-_, _≤_, _<_}
+use Prim.Native.Nat.{ℕ, suc, _+_, _-_, _≤_, _<_}
 use Prim.Native.String.{String}
 use native.Mathlib.Nat.{add-zero}
 use native.Mathlib.Numerals.{add-one}
 use native.Mathlib.Omega.{arith}
 use lib.Dec.{eqb, ltb}
 use borrow.Author.Tests.{eq-eqb, ne-eqb, eqb-true, eqb-false, lt-ltb, le-ltb}
-use lib.ListN.{length, getD, take, drop, length-drop, drop-of-length-le}
-use lib.Seq.{drop-cons, drop-drop, getD-drop}
+use lib.ListN.{length, getD, take, drop, length-drop}
+use lib.Seq.{drop-cons, getD-drop}
 use Rattle.tokens.specs.Text.{if_then_else_, bytes, begins, leading, letter, digit, nameByte, numberByte, blank, other}
 use Rattle.tokens.specs.Numbers.{numberFault}
-use Rattle.tokens.specs.Tokens.{Lexeme, gap, piece, fault, word, numeral, quoted, sign, signs, entry, cut, code, lexeme}
-use Rattle.tokens.specs.Lexing.{byteAt, lexemeAt, comment, wordAt, numberAt, stringAt, gapWidth, markOf}
+use Rattle.tokens.specs.Tokens.{gap, piece, fault, word, numeral, quoted, sign, signs, entry, cut, code, lexeme}
+use Rattle.tokens.specs.Lexing.{lexemeAt, comment, wordAt, numberAt, stringAt, gapWidth, markOf}
 use Rattle.tokens.specs.Keys.{keyOf, keywordBy}
 use Rattle.tokens.proofs.Joins.{body}
 use Rattle.tokens.proofs.Shapes.{leading-le}

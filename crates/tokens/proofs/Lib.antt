@@ -25,3 +25,5 @@ pub mod CursorLaws
 pub mod KindLaws
 pub mod ViewLaws
 pub mod ViewOwns
+pub mod Walking
+pub mod ViewCalls

@@ -1,6 +1,6 @@
 -- The first token at or behind a place: gaps are passed over, and the token stands where its mark says.
 use mathlib.Core.Path.{_≡_, refl, sym, ap, _∙_, subst}
-use mathlib.Core.Bool.{Bool, true, false, not, true≢false}
+use mathlib.Core.Bool.{Bool, true, false}
 use mathlib.Core.List.{List, [], _∷_}
 use Prim.Native.Nat.{ℕ, zero, suc, _+_, _-_, _≤_, _<_}
 use native.Mathlib.Omega.{arith}
@@ -9,7 +9,7 @@ use borrow.Author.Tests.{ltb-true, ltb-false}
 use lib.ListN.{length, getD, drop, length-drop, drop-of-length-le}
 use lib.Seq.{drop-drop}
 use Rattle.tokens.specs.Tokens.{Lexeme, gap, piece, fault, lexeme}
-use Rattle.tokens.specs.Lexing.{byteAt, lexemeAt, gapWidth, final, markOf, marked, markFrom, markAt}
+use Rattle.tokens.specs.Lexing.{lexemeAt, gapWidth, final, markOf, marked, markFrom, markAt}
 use Rattle.tokens.specs.declared.lexing.Mark.{Mark}
 use Rattle.tokens.proofs.Joins.{width}
 use Rattle.tokens.proofs.Cuts.{Wide, lexeme-wide}

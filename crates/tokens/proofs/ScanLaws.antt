@@ -1,11 +1,11 @@
 -- The tokens from a place on, by the mark of the first: what the scan of a text and the token step lean on.
 use mathlib.Core.Path.{_≡_, refl, sym, ap, _∙_, subst}
-use mathlib.Core.Bool.{Bool, true, false, _||_, not, true≢false}
+use mathlib.Core.Bool.{Bool, true, false, _||_, not}
 use mathlib.Core.List.{List, [], _∷_}
 use Prim.Native.Nat.{ℕ, zero, suc, _+_, _-_, _≤_, _<_}
 use Prim.Native.String.{String}
 use native.Mathlib.Omega.{arith}
-use lib.Dec.{T, eqb, leb, ltb}
+use lib.Dec.{eqb, ltb}
 use borrow.Author.Tests.{ltb-true, ltb-false, ne-eqb, eq-eqb, le-leb, lt-leb}
 use lib.ListN.{length, getD, take, drop, length-take, length-drop, drop-of-length-le}
 use lib.Seq.{drop-drop}
@@ -13,7 +13,7 @@ use Rattle.tokens.specs.Text.{if_then_else_, bytes, begins, same, every,
 use lib.Ieee.{Float}
 use Rattle.tokens.specs.Numbers.{numberFault, valueOf}
 use Rattle.tokens.specs.Tokens.{Token, Lexeme, gap, piece, fault, word, numeral, quoted, sign, signs, keywords, entry, code, lexeme, Lexed, lexed, refused, before, taken, scan, counts, endOf}
-use Rattle.tokens.specs.Lexing.{byteAt, lexemeAt, gapWidth, final, markOf, markFrom, markAt, tokenOf, judgedBy, summary, stepAt}
+use Rattle.tokens.specs.Lexing.{lexemeAt, gapWidth, final, markOf, markFrom, markAt, tokenOf, judgedBy, summary, stepAt}
 use Rattle.tokens.specs.Kinds.{kindBy}
 use Rattle.tokens.specs.declared.lexing.Mark.{Mark}
 use Rattle.tokens.specs.declared.kinds.Kind.{Kind}
@@ -22,7 +22,7 @@ use Rattle.tokens.specs.declared.kinds.Literal.the-variants.{Number}
 use Rattle.tokens.specs.declared.scanning.Found.the-variants as found
 use Rattle.tokens.specs.declared.scanning.Scanned.{Scanned}
 use Rattle.tokens.specs.declared.scanning.Scanned.the-variants as scanned
-use Rattle.tokens.proofs.Joins.{width, body}
+use Rattle.tokens.proofs.Joins.{body}
 use Rattle.tokens.proofs.Cuts.{Wide, lexeme-wide}
 use Rattle.tokens.proofs.Shapes.{Sound, sound, lexeme-fits, scan-drop, entry-every}
 use Rattle.tokens.proofs.NumberLaws.{fault-small}

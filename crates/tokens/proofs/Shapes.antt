@@ -1,12 +1,12 @@
 -- What a lexeme can be, and what that says of a text's tokens.
 use mathlib.Core.Path.{_≡_, refl, sym, ap, _∙_, subst}
 use mathlib.Core.Bool.{Bool, true, false, _&&_, _||_, not, true≢false}
-use mathlib.Core.List.{List, [], _∷_, _++_, append-nil, map}
+use mathlib.Core.List.{List, [], _∷_, _++_}
 use Prim.Native.Nat.{ℕ, zero, suc, _+_, _-_, _≤_, _<_}
 use Prim.Native.String.{String}
 use native.Mathlib.Omega.{arith}
-use lib.Dec.{T, leb, ltb, eqb, leb→le}
-use lib.Seq.{length-take-le, drop-at, drop-append-add}
+use lib.Dec.{T, leb, ltb, eqb}
+use lib.Seq.{length-take-le, drop-append-add}
 use borrow.Author.Tests.{ltb-true, eqb-true, leb-true}
 use lib.ListN.{length, take, drop, length-append}
 use Rattle.tokens.specs.Text.{if_then_else_, bytes, same, begins, leading, letter, digit, nameByte, numberByte, blank, every, count}

@@ -1,5 +1,5 @@
 -- What spares the test for doubles its walks: a slot for each name, taken by those passed.
-use mathlib.Core.Bool.{Bool, true, false}
+use mathlib.Core.Bool.{Bool, false}
 use mathlib.Core.List.{List, [], _∷_}
 use Prim.Native.Nat.{ℕ, zero, suc, _+_, _*_, _%_}
 use Rattle.tokens.specs.Names.{member}
