@@ -23,7 +23,9 @@ same-length : tie.Need-same-length
 same-length c = search needs
 
 returns-2 : tie.Need-returns-2
-returns-2 c = λ t R m. leaf-written _ (rw (c .before .before .before .before .before .leaf2 .given .1) at m) (c .before .before .put .ensures)
+returns-2 c =
+    let leaf = c .before .before .before .before .before .leaf2 .given in
+    λ t R m. leaf-written (leaf .0 .1 .0) (rw (leaf .1) at m) (c .before .before .put .ensures)
 
 pub written-spec : {M : Type 1} → statement M
 written-spec =
