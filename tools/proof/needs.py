@@ -182,21 +182,31 @@ def skeletons(crate, scratch, functions, callees_of):
     return found
 
 
+def generated(crate, functions, scratch):
+    """Runs the check over a copy for the records of the functions: the folder that has them."""
+    copied(crate, functions, scratch)
+    # What this run checks is kept for those that follow, and for the check of the proof files that are made.
+    run(scratch, [crate])
+    said = run(scratch, [crate, '--generated', os.path.join(scratch, 'generated')])
+    top = os.path.join(scratch, 'generated', 'Rattle.%s.proofs' % crate, 'proofs')
+    if not all(os.path.exists(os.path.join(top, f, 'Tie.antt')) for f in functions):
+        stop('the check does not write what is known in %s; it ends:\n%s' % (crate, said[-2000:]))
+    return top
+
+
 def asked(crate, functions):
-    """Runs the check over a copy for the skeletons and the records of the functions."""
-    scratch = tempfile.mkdtemp(prefix='proof-')
-    try:
-        copied(crate, functions, scratch)
-        # What this run checks is kept for those that follow, and for the check of the proof files that are made.
-        run(scratch, [crate])
-        said = run(scratch, [crate, '--generated', os.path.join(scratch, 'generated')])
-        top = os.path.join(scratch, 'generated', 'Rattle.%s.proofs' % crate, 'proofs')
-        if not all(os.path.exists(os.path.join(top, f, 'Tie.antt')) for f in functions):
-            stop('the check does not write what is known in %s; it ends:\n%s' % (crate, said[-2000:]))
+    """The skeletons and the records of the functions."""
+    with tempfile.TemporaryDirectory(prefix='proof-') as scratch:
+        top = generated(crate, functions, scratch)
         found = skeletons(crate, scratch, functions, {f: callees(os.path.join(top, f)) for f in functions})
         return {f: {'members': members_of(os.path.join(top, f)), 'skeleton': found[f]} for f in functions}
-    finally:
-        shutil.rmtree(scratch)
+
+
+def recorded(crate, function):
+    """The records of a function that has no answers."""
+    print('%s: the check writes what is known in %s (minutes)' % (crate, function), file=sys.stderr, flush=True)
+    with tempfile.TemporaryDirectory(prefix='proof-') as scratch:
+        return members_of(os.path.join(generated(crate, [function], scratch), function))
 
 
 def needs(crate, functions):
