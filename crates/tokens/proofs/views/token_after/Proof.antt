@@ -33,8 +33,8 @@ use denote.Triple.Walked.{says, Stays, stay-none, stay-none-slice, walkOf, goes-
 use denote.Exit.{yes}
 use Rattle.tokens.specs.Views.{viewAt, moved, tokenAfter}
 use Rattle.tokens.specs.declared.scanning.Found.{Found}
-use Rattle.tokens.proofs.ViewOwns.{typed}
-use Rattle.tokens.proofs.ViewCalls.{sliceAs, OwnsSlice, Alive, makes, moves, tells}
+use Rattle.tokens.proofs.ViewOwns.{sliceAs, OwnsSlice, typed}
+use Rattle.tokens.proofs.ViewCalls.{Alive, makes, moves, tells}
 use Rattle.tokens.proofs.Walking.{arrives}
 use Rattle.tokens.proofs.scanning.Found as F
 use Rattle.tokens.proofs.scanning.Found.Laws as F′
