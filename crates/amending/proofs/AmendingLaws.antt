@@ -22,17 +22,20 @@ use Rattle.amending.proofs.AmendLaw.{replaced-noZero, tokens-amended, a
 
 -- ---- the statement, those before it and those behind it
 
-pub pick-split : {A : Type 0} (k : ℕ) (es : List A) (p : Pick A) → pick k es ≡ some p → es ≡ p .before ++ (p .one ∷ p .behind)
+pub pick-is : {A : Type 0} (k : ℕ) (es : List A) (p : Pick A) → pick k es ≡ some p → (es ≡ p .before ++ (p .one ∷ p .behind)) × (length (p .before) ≡ k)
 unfolding pick
-pick-split {A} k [] p h = absurd (let z : _≡_ {A = ℕ} 0 1 = cc in omega arith)
-pick-split {A} zero (e ∷ es) p h = let z : record { before = []; one = e; behind = es } ≡ p = cc in ap (λ (x : Pick A). x .before ++ (x .one ∷ x .behind)) z
-pick-split {A} (suc k) (e ∷ es) p h = go (pick k es) refl h (pick-split k es)
+pick-is {A} k [] p h = absurd (let z : _≡_ {A = ℕ} 0 1 = cc in omega arith)
+pick-is {A} zero (e ∷ es) p h =
+    let z : record { before = []; one = e; behind = es } ≡ p = cc in
+    (ap (λ (x : Pick A). x .before ++ (x .one ∷ x .behind)) z, sym (ap (λ (x : Pick A). length (x .before)) z))
+pick-is {A} (suc k) (e ∷ es) p h = go (pick k es) refl h (pick-is k es)
   where
-    go : (o : Option (Pick A)) → pick k es ≡ o → onto e o ≡ some p → ((q : Pick A) → pick k es ≡ some q → es ≡ q .before ++ (q .one ∷ q .behind)) → e ∷ es ≡ p .before ++ (p .one ∷ p .behind)
+    go : (o : Option (Pick A)) → pick k es ≡ o → onto e o ≡ some p → ((q : Pick A) → pick k es ≡ some q → (es ≡ q .before ++ (q .one ∷ q .behind)) × (length (q .before) ≡ k))
+        → (e ∷ es ≡ p .before ++ (p .one ∷ p .behind)) × (length (p .before) ≡ suc k)
     go none w v ih = absurd (let z : _≡_ {A = ℕ} 0 1 = cc in omega arith)
     go (some q) w v ih =
         let z : record { before = e ∷ q .before; one = q .one; behind = q .behind } ≡ p = cc in
-        ap {B = List A} (λ x. e ∷ x) (ih q w) ∙ ap (λ (x : Pick A). x .before ++ (x .one ∷ x .behind)) z
+        (ap {B = List A} (λ x. e ∷ x) (ih q w .0) ∙ ap (λ (x : Pick A). x .before ++ (x .one ∷ x .behind)) z, sym (ap (λ (x : Pick A). length (x .before)) z) ∙ ap suc (ih q w .1))
 
 -- ---- what is not over the rooms is within them
 
@@ -118,7 +121,7 @@ module _ (l : Lists) (R : Rooms) where
 
         go₁ : (o : Option (Pick Entry)) → pick k (st .entries) ≡ o → amendAt l R st n o ≡ done st′ → Good l R st′
         go₁ none e v = absurd (let y : _≡_ {A = ℕ} 0 1 = cc in omega arith)
-        go₁ (some p) e v = go₂ p (pick-split k (st .entries) p e) (noZero n) refl v
+        go₁ (some p) e v = go₂ p (pick-is k (st .entries) p e .0) (noZero n) refl v
 
     -- ANY NUMBER OF CALLS, refused ones among them, leave a script that reads as the statements that they leave
     pub amends-good : (cs : List (ℕ × List ℕ)) (st : State) → Good l R st → Good l R (after l R st cs)
@@ -149,7 +152,7 @@ module _ (l : Lists) (R : Rooms) where
         xs = amendedList (p .before) (p .one) (p .behind) (length n) ns
 
         at : st .entries ≡ p .before ++ (p .one ∷ p .behind)
-        at = pick-split k (st .entries) p e
+        at = pick-is k (st .entries) p e .0
 
         T-bool : (b : Bool) → T b → b ≡ true
         T-bool true q = refl

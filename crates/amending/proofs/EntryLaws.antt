@@ -12,7 +12,7 @@ use Rattle.grammar.specs.Words.{Row, rowsWords}
 use Rattle.amending.specs.Amending.{Pick, onto, pick}
 use Rattle.amending.specs.Lent.{sumRecords}
 use Rattle.amending.specs.Entries.{rowAt, rowsFrom, pickAt}
-use Rattle.amending.proofs.AmendingLaws.{pick-split}
+use Rattle.amending.proofs.AmendingLaws.{pick-is}
 
 -- ---- rows and words
 
@@ -81,4 +81,4 @@ pick-past (suc k) (suc n) d h = ap (onto (rowAt d 0)) (pick-past k n (drop entry
 
 -- the entries are those before it, it, and those behind it
 pub rows-split : (k n : ℕ) (d : List ℕ) → k < n → let p : Pick Row = pickAt k n d in rowsFrom n d ≡ p .before ++ (p .one ∷ p .behind)
-rows-split k n d h = pick-split k (rowsFrom n d) (pickAt k n d) (pick-here k n d h)
+rows-split k n d h = pick-is k (rowsFrom n d) (pickAt k n d) (pick-here k n d h) .0

@@ -1,8 +1,8 @@
 -- Laws of what is seen statement by statement: of memory that holds a state, of one of many that is replaced, and so of an accepted call.
 use mathlib.Core.Path.{_≡_, refl, sym, ap, _∙_, subst}
 use mathlib.Core.List.{List, [], _∷_, _++_, append-assoc, map, map-append}
-use mathlib.Core.Option.{Option, none, some}
-use Prim.Native.Nat.{ℕ, zero, suc, _+_, _-_, _*_, _<_}
+use mathlib.Core.Option.{some}
+use Prim.Native.Nat.{ℕ, suc, _+_, _-_, _*_, _<_}
 use native.Mathlib.Omega.{arith}
 use lib.ListN.{length, take, drop, length-append, length-map}
 use lib.Seq.{slice, take-at, drop-at, take-take, drop-append-add}
@@ -15,13 +15,13 @@ use Rattle.grammar.proofs.AmendBytes.{Cut, cut-at, Accepted, read-accepted}
 use Rattle.grammar.proofs.WordLaws.{records-length}
 use Rattle.reading.specs.declared.reading.Answer.{Answer}
 use Rattle.amending.specs.Amend.{between, amendedList}
-use Rattle.amending.specs.Amending.{State, Pick, onto, pick, Answer as Result, left}
+use Rattle.amending.specs.Amending.{State, Pick, pick, Answer as Result, left}
 use Rattle.amending.specs.Entries.{rowAt, pickAt}
 use Rattle.amending.specs.Memory.{Memory, roomsIn, Amends}
 use Rattle.amending.specs.States.{heldOf, Holds}
 use Rattle.amending.specs.Kept.{textsAt, recordsAt, textsIn, recordsIn, textsOf, recordsOf, exchanged, KeepsRecords, KeepsTexts, KeepsBytes}
 use Rattle.amending.specs.declared.held.Held.{Held}
-use Rattle.amending.proofs.AmendingLaws.{pick-split}
+use Rattle.amending.proofs.AmendingLaws.{pick-is}
 use Rattle.amending.proofs.EntryLaws.{pick-here}
 use Rattle.amending.proofs.Directory.{texts-append, texts-amended}
 use Rattle.amending.proofs.LentLaws.{rowPick, pickRow, pick-rows}
@@ -52,21 +52,9 @@ texts-count s (r ∷ rs) = ap suc (texts-count s rs)
 
 -- ---- one is replaced
 
-pub pick-count : {A : Type 0} (k : ℕ) (es : List A) (p : Pick A) → pick k es ≡ some p → length (p .before) ≡ k
-unfolding pick
-pick-count {A} k [] p h = absurd (let z : _≡_ {A = ℕ} 0 1 = cc in omega arith)
-pick-count {A} zero (e ∷ es) p h = let z : record { before = []; one = e; behind = es } ≡ p = cc in sym (ap (λ (x : Pick A). length (x .before)) z)
-pick-count {A} (suc k) (e ∷ es) p h = go (pick k es) refl h (pick-count k es)
-  where
-    go : (o : Option (Pick A)) → pick k es ≡ o → onto e o ≡ some p → ((q : Pick A) → pick k es ≡ some q → length (q .before) ≡ k) → length (p .before) ≡ suc k
-    go none w v ih = absurd (let z : _≡_ {A = ℕ} 0 1 = cc in omega arith)
-    go (some q) w v ih =
-        let z : record { before = e ∷ q .before; one = q .one; behind = q .behind } ≡ p = cc in
-        sym (ap (λ (x : Pick A). length (x .before)) z) ∙ ap suc (ih q w)
-
--- it is one of them
+-- the one that is picked is there
 pub pick-there : {A : Type 0} (k : ℕ) (es : List A) (p : Pick A) → pick k es ≡ some p → k < length es
-pick-there k es p h = omega (arith, pick-count k es p h, length-append (p .before) (p .one ∷ p .behind), ap length (pick-split k es p h))
+pick-there k es p h = let P = pick-is k es p h in omega (arith, P .1, length-append (p .before) (p .one ∷ p .behind), ap length (P .0))
 
 pub exchanged-at : {A : Type 0} (k : ℕ) (a : List A) (x : A) (b y : List A) → length a ≡ k → exchanged k y (a ++ (x ∷ b)) ≡ a ++ (y ++ b)
 exchanged-at k a x b y h =
@@ -104,10 +92,10 @@ module _ (l : Lists) {M M′ : Memory} {h : Held} {st : State} {k : ℕ} {n : Li
   p = D .picked
 
   split : st .entries ≡ p .before ++ (p .one ∷ p .behind)
-  split = pick-split k (st .entries) p (D .is-there)
+  split = pick-is k (st .entries) p (D .is-there) .0
 
   before : length (p .before) ≡ k
-  before = pick-count k (st .entries) p (D .is-there)
+  before = pick-is k (st .entries) p (D .is-there) .1
 
   there : k < h .statements
   there = omega (arith, pick-there k (st .entries) p (D .is-there), ap (λ (x : Held). x .statements) (H .counts), length-map (st .entries) rowOf)

@@ -20,7 +20,7 @@ use Rattle.amending.specs.Amend.{endsWell, replaced, between, amendedLis
 use Rattle.amending.specs.Amending.{State, Rooms, Pick, onto, pick, over, fitting, done, refusal, put, amendAt, amend, Good}
 use Rattle.amending.specs.Lent.{sumRecords, sumTokens, overRows, ascending, inOrder, movedRow, betweenRow, swappedRows, swapped, handed, unchanged, fittingLent, putLent, lentAt, amendLent, lentOf, given}
 use Rattle.reading.proofs.RowLaws.{size-some}
-use Rattle.amending.proofs.AmendingLaws.{pick-split, words-amended}
+use Rattle.amending.proofs.AmendingLaws.{pick-is, words-amended}
 use Rattle.amending.proofs.Directory.{InOrder, good-order}
 
 -- ---- counts
@@ -154,4 +154,4 @@ module _ (l : Lists) (R : Rooms) where
 
       go₁ : (o : Option (Pick Entry)) → pick k (st .entries) ≡ o → lentAt l R (lentOf st) n (pickRow o) ≡ given (amendAt l R st n o)
       go₁ none e = refl
-      go₁ (some p) e = go₂ p (pick-split k (st .entries) p e) (readScript l n) (noZero n)
+      go₁ (some p) e = go₂ p (pick-is k (st .entries) p e .0) (readScript l n) (noZero n)
