@@ -50,10 +50,11 @@ enum {
 };
 
 /*
- * The words of an answer. Lines and columns count from 1, and columns count bytes. An accepted call answers 0, 0, 1, 1
- * and the counts of the whole script. A refused one answers a ground and its place, which is in the script for
- * script_read and in the new text for script_amend, and then the counts: 0 for script_read, for script_amend those that
- * it was given.
+ * The words of an answer. Lines and columns count from 1. A column counts the characters of UTF-8: it is 1 more than the
+ * bytes before the place in its line that are no continuation bytes (0x80 to 0xBF), each byte judged alone. An accepted
+ * call answers 0, 0, 1, 1 and the counts of the whole script. A refused one answers a ground and its place, which is in
+ * the script for script_read and in the new text for script_amend, and then the counts: 0 for script_read, for
+ * script_amend those that it was given.
  */
 enum {
     ARCHIVE_NUMBER = 0, /* 0 accepted, else one of the grounds below */

@@ -17,7 +17,7 @@ pub const ALPHABETS: [Alphabet; 6] = [
         between: "",
         letters: &[
             "a", "1", ".", "\"", "#", "/", "\n", " ", "=", "*", "!", "<", "+", ";", "(", "$", "_",
-            "\0",
+            "é", "\0",
         ],
         whole: usize::MAX,
     },

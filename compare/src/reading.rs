@@ -51,10 +51,11 @@ fn judge(script: &str, room: Room, memory: &Memory, answer: Answer) -> Result<Sa
         return by_rule(memory, answer, refused(text, fault, &[0; 4]));
     }
     match verdict::verdict(script_of(text), &found.pieces)? {
-        Verdict::Refused(fault) => {
-            unchanged(memory, answer, refused(text, fault, &[0; 4]))?;
-            Ok(Same::AsRust(answer))
+        Verdict::Unlexed(fault, place) => {
+            same_place(answer, place)?;
+            as_rust(memory, answer, refused(text, fault, &[0; 4]))
         }
+        Verdict::Refused(fault) => as_rust(memory, answer, refused(text, fault, &[0; 4])),
         Verdict::Accepted(trees) => judge_accepted(text, room, memory, answer, &found, &trees),
     }
 }
@@ -106,6 +107,11 @@ fn no_earlier(text: &[u8], found: &Scan, deep: Fault) -> Result<(), String> {
     }
 }
 
+fn as_rust(memory: &Memory, answer: Answer, expected: Answer) -> Result<Same, String> {
+    unchanged(memory, answer, expected)?;
+    Ok(Same::AsRust(answer))
+}
+
 fn by_rule(memory: &Memory, answer: Answer, expected: Answer) -> Result<Same, String> {
     unchanged(memory, answer, expected)?;
     Ok(Same::ByRule(answer))
@@ -124,6 +130,17 @@ fn same_answer(answer: Answer, expected: Answer) -> Result<(), String> {
     } else {
         Err(format!(
             "the archive answers {answer:?}, expected {expected:?}"
+        ))
+    }
+}
+
+/// Line and column are those that the Rust's lexer tells.
+fn same_place(answer: Answer, place: [u32; 2]) -> Result<(), String> {
+    if answer[2..4] == place {
+        Ok(())
+    } else {
+        Err(format!(
+            "the archive answers {answer:?}, the Rust line and column {place:?}"
         ))
     }
 }

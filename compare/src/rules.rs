@@ -15,7 +15,8 @@ pub fn accepted(counts: [usize; 4]) -> Answer {
     [0, 0, 1, 1, bytes, statements, records, tokens]
 }
 
-/// The answer of a refused call: line and column count line feeds and bytes before.
+/// The answer of a refused call: line and column count line feeds and characters before. A UTF-8 continuation byte begins
+/// no character.
 pub fn refused(text: &[u8], fault: Fault, counts: &[u32]) -> Answer {
     let before = &text[..fault.byte];
     let lines = before.iter().filter(|byte| **byte == b'\n').count();
@@ -23,6 +24,7 @@ pub fn refused(text: &[u8], fault: Fault, counts: &[u32]) -> Answer {
         .iter()
         .rev()
         .take_while(|byte| **byte != b'\n')
+        .filter(|byte| !matches!(byte, 0x80..=0xBF))
         .count();
     [
         fault.ground,

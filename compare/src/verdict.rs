@@ -8,6 +8,9 @@ use oracle::{Date, Parser, QSError, Token, Tokenize};
 #[derive(Debug)]
 pub enum Verdict {
     Accepted(Vec<Tree>),
+    /// By the lexer, which tells line and column.
+    Unlexed(Fault, [u32; 2]),
+    /// By the parser.
     Refused(Fault),
 }
 
@@ -15,7 +18,7 @@ pub enum Verdict {
 pub fn verdict(script: &str, pieces: &[Piece]) -> Result<Verdict, String> {
     let tokens = match script.tokenize() {
         Ok(tokens) => tokens,
-        Err(error) => return lexical(script, &error).map(Verdict::Refused),
+        Err(error) => return lexical(script, &error),
     };
     same_tokens(script, pieces, &tokens)?;
     match Parser::new(tokens.clone()).parse() {
@@ -37,7 +40,7 @@ pub fn accepted(script: &str) -> Result<Vec<Tree>, String> {
 }
 
 /// The lexer's line and column count characters.
-fn lexical(script: &str, error: &QSError) -> Result<Fault, String> {
+fn lexical(script: &str, error: &QSError) -> Result<Verdict, String> {
     let QSError::ParsingErr(text) = error else {
         return Err(format!("an error of another kind: {error:?}"));
     };
@@ -60,7 +63,8 @@ fn lexical(script: &str, error: &QSError) -> Result<Fault, String> {
         .map(char::len_utf8)
         .sum();
     let byte = before + inside;
-    Ok(Fault { ground, byte })
+    let place = [line as u32, column as u32];
+    Ok(Verdict::Unlexed(Fault { ground, byte }, place))
 }
 
 /// The two numbers in `at line 1, column 2`.

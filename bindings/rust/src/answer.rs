@@ -28,7 +28,8 @@ pub struct Refusal {
     pub byte: u32,
     /// Its line, from 1.
     pub line: u32,
-    /// Its column, from 1, in bytes.
+    /// Its column, from 1, in characters: 1 more than the bytes before it in its line that are no UTF-8 continuation bytes
+    /// (0x80 to 0xBF).
     pub column: u32,
 }
 

@@ -95,15 +95,26 @@ fn check_says_the_counts() {
 fn check_points_at_the_place() {
     let folder = Folder::new("check_points_at_the_place");
     let token = "refused on ground 8: This token is not allowed here, or the text ends too early.";
-    let cases: [(&[u8], &str, &str); 5] = [
+    let cases: [(&[u8], &str, &str); 7] = [
         (b"x = 1;\ny = ;\n", "line 2, column 5, byte 11", "  2 | y = ;\n    |     ^\n"),
         // tabs stay tabs, so that both lines are as wide
         (b"\tx =\t;", "line 1, column 6, byte 5", "  1 | \tx =\t;\n    | \t   \t^\n"),
-        // columns are bytes, and the caret is under the character
+        // columns are characters, and the caret is under the one that is meant
+        (
+            "fund = \"Société Générale\" ) ;".as_bytes(),
+            "line 1, column 27, byte 30",
+            "  1 | fund = \"Société Générale\" ) ;\n    |                           ^\n",
+        ),
+        (
+            "# Crédit Mutuel, Àlava\nfund = ;".as_bytes(),
+            "line 2, column 8, byte 32",
+            "  2 | fund = ;\n    |        ^\n",
+        ),
+        // a wide character and a mark on a letter are a column each, and take two places and none in a terminal
         ("f(\"é日e\u{301}\" ;".as_bytes(), "line 1, column 2, byte 1", "  1 | f(\"é日e\u{301}\" ;\n    |  ^\n"),
         (
             "\"é日e\u{301}\" ) ;\r\n".as_bytes(),
-            "line 1, column 12, byte 11",
+            "line 1, column 8, byte 11",
             "  1 | \"é日e\u{301}\" ) ;\n    |        ^\n",
         ),
         (b"x = 1", "line 1, column 6, byte 5", "  1 | x = 1\n    |      ^\n"),
@@ -121,6 +132,16 @@ fn a_terminal_is_not_handed_control_characters() {
     folder.put("note", b"x = \"\x1B[2J\xFF\" $;");
     let answer = folder.desk(&["check", "note"]);
     assert!(answer.said.ends_with("  1 | x = \"\u{241B}[2J\u{FFFD}\" $;\n    |             ^\n"), "{}", answer.said);
+}
+
+#[test]
+fn the_caret_follows_what_is_shown() {
+    let folder = Folder::new("the_caret_follows_what_is_shown");
+    // a continuation byte without a character is no column, though a terminal needs a place to show that it is there
+    folder.put("note", b"\"\x80\xBF\" $;");
+    let answer = folder.desk(&["check", "note"]);
+    let expected = "note: line 1, column 4, byte 5:\n  1 | \"\u{FFFD}\u{FFFD}\" $;\n    |      ^\n";
+    assert!(answer.said.ends_with(expected), "{}", answer.said);
 }
 
 #[test]
@@ -246,6 +267,13 @@ fn a_refused_amendment_leaves_the_file() {
 new: line 2, column 8, byte 17:
   2 | rate = ;
     |        ^
+";
+    assert_eq!(folder.desk(&["amend", "--write", "note", "1", "new"]), says(1, expected));
+    folder.put("new", "\"Société\" ;\n\"Générale\" % 2;".as_bytes());
+    let expected = "note, statement 1: refused on ground 3: No token begins with this character.
+new: line 2, column 12, byte 27:
+  2 | \"Générale\" % 2;
+    |            ^
 ";
     assert_eq!(folder.desk(&["amend", "--write", "note", "1", "new"]), says(1, expected));
     let expected = "note, statement 2: refused on ground 17: There is no statement with this number.

@@ -67,7 +67,7 @@ impl Replay {
                 self.part(words(record), number(start), which, (source, number(place), number(length)));
                 tally.parts += 1;
             }
-            ["end"] => {}
+            ["step", _] | ["end"] => {}
             _ => panic!("this line is not in the format"),
         }
     }

@@ -13,6 +13,9 @@ use Rattle.grammar.specs.Words.{Row}
 use Rattle.reading.specs.Computing.{computing}
 use Rattle.amending.specs.Amend.{endsWell, replaced, amendedList}
 use Rattle.amending.specs.Amending.{State, Rooms, Answer, done, refusal, pick, over, fitting, put, amendAt, amend, after}
+use Rattle.amending.specs.Entries.{rowsFrom}
+use Rattle.amending.specs.Memory.{memory, within, amendIn, answered}
+use Rattle.amending.specs.declared.held.Held.{Held}
 use Rattle.amending.specs.Lent.{Lent, overRows, ascending, inOrder, swapped, Handed, handed, unchanged, fittingLent, putLent, lentAt, amendLent}
 
 usd : Lists
@@ -108,6 +111,20 @@ orders : (call (lent (row 0 2 1 2 ∷ []) one 2) ≡ (0, bytes "y;")) × (call (
     × (call (lent (row 0 2 1 2 ∷ []) [] 2) ≡ (20, bytes "x;")) × (call (lent [] one 0) ≡ (20, bytes "x;")) × (call (lent [] [] 0) ≡ (17, bytes "x;"))
 unfolding computing usd rooms row lent one handedOf call amendLent lentAt putLent fittingLent swapped inOrder ascending overRows pick endsWell
 orders = (refl, refl, refl, refl, refl, refl, refl, refl, refl, refl, refl, refl)
+
+-- ---- the place of a refusal
+
+-- number, byte, line and column of a call that puts a text in the place of `x;`
+placed : List ℕ → List ℕ
+placed n =
+    let h : Held = record { bytes = 2; statements = 1; records = 1; tokens = 2 } in
+    let a = answered h n (amendIn usd (memory (bytes "x;") one (0 ∷ 2 ∷ 1 ∷ 2 ∷ [])) h 0 n) in
+    a .number ∷ a .byte ∷ a .line ∷ a .column ∷ []
+
+-- it is a place in the text, and columns count its characters: `"éè"$`; `#é`, a line feed, `"è"; `
+places : (placed (34 ∷ 0xC3 ∷ 0xA9 ∷ 0xC3 ∷ 0xA8 ∷ 34 ∷ 36 ∷ []) ≡ 3 ∷ 6 ∷ 1 ∷ 5 ∷ []) × (placed (35 ∷ 0xC3 ∷ 0xA9 ∷ 10 ∷ 34 ∷ 0xC3 ∷ 0xA8 ∷ 34 ∷ 59 ∷ 32 ∷ []) ≡ 18 ∷ 10 ∷ 2 ∷ 6 ∷ [])
+unfolding computing usd one placed endsWell pick overRows ascending inOrder swapped fittingLent putLent lentAt amendLent rowsFrom within amendIn
+places = (refl, refl)
 
 -- ---- an instance of the law
 

@@ -279,7 +279,7 @@ listing-directory : directoryOf (entries (readScript own (bytes "x pays;"))) ≡
 unfolding computing own entries
 listing-directory = refl
 
--- line is 1 plus the line feeds before, column 1 plus the bytes since the last
+-- line is 1 plus the line feeds before, column 1 plus the characters since the last
 places : line (bytes "a\nbc\nd") 4 ∷ column (bytes "a\nbc\nd") 4 ∷ line (bytes "a\nbc\nd") 5 ∷ column (bytes "a\nbc\nd") 5 ∷ [] ≡ 2 ∷ 3 ∷ 3 ∷ 1 ∷ []
 unfolding computing
 places = refl

@@ -1,7 +1,7 @@
 -- What no function can be that meets the contract of `read`.
 use mathlib.Core.Path.{_≡_, sym, ap, _∙_}
 use mathlib.Core.List.{List, [], _∷_, _++_}
-use Prim.Native.Nat.{ℕ}
+use Prim.Native.Nat.{ℕ, suc}
 use native.Mathlib.Omega.{arith}
 use lib.ListN.{getD}
 use Rattle.tokens.specs.Text.{bytes}
@@ -65,3 +65,12 @@ module _ (f : Call) (m : Reads f) where
       let four : 4 ≡ t 4 1 1 = sym (ap (λ (r : Answer). r .tokens) p) ∙ h x ∙ ap (λ (r : Answer). t (r .bytes) (r .statements) (r .records)) p in
       let two : 2 ≡ t 4 1 1 = sym (ap (λ (r : Answer). r .tokens) q) ∙ h y ∙ ap (λ (r : Answer). t (r .bytes) (r .statements) (r .records)) q in
       absurd (omega (arith, four, two))
+
+  -- one whose columns count bytes, if only in the first line
+  pub columns-not-bytes : ((bs : List ℕ) → f usd bs two two .0 .line ≡ 1 → f usd bs two two .0 .column ≡ suc (f usd bs two two .0 .byte)) → ⊥
+  unfolding computing usd two
+  columns-not-bytes h =
+      let x : List ℕ = 34 ∷ 0xC3 ∷ 0xA9 ∷ 34 ∷ 36 ∷ [] in
+      let p = m usd x two two .answer in
+      let e : _≡_ {A = ℕ} 4 5 = sym (ap (λ (r : Answer). r .column) p) ∙ h x (ap (λ (r : Answer). r .line) p) ∙ ap (λ (r : Answer). suc (r .byte)) p in
+      absurd (omega arith)

@@ -1,7 +1,7 @@
 -- Counts, equal bytes, one byte at a time, and where a script ends.
 use mathlib.Core.Path.{_≡_, refl, sym, ap}
 use mathlib.Core.Bool.{Bool, true, false}
-use mathlib.Core.List.{List, [], _∷_}
+use mathlib.Core.List.{List, [], _∷_, _++_}
 use Prim.Native.Nat.{ℕ, suc, _+_, _≤_, _<_}
 use native.Mathlib.Numerals.{add-one}
 use native.Mathlib.Omega.{arith}
@@ -26,6 +26,11 @@ count-few f (a ∷ l) = go (f a) (count-few f l)
     go : (t : Bool) → count f l ≤ length l → (if t then 1 else 0) + count f l ≤ suc (length l)
     go true h = omega arith
     go false h = omega arith
+
+pub count-join : {A : Type 0} (f : A → Bool) (xs ys : List A) → count f (xs ++ ys) ≡ count f xs + count f ys
+unfolding count
+count-join f [] ys = omega arith
+count-join f (a ∷ xs) ys = omega (arith, count-join f xs ys)
 
 -- ---- equal bytes
 

@@ -395,7 +395,7 @@ zero-early = refl
 
 -- ---- line and column
 
--- line feeds in strings and comments count, and columns count bytes
+-- line feeds in strings and comments count
 abbrev spread : List ℕ
 spread = bytes "\"a\nb\"\n $"
 
@@ -424,3 +424,33 @@ place-end = refl
 place-none : placeOf [] 0 ≡ record { line = 1; column = 1 }
 unfolding computing
 place-none = refl
+
+-- ---- columns count characters
+
+-- `"éè"$`: the byte 6 is the fifth character
+accents : List ℕ
+accents = 34 ∷ 0xC3 ∷ 0xA9 ∷ 0xC3 ∷ 0xA8 ∷ 34 ∷ 36 ∷ []
+
+place-accents : (tokens accents ≡ refused 3 6) × (placeOf accents 6 ≡ record { line = 1; column = 5 })
+unfolding computing accents
+place-accents = (refl, refl)
+
+-- `# é`, a line feed, `$`: what stands in the line before plays no part
+place-anew : placeOf (35 ∷ 32 ∷ 0xC3 ∷ 0xA9 ∷ 10 ∷ 36 ∷ []) 5 ≡ record { line = 2; column = 1 }
+unfolding computing
+place-anew = refl
+
+-- the column of a `$` behind one byte
+behind : ℕ → ℕ
+unfolding computing
+behind b = placeOf (b ∷ 36 ∷ []) 1 .column
+
+-- bytes are judged one by one: 0x80 to 0xBF count nowhere, alone or not, and all others do, 0xC0 to 0xFF too
+place-alone : map behind (0x7F ∷ 0x80 ∷ 0x81 ∷ 0xBE ∷ 0xBF ∷ 0xC0 ∷ 0xC1 ∷ 0xFE ∷ 0xFF ∷ []) ≡ 2 ∷ 1 ∷ 1 ∷ 1 ∷ 1 ∷ 2 ∷ 2 ∷ 2 ∷ 2 ∷ []
+unfolding computing behind
+place-alone = refl
+
+-- nor is a place before itself: a script that is 0x80 alone is refused at column 1
+place-itself : (tokens (0x80 ∷ []) ≡ refused 3 0) × (placeOf (0x80 ∷ []) 0 ≡ record { line = 1; column = 1 })
+unfolding computing
+place-itself = (refl, refl)

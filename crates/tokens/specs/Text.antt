@@ -42,6 +42,10 @@ numberByte b = digit b || eqb b 46
 abbrev pub blank : ℕ → Bool
 blank b = eqb b 9 || within 11 13 b || eqb b 32
 
+-- UTF-8 continuation bytes are 0x80 to 0xBF
+abbrev pub continuation : ℕ → Bool
+continuation b = within 0x80 0xBF b
+
 -- how many bytes at the start pass the test
 unfoldable pub leading : (ℕ → Bool) → List ℕ → ℕ
 leading f [] = 0

@@ -3,7 +3,7 @@ use crate::cursor::Cursor;
 ghost use mathlib.Core.Path.{_≡_};
 ghost use Prim.Native.Nat.{_+_};
 ghost use lib.ListN.{drop};
-ghost use Rattle.tokens.specs.Text.{within, digit, capital, letter, nameByte, numberByte, blank, leading, other, same};
+ghost use Rattle.tokens.specs.Text.{within, digit, capital, letter, nameByte, numberByte, blank, continuation, leading, other, same};
 ghost use Rattle.tokens.specs.Lexing.{scriptEnd};
 
 // Where a script ends, or a refusal: its number and its byte.
@@ -54,6 +54,13 @@ pub fn is_blank(b: u8) -> bool
     ensures { λ r. ⌜ r ≡ blank b ⌝ }
 {
     b == 9 || (is_within(11, 13, b) || b == 32)
+}
+
+// A byte that goes on with a character of UTF-8, so that it begins none.
+pub fn is_continuation(b: u8) -> bool
+    ensures { λ r. ⌜ r ≡ continuation b ⌝ }
+{
+    is_within(0x80, 0xBF, b)
 }
 
 // The first place at or after `at` where the byte `b` stands, or else the end.

@@ -72,5 +72,8 @@ pub fn kind_of(word: &[u8]) -> usize {
     if equal(word, b"define") {
         return DEFINE;
     }
+    if equal(word, b"step") {
+        return NOTHING;
+    }
     memory_kind(word)
 }

@@ -26,7 +26,7 @@ pub fn tell(what: &str, source: &Source, refusal: Refusal, listed: &Listed, out:
     if ground.has_place() {
         let name = &source.name;
         writeln!(out, "{name}: line {line}, column {column}, byte {byte}:")?;
-        let shown = pointed(&source.bytes, byte as usize, line, column as usize);
+        let shown = pointed(&source.bytes, byte as usize, line);
         out.write_all(shown.as_bytes())?;
     }
     match ground {

@@ -21,10 +21,10 @@ pub fn quoted(bytes: &[u8]) -> String {
     text.split(|&byte| byte == b'\n').map(|line| format!("  | {}\n", visible(without_return(line)))).collect()
 }
 
-/// The line of a text that has the byte `at`, which is the line's `column`, from 1; and below it a caret under that byte.
-/// `line` is the line's number. Of a long line only what is near the place is shown.
-pub fn pointed(text: &[u8], at: usize, line: u32, column: usize) -> String {
-    let start = at + 1 - column;
+/// The line of a text that has the byte `at`, and below it a caret under the character that begins there. `line` is the
+/// line's number. Of a long line only what is near the place is shown.
+pub fn pointed(text: &[u8], at: usize, line: u32) -> String {
+    let start = text[..at].iter().rposition(|&byte| byte == b'\n').map_or(0, |feed| feed + 1);
     let end = text[at..].iter().position(|&byte| byte == b'\n');
     let end = end.map_or(text.len(), |length| at + length);
     let before = cut_before(visible(&text[start..at]));
@@ -69,8 +69,9 @@ fn shown(c: char) -> char {
     }
 }
 
-/// A blank that takes as many columns as a character: a tab is its own, marks on the letter before take none, and wide
-/// characters take two. Both are told by their blocks, which is right for nearly all of them.
+/// A blank that takes as much room in a line as a character: a tab is its own, marks on the letter before take none, and
+/// wide characters take two. Both are told by their blocks, which is right for nearly all of them. A refusal's column knows
+/// nothing of this: there each of them is one character.
 fn blank_as_wide(c: char) -> &'static str {
     match c {
         '\t' => "\t",
