@@ -3,7 +3,7 @@
 mod common;
 
 use common::{note, refusal, tree_of, LISTS};
-use gorembiin::{Counts, Date, Fields, Ground, Kind, Lists, Note, Place, Record};
+use gorembiin::{Counts, Date, Fields, Ground, Kind, Lists, Note, Place, Record, Refusal};
 
 #[test]
 fn powers_group_left_and_a_minus_belongs_to_its_number() {
@@ -77,6 +77,25 @@ fn refusals_have_their_ground_and_place() {
     ];
     for (script, expected) in cases {
         assert_eq!(Note::read(script.as_bytes(), LISTS).unwrap_err(), expected, "{script}");
+    }
+}
+
+#[test]
+fn columns_count_characters() {
+    let cases: [(&[u8], Refusal); 6] = [
+        ("\"éè\"$".as_bytes(), refusal(Ground::Character, 6, 1, 5)),
+        ("# Crédit\n\"日本\" ) ;".as_bytes(), refusal(Ground::Token, 19, 2, 6)),
+        ("x = \"é\"".as_bytes(), refusal(Ground::Token, 8, 1, 8)),
+        // bytes are judged one by one: continuation bytes count nowhere, and the first bytes of characters do
+        (b"\x80", refusal(Ground::Character, 0, 1, 1)),
+        (b"\"\x80\xBF\"$", refusal(Ground::Character, 4, 1, 3)),
+        (b"\"\x7F\xC0\xFF\"$", refusal(Ground::Character, 5, 1, 6)),
+    ];
+    for (script, expected) in cases {
+        assert_eq!(Note::read(script, LISTS).unwrap_err(), expected, "{}", String::from_utf8_lossy(script));
+        // the place in a new text is told likewise, whatever stands before the statement in the script
+        let mut note = note("\"é\"; a;");
+        assert_eq!(note.amend(1, script).unwrap_err(), expected, "{}", String::from_utf8_lossy(script));
     }
 }
 
