@@ -1,4 +1,4 @@
--- A word is told by its key: what a table has for a word's bytes it has for their number.
+-- A word is told by its key: what a table has for a word's bytes it has for their number. A keyword is told by its length and its bytes.
 use mathlib.Core.Path.{_≡_, refl, sym, ap, _∙_}
 use mathlib.Core.Bool.{Bool, true, false, not, true≢false}
 use mathlib.Core.List.{List, [], _∷_, _++_}
@@ -8,7 +8,7 @@ use native.Mathlib.Nat.{add-zero, pow-suc, pow-le-pow-right}
 use native.Mathlib.Numerals.{add-one}
 use native.Mathlib.Omega.{arith}
 use lib.Dec.{T, leb, ltb, eqb}
-use borrow.Author.Tests.{eq-eqb, ne-eqb, eqb-true, eqb-false, lt-ltb, ltb-true, ltb-false, leb-true, leb-false, lt-leb}
+use borrow.Author.Tests.{eq-eqb, ne-eqb, eqb-true, eqb-false, lt-ltb, ltb-true, ltb-false, leb-false}
 use lib.ListN.{length, getD, take, drop, length-take, length-drop, drop-of-length-le, List·getD-eq-default}
 use lib.Seq.{drop-cons, getD-take, getD-drop}
 use Rattle.tokens.specs.Text.{if_then_else_, bytes, same, begins, every}
@@ -179,18 +179,60 @@ none-of f g es h no-such = go (eqb ((entry f es) .1) 99) refl
     go true q = eqb-true _ 99 q
     go false q = absurd (no-such (entry-found f es q) (entry-every g f es h q))
 
+-- ---- words that a table does not have
+
+unlike : (v w : List ℕ) → (v ≡ w → ⊥) → same v w ≡ false
+unlike v w h = go (same v w) refl
+  where
+    go : (t : Bool) → same v w ≡ t → t ≡ false
+    go true e = absurd (h (same-eq v w e))
+    go false e = refl
+
+-- a byte tells that a word is not s
+module _ (s : String) (w : List ℕ) (i : ℕ) where
+  pub unlike-at : (getD w i 0 ≡ getD (bytes s) i 0 → ⊥) → same (bytes s) w ≡ false
+  unlike-at h = unlike (bytes s) w (λ e. h (ap (λ (v : List ℕ). getD v i 0) (sym e)))
+
+  pub unlike-byte : eqb (getD w i 0) (getD (bytes s) i 0) ≡ false → same (bytes s) w ≡ false
+  unlike-byte q = unlike-at (eqb-false _ _ q)
+
+-- the words of a table that have n bytes
+abbrev pub sized : ℕ → List (String × ℕ) → List (String × ℕ)
+sized n [] = []
+sized n (e ∷ es) = if eqb (length (bytes (e .0))) n then e ∷ sized n es else sized n es
+
+module _ (w : List ℕ) where
+  -- w is none of a table's words
+  abbrev pub None : List (String × ℕ) → Type 0
+  None [] = Unit {0}
+  None (e ∷ es) = (same (bytes (e .0)) w ≡ false) × None es
+
+  -- of the others its length tells
+  none-sized : (es : List (String × ℕ)) → None (sized (length w) es) → None es
+  none-sized [] h = h
+  none-sized (e ∷ es) h = go (eqb (length (bytes (e .0))) (length w)) refl h (none-sized es)
+    where
+      go : (t : Bool) → eqb (length (bytes (e .0))) (length w) ≡ t → None (if t then e ∷ sized (length w) es else sized (length w) es)
+          → (None (sized (length w) es) → None es) → None (e ∷ es)
+      go true q g ih = (g .0, ih (g .1))
+      go false q g ih = (unlike (bytes (e .0)) w (λ p. eqb-false _ _ q (ap length p)), ih g)
+
+  none-entry : (es : List (String × ℕ)) → None es → (entry (λ s. same (bytes s) w) es) .1 ≡ 99
+  unfolding entry
+  none-entry [] h = refl
+  none-entry (e ∷ es) h = rw (h .0, entry) (none-entry es (h .1))
+
+  none-of-size : (es : List (String × ℕ)) → None (sized (length w) es) → (entry (λ s. same (bytes s) w) es) .1 ≡ 99
+  none-of-size es h = none-entry es (none-sized es h)
+
 -- ---- keywords
 
-abbrev short : String × ℕ → Bool
-short e = leb (length (bytes (e .0))) 6
-
-long-none : (w : List ℕ) → 6 < length w → (entry (λ s. same (bytes s) w) keywords) .1 ≡ 99
-unfolding every bytes
-long-none w h =
-    none-of (λ s. same (bytes s) w) short keywords tt
-    (λ p q. let e : bytes ((entry (λ s. same (bytes s) w) keywords) .0) ≡ w = same-eq _ w p in
-    let l : length (bytes ((entry (λ s. same (bytes s) w) keywords) .0)) ≤ 6 = leb-true _ 6 q in
-    omega (arith, ap length e))
+-- no keyword is shorter than two bytes or longer than five
+other-none : (w : List ℕ) → (length w ≡ 2 → ⊥) → (length w ≡ 3 → ⊥) → (length w ≡ 4 → ⊥) → (length w ≡ 5 → ⊥) → (entry (λ s. same (bytes s) w) keywords) .1 ≡ 99
+unfolding bytes
+other-none w two three four five =
+    let n = length w in
+    none-of-size w keywords (rw (ne-eqb 2 n (λ e. two (sym e)), ne-eqb 3 n (λ e. three (sym e)), ne-eqb 4 n (λ e. four (sym e)), ne-eqb 5 n (λ e. five (sym e))) tt)
 
 no-key : keywordBy 0 ≡ 1
 unfolding keywordBy lookup keyed pack bytes
@@ -209,29 +251,42 @@ key-code : (w : List ℕ) → T (every small w) → (entry (λ s. same (bytes s)
 unfolding every bytes
 key-code w h = entry-keyed pack (every small) (pack w) w (pack-agrees w h) keywords tt
 
--- the code of a key that is none of the keywords'
-pub keyword-rest : (k : ℕ) → Rest (Unit {0}) k (keyed pack keywords) → 1 ≡ keywordBy k
-unfolding keywordBy
-keyword-rest k h = by-code 99 (lookup 99 k (keyed pack keywords)) (lookup-rest 99 k (keyed pack keywords) h)
-
--- a word without a key is none
-pub keyword-long : (w : List ℕ) → 6 < length w → 1 ≡ keywordBy (keyOf w)
+-- the code that the table has for a word is what the word's key tells
+keyword-code : (w : List ℕ) → T (every small w) → (k : ℕ) → (entry (λ s. same (bytes s) w) keywords) .1 ≡ k
+    → _≡_ {A = ℕ} (if eqb k 99 then 1 else k) (keywordBy (keyOf w))
 unfolding keyOf
-keyword-long w h = rw (lt-leb (length w) 6 h) (sym no-key)
+keyword-code w h k q = go (leb (length w) 6) refl
+  where
+    go : (t : Bool) → leb (length w) 6 ≡ t → _≡_ {A = ℕ} (if eqb k 99 then 1 else k) (keywordBy (if t then pack w else 0))
+    go true e = unfold keywordBy in by-code k (lookup 99 (pack w) (keyed pack keywords)) (sym q ∙ key-code w h)
+    go false e =
+        let l : 6 < length w = leb-false (length w) 6 e in
+        by-code k 99 (sym q ∙ other-none w (λ p. omega arith) (λ p. omega arith) (λ p. omega arith) (λ p. omega arith)) ∙ sym no-key
 
 pub keyword-is : (w : List ℕ) (n : ℕ) → T (every small w) → word w n ≡ piece (keywordBy (keyOf w)) n
-unfolding word keyOf
-keyword-is w n h = go (leb (length w) 6) refl
-  where
-    K : ℕ
-    K = (entry (λ s. same (bytes s) w) keywords) .1
+unfolding word
+keyword-is w n h = ap (λ (c : ℕ). piece c n) (keyword-code w h ((entry (λ s. same (bytes s) w) keywords) .1) refl)
 
-    short-key : _≡_ {A = ℕ} (if eqb K 99 then 1 else K) (keywordBy (pack w))
-    short-key = unfold keywordBy in by-code K (lookup 99 (pack w) (keyed pack keywords)) (key-code w h)
+-- a word that is none of the keywords of its length is a name
+pub keyword-none : (w : List ℕ) → Bytes w → (n : ℕ) → length w ≡ n → None w (sized n keywords) → 1 ≡ keywordBy (keyOf w)
+keyword-none w h n l g = keyword-code w (smalls w h) 99 (none-of-size w keywords (rw l g))
 
-    go : (t : Bool) → leb (length w) 6 ≡ t → piece (if eqb K 99 then 1 else K) n ≡ piece (keywordBy (if t then pack w else 0)) n
-    go true e = ap (λ (c : ℕ). piece c n) short-key
-    go false e = ap (λ (c : ℕ). piece c n) (by-code K 99 (long-none w (leb-false (length w) 6 e)) ∙ sym no-key)
+-- and so is one of a length that no keyword has
+pub keyword-other : (w : List ℕ) → Bytes w → (length w ≡ 2 → ⊥) → (length w ≡ 3 → ⊥) → (length w ≡ 4 → ⊥) → (length w ≡ 5 → ⊥) → 1 ≡ keywordBy (keyOf w)
+keyword-other w h two three four five = keyword-code w (smalls w h) 99 (other-none w two three four five)
+
+-- the bytes of w from i on are those of v
+abbrev pub Spelled : ℕ → List ℕ → List ℕ → Type 0
+Spelled i [] w = Unit {0}
+Spelled i (b ∷ v) w = (getD w i 0 ≡ b) × Spelled (suc i) v w
+
+spelled-from : (i : ℕ) (v w : List ℕ) → length w ≡ i + length v → Spelled i v w → drop i w ≡ v
+spelled-from i [] w l h = drop-of-length-le w {i = i} (omega arith)
+spelled-from i (b ∷ v) w l h = drop-cons w i 0 (omega arith) ∙ (λ j. h .0 j ∷ spelled-from (suc i) v w (omega arith) (h .1) j)
+
+-- a word that is spelled as s is what s is
+pub keyword-spelled : (s : String) (w : List ℕ) → length w ≡ length (bytes s) → Spelled 0 (bytes s) w → keywordBy (keyOf (bytes s)) ≡ keywordBy (keyOf w)
+keyword-spelled s w l h = ap (λ (v : List ℕ). keywordBy (keyOf v)) (sym (spelled-from 0 (bytes s) w (omega arith) h))
 
 -- ---- signs
 

@@ -99,6 +99,16 @@ names : every judged
 unfolding judged
 names = refl
 
+-- the words that have an x in place of one of their bytes
+near : List ℕ → List (List ℕ)
+near [] = []
+near (b ∷ bs) = (120 ∷ bs) ∷ map (λ w. b ∷ w) (near bs)
+
+-- no keyword is told by all of its bytes but one
+near-keywords : every (λ (e : String × ℕ). every (λ w. holds (tokens w) (reads "name End")) (near (bytes (e .0)))) keywords ≡ true
+unfolding computing near holds
+near-keywords = refl
+
 -- ---- strings
 
 -- no escapes; not closed is said of the opening quote

@@ -1,4 +1,4 @@
--- Short words as numbers, by which the code tells keywords and signs.
+-- Short words as numbers, by which contracts tell keywords and signs.
 use mathlib.Core.Bool.{true, false}
 use mathlib.Core.List.{List, [], _∷_}
 use Prim.Native.Nat.{ℕ, _+_, _*_}

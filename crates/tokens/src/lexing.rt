@@ -1,7 +1,6 @@
 // What stands at a place of a text.
 use crate::codes::EOF;
 use crate::codes::FAULT;
-use crate::codes::NAME;
 use crate::codes::NEWLINE;
 use crate::codes::NONE;
 use crate::codes::NUMBER;
@@ -13,8 +12,6 @@ use crate::text::is_digit;
 use crate::text::is_letter;
 use crate::text::is_name_byte;
 use crate::text::is_number_byte;
-use crate::words::LONGEST_KEY;
-use crate::words::key_of;
 use crate::words::keyword;
 use crate::words::lone_sign;
 use crate::words::pair_key;
@@ -125,14 +122,7 @@ fn word_at(s: &[u8], at: usize) -> Mark
     ensures { λ r. ⌜ r ≡ markOf at (wordAt (now (s .entry)) at) ⌝ }
 {
     let end = name_end(s, at + 1);
-    if LONGEST_KEY < end - at {
-        return Mark {
-            start: at,
-            end,
-            code: NAME,
-        };
-    }
-    let code = keyword(key_of(&s[at..end]));
+    let code = keyword(&s[at..end]);
     Mark {
         start: at,
         end,

@@ -1,4 +1,4 @@
-// Keywords and signs, told by the number that their bytes make.
+// Keywords, told by their length and then by their bytes; signs and names of calls, told by the number that their bytes make.
 use crate::codes::AND;
 use crate::codes::ASSIGN;
 use crate::codes::CLOSE_BRACKET;
@@ -41,10 +41,11 @@ use crate::codes::THEN;
 use crate::codes::TRUE;
 ghost use mathlib.Core.Path.{_≡_};
 ghost use Prim.Native.Nat.{_+_, _*_};
+ghost use lib.ListN.{length};
 ghost use Rattle.tokens.specs.Keys.{keyOf, keywordBy, pairBy, loneBy};
 
 // A part longer than this has no key.
-pub const LONGEST_KEY: usize = 6;
+const LONGEST_KEY: usize = 6;
 
 // The bytes of a short part as one number, the first lowest, with a one above the last. 0 where the part is longer.
 pub fn key_of(w: &[u8]) -> u64
@@ -68,24 +69,101 @@ pub fn pair_key(b: u8, next: u8) -> u32
     b as u32 + 256 * (next as u32 + 256)
 }
 
-// The code of the keyword that a key packs; that of a name where there is none.
-pub fn keyword(key: u64) -> u8
-    ensures { λ r. ⌜ r ≡ keywordBy key ⌝ }
+// `if`, `or`, `on`, `in`.
+fn keyword_of_two(w: &[u8]) -> u8
+    requires { ⌜ length (now w) ≡ 2 ⌝ }
+    ensures { λ r. ⌜ r ≡ keywordBy (keyOf (now (w .entry))) ⌝ }
 {
-    match key {
-        0x1_66_69 => IF,
-        0x1_65_73_6c_65 => ELSE,
-        0x1_64_6e_61 => AND,
-        0x1_72_6f => OR,
-        0x1_72_6f_66 => FOR,
-        0x1_65_75_72_74 => TRUE,
-        0x1_65_73_6c_61_66 => FALSE,
-        0x1_73_79_61_70 => PAYS,
-        0x1_6e_6f => ON,
-        0x1_6e_69 => IN,
-        0x1_6e_65_68_74 => THEN,
-        0x1_64_6e_65 => END,
-        0x1_74_6f_6e => NOT,
+    let a = w[0];
+    let b = w[1];
+    if a == b'i' && b == b'f' {
+        return IF;
+    }
+    if a == b'o' && b == b'r' {
+        return OR;
+    }
+    if a == b'o' && b == b'n' {
+        return ON;
+    }
+    if a == b'i' && b == b'n' {
+        return IN;
+    }
+    NAME
+}
+
+// `and`, `for`, `end`, `not`.
+fn keyword_of_three(w: &[u8]) -> u8
+    requires { ⌜ length (now w) ≡ 3 ⌝ }
+    ensures { λ r. ⌜ r ≡ keywordBy (keyOf (now (w .entry))) ⌝ }
+{
+    let a = w[0];
+    let b = w[1];
+    let c = w[2];
+    if a == b'a' && b == b'n' && c == b'd' {
+        return AND;
+    }
+    if a == b'f' && b == b'o' && c == b'r' {
+        return FOR;
+    }
+    if a == b'e' && b == b'n' && c == b'd' {
+        return END;
+    }
+    if a == b'n' && b == b'o' && c == b't' {
+        return NOT;
+    }
+    NAME
+}
+
+// `else`, `true`, `pays`, `then`.
+fn keyword_of_four(w: &[u8]) -> u8
+    requires { ⌜ length (now w) ≡ 4 ⌝ }
+    ensures { λ r. ⌜ r ≡ keywordBy (keyOf (now (w .entry))) ⌝ }
+{
+    let a = w[0];
+    let b = w[1];
+    let c = w[2];
+    let d = w[3];
+    if a == b'e' && b == b'l' && c == b's' && d == b'e' {
+        return ELSE;
+    }
+    if a == b't' && b == b'r' && c == b'u' && d == b'e' {
+        return TRUE;
+    }
+    if a == b'p' && b == b'a' && c == b'y' && d == b's' {
+        return PAYS;
+    }
+    if a == b't' && b == b'h' && c == b'e' && d == b'n' {
+        return THEN;
+    }
+    NAME
+}
+
+// `false`.
+fn keyword_of_five(w: &[u8]) -> u8
+    requires { ⌜ length (now w) ≡ 5 ⌝ }
+    ensures { λ r. ⌜ r ≡ keywordBy (keyOf (now (w .entry))) ⌝ }
+{
+    let a = w[0];
+    let b = w[1];
+    let c = w[2];
+    let d = w[3];
+    let e = w[4];
+    if a == b'f' && b == b'a' && c == b'l' && d == b's' && e == b'e' {
+        return FALSE;
+    }
+    NAME
+}
+
+// The code of the keyword that a word is; that of a name where it is none. The length tells first: it leaves four keywords at most,
+// so that no frame holds the tests of all, and a word of another length is a name without a look at its bytes.
+pub fn keyword(w: &[u8]) -> u8
+    ensures { λ r. ⌜ r ≡ keywordBy (keyOf (now (w .entry))) ⌝ }
+{
+    match w.len() {
+        2 => keyword_of_two(w),
+        3 => keyword_of_three(w),
+        4 => keyword_of_four(w),
+        5 => keyword_of_five(w),
         _ => NAME,
     }
 }
