@@ -9,6 +9,7 @@ mod limits;
 mod lists;
 mod lookups;
 mod memory;
+mod near;
 mod random;
 mod reading;
 mod reduce;

@@ -6,6 +6,7 @@ use crate::limits;
 use crate::lists;
 use crate::lookups;
 use crate::memory::Room;
+use crate::near;
 use crate::random::Random;
 use crate::reading::{self, Same, DEPTH};
 use crate::runs;
@@ -31,7 +32,8 @@ pub fn all(seconds: u64, seed: u64) -> ExitCode {
     for alphabet in &ALPHABETS {
         tally.add(sequences::run(alphabet, share(EACH_ALPHABET)));
     }
-    tally.add(at_limits());
+    tally.add(each("scripts at the limits", limits::scripts()));
+    tally.add(each("words near keywords", near::scripts()));
     tally.add(random(
         "random scripts",
         share(SCRIPTS),
@@ -61,9 +63,10 @@ pub fn all(seconds: u64, seed: u64) -> ExitCode {
     }
 }
 
-fn at_limits() -> Section {
-    let mut section = Section::new("scripts at the limits");
-    for script in limits::scripts() {
+/// Each of some scripts, in full room.
+fn each(name: &str, scripts: impl IntoIterator<Item = String>) -> Section {
+    let mut section = Section::new(name);
+    for script in scripts {
         section.compare(&script, Room::FULL);
     }
     section
