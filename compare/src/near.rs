@@ -1,8 +1,5 @@
 //! Words that are a byte away from a keyword, where a keyword and a name are read differently.
-
-const KEYWORDS: [&str; 13] = [
-    "if", "then", "else", "end", "and", "or", "not", "for", "true", "false", "pays", "on", "in",
-];
+use crate::words::KEYWORDS;
 
 pub fn scripts() -> impl Iterator<Item = String> {
     let words = KEYWORDS.iter().flat_map(|keyword| around(keyword));

@@ -1,5 +1,8 @@
-//! The words that random scripts are made of.
+//! The words that scripts are made of.
 
+pub const KEYWORDS: [&str; 13] = [
+    "if", "then", "else", "end", "and", "or", "not", "for", "true", "false", "pays", "on", "in",
+];
 pub const NAMES: [&str; 16] = [
     "x", "y", "z1", "E5", "a_b", "iff", "ons", "append", "mean", "std", "USD", "level", "payson",
     "long_name_2", "in_", "Spots",

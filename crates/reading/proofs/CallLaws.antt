@@ -1,12 +1,12 @@
 -- Calls at a cursor: their names, the strings that they take, dates and currencies in these, and what is read behind a name.
 use mathlib.Core.Path.{_≡_, refl, sym, ap, _∙_, subst}
 use mathlib.Core.Bool.{Bool, true, false, _&&_}
-use mathlib.Core.List.{List, [], _∷_}
-use Prim.Native.Nat.{ℕ, suc, _+_, _-_, _≤_, _<_}
+use mathlib.Core.List.{List, []}
+use Prim.Native.Nat.{ℕ, suc, _+_, _-_, _≤_}
 use Prim.Native.String.{String}
 use native.Mathlib.Omega.{arith}
 use lib.Dec.{T, eqb, leb}
-use borrow.Author.Tests.{eq-eqb, ne-eqb, leb-false}
+use borrow.Author.Tests.{eq-eqb, ne-eqb}
 use lib.ListN.{length, take, drop}
 use Rattle.tokens.specs.Text.{if_then_else_, bytes, same, every}
 use Rattle.tokens.specs.Names.{names, place}
@@ -14,8 +14,7 @@ use Rattle.tokens.specs.Dates.{date}
 use Rattle.tokens.specs.Tokens.{Token, code}
 use Rattle.tokens.specs.Keys.{pack, lookup, keyed, keyOf}
 use Rattle.tokens.specs.declared.cursor.Cursor.{Cursor}
-use Rattle.tokens.proofs.Shapes.{same-eq}
-use Rattle.tokens.proofs.KeyLaws.{Bytes, small, smalls, same-pack}
+use Rattle.tokens.proofs.KeyLaws.{Bytes, small, smalls, key-same}
 use Rattle.tokens.proofs.NameLaws.{place-le}
 use Rattle.grammar.specs.Trees.{Tree, node, nil, fields}
 use Rattle.grammar.specs.Readers.{Out, ok, refused, Reader, bind, _>>=_, _>>_, give, failAt, the}
@@ -450,24 +449,6 @@ module _ (t : List ℕ) (c : Cursor) where
 
 -- ---- names by their keys
 
-pack-some : (w : List ℕ) → 1 ≤ pack w
-unfolding pack
-pack-some [] = omega arith
-pack-some (b ∷ w) = omega (arith, pack-some w)
-
--- a short name is told by its key
-pub key-same : (v w : List ℕ) → T (every small v) → length v ≤ 6 → Bytes w → same v w ≡ eqb (keyOf w) (pack v)
-unfolding keyOf
-key-same v w g l h = go (leb (length w) 6) refl
-  where
-    longer : 6 < length w → (b : Bool) → same v w ≡ b → b ≡ false
-    longer m true e = absurd (omega (arith, ap length (same-eq v w e)))
-    longer m false e = refl
-
-    go : (b : Bool) → leb (length w) 6 ≡ b → same v w ≡ eqb (if b then pack w else 0) (pack v)
-    go true e = same-pack v w g (smalls w h)
-    go false e = longer (leb-false (length w) 6 e) (same v w) refl ∙ sym (ne-eqb 0 (pack v) (λ p. omega (arith, pack-some v)))
-
 -- the definition's table and the code's, with their tests as arguments
 abbrev tableBy : (a b c d e f g h : Bool) → ℕ × ℕ × ℕ
 tableBy a b c d e f g h =
@@ -500,7 +481,7 @@ module _ (w : List ℕ) (h : Bytes w) where
   keyIs s = eqb (keyOf w) (pack (bytes s))
 
   told : (s : String) → T (every small (bytes s)) → length (bytes s) ≤ 6 → same (bytes s) w ≡ keyIs s
-  told s g l = key-same (bytes s) w g l h
+  told s g l = key-same (bytes s) w g l (smalls w h)
 
   call-is : callKind w ≡ (if eqb (callBy (keyOf w)) 0 then (if same (bytes "RateIndex") w then 35 else 0) else callBy (keyOf w))
   unfolding callKind callOf callBy lookup keyed bytes every

@@ -1,6 +1,6 @@
 -- A word is told by its key: what a table has for a word's bytes it has for their number. A keyword is told by its length and its bytes.
 use mathlib.Core.Path.{_≡_, refl, sym, ap, _∙_}
-use mathlib.Core.Bool.{Bool, true, false, not, true≢false}
+use mathlib.Core.Bool.{Bool, true, false, _&&_, not, true≢false}
 use mathlib.Core.List.{List, [], _∷_, _++_}
 use Prim.Native.Nat.{ℕ, suc, _+_, _-_, _*_, _^_, _≤_, _<_}
 use Prim.Native.String.{String}
@@ -8,13 +8,14 @@ use native.Mathlib.Nat.{add-zero, pow-suc, pow-le-pow-right}
 use native.Mathlib.Numerals.{add-one}
 use native.Mathlib.Omega.{arith}
 use lib.Dec.{T, leb, ltb, eqb}
-use borrow.Author.Tests.{eq-eqb, ne-eqb, eqb-true, eqb-false, lt-ltb, ltb-true, ltb-false, leb-false}
+use borrow.Author.Tests.{eq-eqb, ne-eqb, eqb-true, eqb-false, lt-ltb, ltb-true, ltb-false, leb-true, leb-false}
 use lib.ListN.{length, getD, take, drop, length-take, length-drop, drop-of-length-le, List·getD-eq-default}
 use lib.Seq.{drop-cons, getD-take, getD-drop}
 use Rattle.tokens.specs.Text.{if_then_else_, bytes, same, begins, every}
 use Rattle.tokens.specs.Tokens.{entry, pairs, lones, signs, keywords, piece, fault, word, sign}
 use Rattle.tokens.specs.Keys.{pack, lookup, keyed, keyOf, keywordBy, pairBy, firstByte, loneBy}
-use Rattle.tokens.proofs.Shapes.{entry-found, entry-every, begins-le, same-eq}
+use Rattle.tokens.proofs.Shapes.{entry-found, entry-every, begins-le, same-eq, same-not}
+use Rattle.tokens.proofs.NameLaws.{and-true-both}
 
 -- ---- bytes
 
@@ -91,7 +92,7 @@ key-again a b x y e = go (eqb x y) refl
     go true q = let p : x ≡ y = eqb-true x y q in sym (eq-eqb (b + 256 * x) (a + 256 * y) (omega arith))
     go false q = sym (ne-eqb (b + 256 * x) (a + 256 * y) (λ p. eqb-false x y q (omega arith)))
 
-pub same-pack : (v w : List ℕ) → T (every small v) → T (every small w) → same v w ≡ eqb (pack w) (pack v)
+same-pack : (v w : List ℕ) → T (every small v) → T (every small w) → same v w ≡ eqb (pack w) (pack v)
 unfolding same pack
 same-pack [] [] g h = refl
 same-pack [] (b ∷ w) g h = sym (ne-eqb (b + 256 * pack w) 1 (λ e. omega (arith, pack-pos w)))
@@ -181,17 +182,10 @@ none-of f g es h no-such = go (eqb ((entry f es) .1) 99) refl
 
 -- ---- words that a table does not have
 
-unlike : (v w : List ℕ) → (v ≡ w → ⊥) → same v w ≡ false
-unlike v w h = go (same v w) refl
-  where
-    go : (t : Bool) → same v w ≡ t → t ≡ false
-    go true e = absurd (h (same-eq v w e))
-    go false e = refl
-
 -- a byte tells that a word is not s
 module _ (s : String) (w : List ℕ) (i : ℕ) where
   pub unlike-at : (getD w i 0 ≡ getD (bytes s) i 0 → ⊥) → same (bytes s) w ≡ false
-  unlike-at h = unlike (bytes s) w (λ e. h (ap (λ (v : List ℕ). getD v i 0) (sym e)))
+  unlike-at h = same-not (bytes s) w (λ e. h (ap (λ (v : List ℕ). getD v i 0) (sym e)))
 
   pub unlike-byte : eqb (getD w i 0) (getD (bytes s) i 0) ≡ false → same (bytes s) w ≡ false
   unlike-byte q = unlike-at (eqb-false _ _ q)
@@ -215,7 +209,7 @@ module _ (w : List ℕ) where
       go : (t : Bool) → eqb (length (bytes (e .0))) (length w) ≡ t → None (if t then e ∷ sized (length w) es else sized (length w) es)
           → (None (sized (length w) es) → None es) → None (e ∷ es)
       go true q g ih = (g .0, ih (g .1))
-      go false q g ih = (unlike (bytes (e .0)) w (λ p. eqb-false _ _ q (ap length p)), ih g)
+      go false q g ih = (same-not (bytes (e .0)) w (λ p. eqb-false _ _ q (ap length p)), ih g)
 
   none-entry : (es : List (String × ℕ)) → None es → (entry (λ s. same (bytes s) w) es) .1 ≡ 99
   unfolding entry
@@ -227,41 +221,32 @@ module _ (w : List ℕ) where
 
 -- ---- keywords
 
--- no keyword is shorter than two bytes or longer than five
-other-none : (w : List ℕ) → (length w ≡ 2 → ⊥) → (length w ≡ 3 → ⊥) → (length w ≡ 4 → ⊥) → (length w ≡ 5 → ⊥) → (entry (λ s. same (bytes s) w) keywords) .1 ≡ 99
-unfolding bytes
-other-none w two three four five =
-    let n = length w in
-    none-of-size w keywords (rw (ne-eqb 2 n (λ e. two (sym e)), ne-eqb 3 n (λ e. three (sym e)), ne-eqb 4 n (λ e. four (sym e)), ne-eqb 5 n (λ e. five (sym e))) tt)
-
-no-key : keywordBy 0 ≡ 1
-unfolding keywordBy lookup keyed pack bytes
-no-key = refl
-
-by-code : (c d : ℕ) → c ≡ d → _≡_ {A = ℕ} (if eqb c 99 then 1 else c) (if eqb d 99 then 1 else d)
-by-code c d e = rw e
-
 T-of : {b : Bool} → b ≡ true → T b
 T-of {b} e = rw e tt
 
-pack-agrees : (w : List ℕ) → T (every small w) → (v : List ℕ) → every small v ≡ true → same v w ≡ eqb (pack w) (pack v)
-pack-agrees w h v g = same-pack v w (T-of g) h
+-- a short word is told by its key; a longer one has none, and is not the same
+pub key-same : (v w : List ℕ) → T (every small v) → length v ≤ 6 → T (every small w) → same v w ≡ eqb (keyOf w) (pack v)
+unfolding keyOf
+key-same v w g l h = go (leb (length w) 6) refl
+  where
+    go : (t : Bool) → leb (length w) 6 ≡ t → same v w ≡ eqb (if t then pack w else 0) (pack v)
+    go true e = same-pack v w g h
+    go false e =
+        let m : 6 < length w = leb-false (length w) 6 e in
+        same-not v w (λ p. omega (arith, ap length p)) ∙ sym (ne-eqb 0 (pack v) (λ p. omega (arith, pack-pos v)))
 
-key-code : (w : List ℕ) → T (every small w) → (entry (λ s. same (bytes s) w) keywords) .1 ≡ lookup 99 (pack w) (keyed pack keywords)
-unfolding every bytes
-key-code w h = entry-keyed pack (every small) (pack w) w (pack-agrees w h) keywords tt
+abbrev short : List ℕ → Bool
+short v = every small v && leb (length v) 6
+
+short-agrees : (w : List ℕ) → T (every small w) → (v : List ℕ) → short v ≡ true → same v w ≡ eqb (keyOf w) (pack v)
+short-agrees w h v g = let b = and-true-both (every small v) (leb (length v) 6) g in key-same v w (T-of (b .0)) (leb-true (length v) 6 (b .1)) h
 
 -- the code that the table has for a word is what the word's key tells
 keyword-code : (w : List ℕ) → T (every small w) → (k : ℕ) → (entry (λ s. same (bytes s) w) keywords) .1 ≡ k
     → _≡_ {A = ℕ} (if eqb k 99 then 1 else k) (keywordBy (keyOf w))
-unfolding keyOf
-keyword-code w h k q = go (leb (length w) 6) refl
-  where
-    go : (t : Bool) → leb (length w) 6 ≡ t → _≡_ {A = ℕ} (if eqb k 99 then 1 else k) (keywordBy (if t then pack w else 0))
-    go true e = unfold keywordBy in by-code k (lookup 99 (pack w) (keyed pack keywords)) (sym q ∙ key-code w h)
-    go false e =
-        let l : 6 < length w = leb-false (length w) 6 e in
-        by-code k 99 (sym q ∙ other-none w (λ p. omega arith) (λ p. omega arith) (λ p. omega arith) (λ p. omega arith)) ∙ sym no-key
+unfolding keywordBy every bytes
+keyword-code w h k q =
+    ap (λ (c : ℕ). if eqb c 99 then 1 else c) (sym q ∙ entry-keyed pack short (keyOf w) w (short-agrees w h) keywords tt)
 
 pub keyword-is : (w : List ℕ) (n : ℕ) → T (every small w) → word w n ≡ piece (keywordBy (keyOf w)) n
 unfolding word
@@ -273,7 +258,11 @@ keyword-none w h n l g = keyword-code w (smalls w h) 99 (none-of-size w keywords
 
 -- and so is one of a length that no keyword has
 pub keyword-other : (w : List ℕ) → Bytes w → (length w ≡ 2 → ⊥) → (length w ≡ 3 → ⊥) → (length w ≡ 4 → ⊥) → (length w ≡ 5 → ⊥) → 1 ≡ keywordBy (keyOf w)
-keyword-other w h two three four five = keyword-code w (smalls w h) 99 (other-none w two three four five)
+unfolding bytes
+keyword-other w h two three four five =
+    let n = length w in
+    keyword-none w h n refl
+    (rw (ne-eqb 2 n (λ e. two (sym e)), ne-eqb 3 n (λ e. three (sym e)), ne-eqb 4 n (λ e. four (sym e)), ne-eqb 5 n (λ e. five (sym e))) tt)
 
 -- the bytes of w from i on are those of v
 abbrev pub Spelled : ℕ → List ℕ → List ℕ → Type 0
@@ -304,8 +293,8 @@ unfolding every
 smalls-two b c h g = rw (lt-ltb b 256 h, every) (rw (lt-ltb c 256 g, every) tt)
 
 pair-code : (b c : ℕ) → b < 256 → c < 256 → (entry (λ s. same (bytes s) (b ∷ c ∷ [])) pairs) .1 ≡ pairBy (b + 256 * (c + 256))
-unfolding every bytes pairBy pack
-pair-code b c h g = entry-keyed pack (every small) (pack (b ∷ c ∷ [])) (b ∷ c ∷ []) (pack-agrees (b ∷ c ∷ []) (smalls-two b c h g)) pairs tt
+unfolding every bytes pairBy pack keyOf
+pair-code b c h g = entry-keyed pack short (keyOf (b ∷ c ∷ [])) (b ∷ c ∷ []) (short-agrees (b ∷ c ∷ []) (smalls-two b c h g)) pairs tt
 
 abbrev single : List ℕ → Bool
 single w = eqb (length w) 1

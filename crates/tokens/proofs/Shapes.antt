@@ -64,6 +64,13 @@ same-eq (x ∷ xs) (b ∷ bs) h = go (eqb x b) refl h (same-eq xs bs)
     go true w e ih = λ i. eqb-true x b w i ∷ ih e i
     go false w e ih = absurd (true≢false (sym e))
 
+pub same-not : (xs bs : List ℕ) → (xs ≡ bs → ⊥) → same xs bs ≡ false
+same-not xs bs h = go (same xs bs) refl
+  where
+    go : (t : Bool) → same xs bs ≡ t → t ≡ false
+    go true e = absurd (h (same-eq xs bs e))
+    go false e = refl
+
 begins-byte : (a b : ℕ) (bs : List ℕ) → begins (a ∷ []) (b ∷ bs) ≡ true → a ≡ b
 unfolding begins
 begins-byte a b bs h = go (eqb a b) refl h

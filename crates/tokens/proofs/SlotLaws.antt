@@ -11,7 +11,7 @@ use lib.Seq.{drop-cons, take-all, getD-set-same, getD-set-other}
 use Rattle.tokens.specs.Text.{same, every, leading, other}
 use Rattle.tokens.specs.Names.{names, place, member, distinct, goodName, goodNames}
 use Rattle.tokens.specs.Slots.{slotFrom, slotOf, doubleBy}
-use Rattle.tokens.proofs.Shapes.{same-eq}
+use Rattle.tokens.proofs.Shapes.{same-not}
 use Rattle.tokens.proofs.NameLaws.{Cut, cut-first, cut-all, cut-take, cut-turn, every-cons, every-other, every-append, member-more, distinct-more, distinct-double}
 
 -- ---- the slot of a name
@@ -25,11 +25,7 @@ module _ (s : List ℕ) (i h : ℕ) where
   slot-end l = rw (drop-of-length-le s l)
 
 slot-apart : (n m : List ℕ) → (slotOf m ≡ slotOf n → ⊥) → same n m ≡ false
-slot-apart n m h = go (same n m) refl
-  where
-    go : (t : Bool) → same n m ≡ t → same n m ≡ false
-    go true e = absurd (h (ap slotOf (sym (same-eq n m e))))
-    go false e = e
+slot-apart n m h = same-not n m (λ e. h (ap slotOf (sym e)))
 
 -- ---- a name among those passed
 -- where its slot is free it is not looked for

@@ -1,11 +1,10 @@
 -- Counts, equal bytes, one byte at a time, and where a script ends.
-use mathlib.Core.Path.{_≡_, refl, sym, ap}
+use mathlib.Core.Path.{_≡_, sym, ap}
 use mathlib.Core.Bool.{Bool, true, false}
 use mathlib.Core.List.{List, [], _∷_, _++_}
 use Prim.Native.Nat.{ℕ, suc, _+_, _≤_, _<_}
 use native.Mathlib.Numerals.{add-one}
 use native.Mathlib.Omega.{arith}
-use lib.Dec.{eqb}
 use lib.ListN.{length, getD, drop, drop-of-length-le}
 use lib.Seq.{drop-cons, length-take-le}
 use borrow.Author.Tests.{eq-eqb, ne-eqb, lt-ltb, le-ltb}
@@ -13,7 +12,7 @@ use Rattle.tokens.specs.Limits.{mostBytes}
 use Rattle.tokens.specs.Text.{if_then_else_, leading, other, same, count, script}
 use Rattle.tokens.specs.Lexing.{scriptEnd}
 use Rattle.tokens.specs.declared.text.ScriptEnd.the-variants as ends
-use Rattle.tokens.proofs.Shapes.{leading-le}
+use Rattle.tokens.proofs.Shapes.{same-not, leading-le}
 
 -- ---- counts
 
@@ -35,15 +34,7 @@ count-join f (a ∷ xs) ys = omega (arith, count-join f xs ys)
 -- ---- equal bytes
 
 pub same-unlike : (a b : List ℕ) → (length a ≡ length b → ⊥) → false ≡ same a b
-unfolding same
-same-unlike [] [] h = absurd (h refl)
-same-unlike [] (y ∷ b) h = refl
-same-unlike (x ∷ a) [] h = refl
-same-unlike (x ∷ a) (y ∷ b) h = go (eqb x y) refl (same-unlike a b (λ e. h (ap suc e)))
-  where
-    go : (t : Bool) → eqb x y ≡ t → false ≡ same a b → false ≡ same (x ∷ a) (y ∷ b)
-    go true e k = rw (same, e) k
-    go false e k = rw (same, e)
+same-unlike a b h = sym (same-not a b (λ e. h (ap length e)))
 
 same-cons : (x y : ℕ) (a b : List ℕ) → x ≡ y → same (x ∷ a) (y ∷ b) ≡ same a b
 unfolding same
