@@ -219,7 +219,7 @@ module _ (w : List ℕ) where
   none-of-size : (es : List (String × ℕ)) → None (sized (length w) es) → (entry (λ s. same (bytes s) w) es) .1 ≡ 99
   none-of-size es h = none-entry es (none-sized es h)
 
--- ---- keywords
+-- ---- short words by their keys
 
 T-of : {b : Bool} → b ≡ true → T b
 T-of {b} e = rw e tt
@@ -240,6 +240,8 @@ short v = every small v && leb (length v) 6
 
 short-agrees : (w : List ℕ) → T (every small w) → (v : List ℕ) → short v ≡ true → same v w ≡ eqb (keyOf w) (pack v)
 short-agrees w h v g = let b = and-true-both (every small v) (leb (length v) 6) g in key-same v w (T-of (b .0)) (leb-true (length v) 6 (b .1)) h
+
+-- ---- keywords
 
 -- the code that the table has for a word is what the word's key tells
 keyword-code : (w : List ℕ) → T (every small w) → (k : ℕ) → (entry (λ s. same (bytes s) w) keywords) .1 ≡ k
