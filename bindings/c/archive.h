@@ -1,14 +1,14 @@
 /*
- * The archive's calls for C: a note's script is read into records, single statements of it are replaced, and the names
- * that records hold are looked up. Link libarchive.a, which the command tools/archive makes.
+ * The archive's calls for C: a note's script is read into records, single statements of it are replaced, the names that
+ * records hold are looked up, and days are counted. Link libarchive.a, which the command tools/archive makes.
  *
- * What holds for all three calls:
+ * What holds for all calls:
  *
  * - All memory is the caller's. A call keeps no pointer once it has returned, allocates nothing, and has no state of its
  *   own, so calls on different memory may run at the same time.
  * - A slice is a pointer and a length, in bytes for uint8_t and in words for uint32_t. No pointer may be NULL, and one to
  *   words is aligned as a uint32_t is, even where the length is 0; a slice of length 0 may point anywhere else. `answer`,
- *   `record` and `place` are such pointers too, each to as many words as its declaration says.
+ *   `record`, `place` and `day` are such pointers too, each to as many words as its declaration says.
  * - What a call writes, `answer` and `place` among it, may overlap nothing else that the same call is lent, be it read or
  *   written, `record` and the lists included. What is only read may overlap.
  * - Nothing else is asked. Any bytes, any words and any lengths are answered, none is trusted to be in order. Slices of
@@ -37,7 +37,8 @@ enum {
     ARCHIVE_RECORD_WORDS = 7, /* kind, nodes in its subtree, direct parts, four fields; children before parents */
     ARCHIVE_ENTRY_WORDS = 4,  /* of a statement: its first byte, the byte past its last token, records, tokens */
     ARCHIVE_ANSWER_WORDS = 8,
-    ARCHIVE_PLACE_WORDS = 3
+    ARCHIVE_PLACE_WORDS = 3,
+    ARCHIVE_DAY_WORDS = 3 /* year, month, day */
 };
 
 /* Limits. Slices of this size have room for every script; smaller ones will do for smaller scripts. */
@@ -48,6 +49,9 @@ enum {
     ARCHIVE_STATEMENTS = 512,
     ARCHIVE_DEPTH = 32
 };
+
+/* The count of the last day, 9999-12-31. */
+enum { ARCHIVE_LAST_COUNT = 3652059 };
 
 /*
  * The words of an answer. Lines and columns count from 1. A column counts the characters of UTF-8: it is 1 more than the
@@ -69,7 +73,9 @@ enum {
 
 /*
  * The kinds of a record, and its fields f1 to f4 where they are used. A place counts from the first byte of the record's
- * statement. A date is the number yyyymmdd, a currency its place in the list, from 0, plus 1; of both, 0 is absent.
+ * statement. A date is its day count, 0001-01-01 being 1 and 9999-12-31 ARCHIVE_LAST_COUNT, so that the days from one date
+ * to another are the difference; calendar_day says which day it is. A currency is its place in the list, from 0, plus 1.
+ * Of both, 0 is absent.
  */
 enum {
     ARCHIVE_VARIABLE = 1, /* start, length of the name */
@@ -181,6 +187,18 @@ void script_part(const uint8_t *script, size_t script_bytes,
                  const uint8_t *currencies, size_t currencies_bytes,
                  const uint32_t record[ARCHIVE_RECORD_WORDS], uint32_t start, bool second,
                  uint32_t place[ARCHIVE_PLACE_WORDS]);
+
+/*
+ * The count of a day, as records have it: 1 for 0001-01-01, ARCHIVE_LAST_COUNT for 9999-12-31. 0 where there is no such day
+ * in the Gregorian calendar of those years; a month counts from 1.
+ */
+uint32_t calendar_count(uint32_t year, uint32_t month, uint32_t day);
+
+/*
+ * The day that has a count: `day` becomes its year, month and day. For 0, and for what is above ARCHIVE_LAST_COUNT, there is
+ * none, and `day` becomes 0, 0, 0.
+ */
+void calendar_day(uint32_t count, uint32_t day[ARCHIVE_DAY_WORDS]);
 
 #ifdef __cplusplus
 }

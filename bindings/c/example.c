@@ -1,5 +1,5 @@
-/* Reads a note, replaces a statement, has an amendment refused, and looks a name up. Exits with 1 where an answer is not
- * the one that this example is about. */
+/* Reads a note, replaces a statement, has an amendment refused, looks a name up, and tells a date. Exits with 1 where an
+ * answer is not the one that this example is about. */
 #include "archive.h"
 
 #include <stdio.h>
@@ -71,26 +71,39 @@ static bool names(const struct note *n, const char *expected)
     return place[2] == strlen(expected) && memcmp(name, expected, place[2]) == 0;
 }
 
+/* Prints the date of the note's last record, which is a Pays, and says whether it is the one expected. */
+static bool pays_on(const struct note *n, uint32_t year, uint32_t month, uint32_t day)
+{
+    const uint32_t *record = n->records + (n->answer[ARCHIVE_COUNT_RECORDS] - 1) * ARCHIVE_RECORD_WORDS;
+    uint32_t date[ARCHIVE_DAY_WORDS];
+    calendar_day(record[3], date);
+    printf("last record: kind %u, day %u, %04u-%02u-%02u\n", (unsigned)record[0], (unsigned)record[3],
+           (unsigned)date[0], (unsigned)date[1], (unsigned)date[2]);
+    return record[0] == ARCHIVE_PAYS && record[3] == calendar_count(year, month, day) && date[0] == year &&
+           date[1] == month && date[2] == day;
+}
+
 int main(void)
 {
     static struct note n;
     bool good = true;
 
-    read_note(&n, "rate = 0.05;\nfloor = 0.01;\npays rate in \"EUR\";");
+    read_note(&n, "rate = 0.05;\nfloor = 0.01;\npays rate on \"2026-06-30\" in \"EUR\";");
     print_note(&n, "read");
     good &= n.answer[ARCHIVE_NUMBER] == ARCHIVE_ACCEPTED && n.answer[ARCHIVE_COUNT_STATEMENTS] == 3;
 
     amend_note(&n, 1, "floor = max(0, rate - 0.02);");
     print_note(&n, "amend statement 1");
     good &= n.answer[ARCHIVE_NUMBER] == ARCHIVE_ACCEPTED;
-    good &= holds(&n, "rate = 0.05;\nfloor = max(0, rate - 0.02);\npays rate in \"EUR\";");
+    good &= holds(&n, "rate = 0.05;\nfloor = max(0, rate - 0.02);\npays rate on \"2026-06-30\" in \"EUR\";");
 
     amend_note(&n, 0, "rate = ;");
     print_note(&n, "amend statement 0");
     good &= n.answer[ARCHIVE_NUMBER] == ARCHIVE_TOKEN && n.answer[ARCHIVE_BYTE] == 7;
-    good &= holds(&n, "rate = 0.05;\nfloor = max(0, rate - 0.02);\npays rate in \"EUR\";");
+    good &= holds(&n, "rate = 0.05;\nfloor = max(0, rate - 0.02);\npays rate on \"2026-06-30\" in \"EUR\";");
 
     good &= names(&n, "rate");
+    good &= pays_on(&n, 2026, 6, 30);
     if (!good) {
         fputs("example: an answer is not the one expected\n", stderr);
     }

@@ -1,4 +1,5 @@
 //! The Rust's tree in the common form.
+use crate::days;
 use crate::tree::{Fact, Tree};
 use oracle::node::{PaysData, SpotData, SpotUnderlying};
 use oracle::{Currency, Date, Node};
@@ -98,7 +99,7 @@ fn pays(data: &PaysData) -> Tree {
 }
 
 fn date(date: Option<Date>) -> Fact {
-    Fact::Date(date.map_or(0, |date| date.0))
+    Fact::Date(date.map_or(0, |date| days::count(date.year, date.month, date.day)))
 }
 
 fn currency(currency: Option<Currency>) -> Fact {

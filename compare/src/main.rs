@@ -2,6 +2,7 @@
 mod alphabets;
 mod amending;
 mod damage;
+mod days;
 mod from_records;
 mod from_rust;
 mod generate;

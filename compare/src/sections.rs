@@ -1,6 +1,7 @@
 //! The parts of a comparison, each with its share of the time.
 use crate::alphabets::ALPHABETS;
 use crate::damage;
+use crate::days;
 use crate::generate;
 use crate::limits;
 use crate::lists;
@@ -34,6 +35,7 @@ pub fn all(seconds: u64, seed: u64) -> ExitCode {
     }
     tally.add(each("scripts at the limits", limits::scripts()));
     tally.add(each("words near keywords", near::scripts()));
+    tally.add(each("days of the calendar", days::scripts()));
     tally.add(random(
         "random scripts",
         share(SCRIPTS),

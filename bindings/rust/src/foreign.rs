@@ -14,6 +14,9 @@ pub(crate) type Answer = [u32; 8];
 /// 0 for the script or 1 for the list of currencies, first byte, length.
 pub(crate) type Place = [u32; 3];
 
+/// Year, month, day.
+pub(crate) type Day = [u32; 3];
+
 extern "C" {
     fn script_read(
         script: *const u8,
@@ -60,6 +63,10 @@ extern "C" {
         second: bool,
         place: *mut Place,
     );
+
+    fn calendar_count(year: u32, month: u32, day: u32) -> u32;
+
+    fn calendar_day(count: u32, day: *mut Day);
 }
 
 pub(crate) fn read(script: &[u8], lists: &Lists, records: &mut [u32], directory: &mut [u32]) -> Answer {
@@ -134,4 +141,18 @@ pub(crate) fn part(script: &[u8], currencies: &[u8], record: &[u32; RECORD_WORDS
         );
     }
     place
+}
+
+/// 0 where there is no such day.
+pub(crate) fn count(year: u32, month: u32, day: u32) -> u32 {
+    // SAFETY: nothing is lent.
+    unsafe { calendar_count(year, month, day) }
+}
+
+/// Three times 0 where no day has the count.
+pub(crate) fn day(count: u32) -> Day {
+    let mut day = [0; 3];
+    // SAFETY: as in `read`.
+    unsafe { calendar_day(count, &mut day) };
+    day
 }

@@ -2,7 +2,7 @@
 //! still mean what they meant. The work is done by a proved library; this crate lends it slices and names what it answers.
 //!
 //! [`Note`] owns the memory of one script, and is what most callers want. [`read`], [`amend`] and [`part`] are the three
-//! calls as they are, over memory that the caller lends.
+//! calls on scripts as they are, over memory that the caller lends. [`Date`] is a day of the calendar, as records count it.
 //!
 //! ```
 //! use gorembiin::{Lists, Note};
@@ -14,6 +14,7 @@
 
 mod answer;
 mod calls;
+mod date;
 mod foreign;
 mod ground;
 mod kind;
@@ -25,11 +26,12 @@ mod statement;
 
 pub use answer::{Counts, Refusal};
 pub use calls::{amend, part, read, Part, Source, Which};
+pub use date::Date;
 pub use ground::Ground;
 pub use kind::Kind;
 pub use lists::Lists;
 pub use note::Note;
-pub use record::{Date, Fields, Place, Record};
+pub use record::{Fields, Place, Record};
 pub use statement::{Branch, Statement, Tree};
 
 /// Most bytes of a script.

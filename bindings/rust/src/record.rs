@@ -1,7 +1,6 @@
 //! One node of a statement's tree.
 
-use std::fmt;
-
+use crate::date::Date;
 use crate::kind::Kind;
 use crate::RECORD_WORDS;
 
@@ -18,18 +17,8 @@ pub struct Place {
     pub length: u32,
 }
 
-/// A day of the calendar. It prints as yyyy-mm-dd.
-#[derive(Clone, Copy, Debug, PartialEq, Eq, PartialOrd, Ord)]
-pub struct Date {
-    /// 1 to 9999.
-    pub year: u32,
-    /// 1 to 12.
-    pub month: u32,
-    /// 1 to 31.
-    pub day: u32,
-}
-
-/// What a record says beside its kind and its parts. A currency is its place in the list, from 0.
+/// What a record says beside its kind and its parts. A currency is its place in the list, from 0. A date is absent where its
+/// word is 0, or no day's count, which the library does not write.
 #[derive(Clone, Copy, Debug, PartialEq)]
 pub enum Fields {
     /// Of a kind that has no fields.
@@ -128,11 +117,11 @@ impl Record {
             Some(Kind::Constant) => {
                 Fields::Constant { value: f64::from_bits(u64::from(f1) << 32 | u64::from(f2)), literal: place(f3, f4) }
             }
-            Some(Kind::Spot) => Fields::Spot { first: currency(f1), second: currency(f2), date: date(f3) },
-            Some(Kind::EquitySpot) => Fields::EquitySpot { name: place(f1, f2), date: date(f3) },
-            Some(Kind::Df) => Fields::Df { date: date(f1), curve: (f2 != 0).then(|| place(f2, f3)) },
-            Some(Kind::RateIndex) => Fields::RateIndex { name: place(f1, f2), from: date(f3), to: date(f4) },
-            Some(Kind::Pays) => Fields::Pays { date: date(f1), currency: currency(f2) },
+            Some(Kind::Spot) => Fields::Spot { first: currency(f1), second: currency(f2), date: Date::from_count(f3) },
+            Some(Kind::EquitySpot) => Fields::EquitySpot { name: place(f1, f2), date: Date::from_count(f3) },
+            Some(Kind::Df) => Fields::Df { date: Date::from_count(f1), curve: (f2 != 0).then(|| place(f2, f3)) },
+            Some(Kind::RateIndex) => Fields::RateIndex { name: place(f1, f2), from: Date::from_count(f3), to: Date::from_count(f4) },
+            Some(Kind::Pays) => Fields::Pays { date: Date::from_count(f1), currency: currency(f2) },
             Some(Kind::If) => Fields::If { first_else: (f1 != 0).then_some(f1) },
             Some(Kind::ForEach) => Fields::ForEach { variable: place(f1, f2) },
             _ => Fields::Nothing,
@@ -147,15 +136,4 @@ fn place(start: u32, length: u32) -> Place {
 /// From its place plus 1; 0 is absent.
 fn currency(word: u32) -> Option<u32> {
     word.checked_sub(1)
-}
-
-/// From the number yyyymmdd; 0 is absent.
-fn date(word: u32) -> Option<Date> {
-    (word != 0).then_some(Date { year: word / 10_000, month: word / 100 % 100, day: word % 100 })
-}
-
-impl fmt::Display for Date {
-    fn fmt(&self, f: &mut fmt::Formatter<'_>) -> fmt::Result {
-        write!(f, "{:04}-{:02}-{:02}", self.year, self.month, self.day)
-    }
 }

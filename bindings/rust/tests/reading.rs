@@ -43,7 +43,7 @@ fn a_tree_as_deep_as_the_records_allow_is_walked() {
 fn fields_have_names() {
     let note = note(r#"if x { pays 1 on "2026-06-30" in "CHF"; } else { } y = -1.50;"#);
     let fields: Vec<Fields> = note.statements().flat_map(|statement| statement.records()).map(Record::fields).collect();
-    let date = Date { year: 2026, month: 6, day: 30 };
+    let date = Date::new(2026, 6, 30).unwrap();
     assert!(fields.contains(&Fields::Pays { date: Some(date), currency: Some(2) }));
     assert!(fields.contains(&Fields::If { first_else: Some(2) }));
     let literal = Place { start: 5, length: 4 };

@@ -1,9 +1,10 @@
--- Answers and places as words of 32 bits, and what each exported call leaves of all that it is lent.
+-- Answers, places and days as words of 32 bits, and what each exported call leaves of all that it is lent.
 use mathlib.Core.Path.{_≡_}
 use mathlib.Core.Bool.{cond}
 use mathlib.Core.List.{List, [], _∷_}
 use Prim.Native.Nat.{ℕ, _%_, _^_, _<_}
 use lib.ListN.{getD}
+use Rattle.calendar.specs.declared.days.Day.{Day}
 use Rattle.tokens.specs.Names.{Lists}
 use Rattle.reading.specs.Reading.{Leaves}
 use Rattle.reading.specs.declared.reading.Answer.{Answer}
@@ -31,6 +32,10 @@ heldIn ws = record { bytes = getD ws 4 0; statements = getD ws 5 0; records = ge
 -- of the script (0) or of the list of currencies (1), first byte, length
 unfoldable pub placeWords : Place → List ℕ
 placeWords p = cond (p .in_list) 1 0 ∷ word (p .from) ∷ word (p .size) ∷ []
+
+-- year, month, day
+unfoldable pub dayWords : Day → List ℕ
+dayWords d = d .year ∷ d .month ∷ d .day ∷ []
 
 -- a script bs read into the records o and the directory d: the words of the answer, and what is left in both
 pub record Reads (l : Lists) (bs o d ws o′ d′ : List ℕ) : Type 0 where

@@ -1,16 +1,21 @@
-// What C and Rust link: reading, amending and the lookup. Answers and places are words of 32 bits in lent arrays.
+// What C and Rust link: reading, amending, the lookup, and the calendar. Answers, places and days are words of 32 bits in
+// lent arrays.
 use amending::amending::amend;
 use amending::held::Held;
+use calendar::days::Day;
+use calendar::days::count_of;
+use calendar::days::day_of;
 use reading::parts::Place;
 use reading::parts::place_of;
 use reading::reading::Answer;
 use reading::reading::read;
 ghost use mathlib.Core.Path.{_≡_};
 ghost use Prim.Native.Nat.{_%_, _^_};
+ghost use Rattle.calendar.specs.Calendar.{countOf, dayOf};
 ghost use Rattle.reading.specs.Judging.{listsIn};
 ghost use Rattle.reading.specs.Parts.{partNamed, placed};
 ghost use Rattle.amending.specs.Memory.{memory};
-ghost use Rattle.archive.specs.Exports.{word, answerWords, heldIn, placeWords, Reads, Replaces};
+ghost use Rattle.archive.specs.Exports.{word, answerWords, heldIn, placeWords, dayWords, Reads, Replaces};
 
 // Reads a script into records and directory.
 #[no_mangle]
@@ -81,6 +86,27 @@ pub extern "C" fn script_part(
 {
     let p = place_of(script, currencies, record, start, second);
     *place = place_words(p);
+}
+
+// The count of a day, as records have it; 0 where there is no such day.
+#[no_mangle]
+pub extern "C" fn calendar_count(year: u32, month: u32, day: u32) -> u32
+    ensures { λ r. ⌜ r ≡ countOf (record { year = year; month = month; day = day }) ⌝ }
+{
+    count_of(Day {
+        year: year,
+        month: month,
+        day: day,
+    })
+}
+
+// Says which day has a count: year, month, day, and 0, 0, 0 where none has it.
+#[no_mangle]
+pub extern "C" fn calendar_day(count: u32, day: &mut [u32; 3])
+    ensures { λ _. ⌜ now (day .exit) ≡ dayWords (dayOf count) ⌝ }
+{
+    let d = day_of(count);
+    *day = [d.year, d.month, d.day];
 }
 
 fn held_in(words: &[u32; 8]) -> Held

@@ -27,15 +27,15 @@ first-names : Names "USD\nEUR\n" false
     -- an empty string stands at its own place
     ∷ (row 5 1 0 (fields 29 0 0 0), ofScript (span 31 0))
     -- equity spot and RateIndex
-    ∷ (row 33 1 0 (fields 22 1 20240229 0), ofScript (span 24 1))
-    ∷ (row 35 1 0 (fields 22 1 20240229 20240301), ofScript (span 24 1))
+    ∷ (row 33 1 0 (fields 22 1 738945 0), ofScript (span 24 1))
+    ∷ (row 35 1 0 (fields 22 1 738945 738946), ofScript (span 24 1))
     -- Df, with a curve and without: then its length says nothing
-    ∷ (row 34 1 0 (fields 20240229 22 1 0), ofScript (span 24 1))
-    ∷ (row 34 1 0 (fields 20240229 0 5 0), ofScript empty)
+    ∷ (row 34 1 0 (fields 738945 22 1 0), ofScript (span 24 1))
+    ∷ (row 34 1 0 (fields 738945 0 5 0), ofScript empty)
     -- Spot and Pays; absent, and not in the list
     ∷ (row 32 1 0 (fields 2 1 0 0), ofList (span 4 3))
-    ∷ (row 36 1 0 (fields 20240229 1 0 0), ofList (span 0 3))
-    ∷ (row 36 1 0 (fields 20240229 0 0 0), ofScript empty)
+    ∷ (row 36 1 0 (fields 738945 1 0 0), ofList (span 0 3))
+    ∷ (row 36 1 0 (fields 738945 0 0 0), ofScript empty)
     ∷ (row 32 1 0 (fields 3 1 0 0), ofScript empty)
     -- up to the script's end, and past it
     ∷ (row 1 1 0 (fields 30 1 0 0), ofScript (span 32 1))
@@ -54,8 +54,8 @@ first-names = refl
 second-names : Names "USD\nEUR\n" true
     ((row 32 1 0 (fields 2 1 0 0), ofList (span 0 3))
     ∷ (row 32 1 0 (fields 1 2 0 0), ofList (span 4 3))
-    ∷ (row 33 1 0 (fields 22 1 20240229 0), ofScript empty)
-    ∷ (row 36 1 0 (fields 20240229 1 0 0), ofScript empty)
+    ∷ (row 33 1 0 (fields 22 1 738945 0), ofScript empty)
+    ∷ (row 36 1 0 (fields 738945 1 0 0), ofScript empty)
     ∷ (row 1 1 0 (fields 0 2 0 0), ofScript empty)
     ∷ [])
 unfolding Names computing
@@ -64,7 +64,7 @@ second-names = refl
 -- none of a malformed list: here USD is not first. The names of the script are answered all the same
 no-list : Names "EUR\nUSD\n" false
     ((row 32 1 0 (fields 1 2 0 0), ofScript empty)
-    ∷ (row 36 1 0 (fields 20240229 1 0 0), ofScript empty)
+    ∷ (row 36 1 0 (fields 738945 1 0 0), ofScript empty)
     ∷ (row 1 1 0 (fields 0 2 0 0), ofScript (span 2 2))
     ∷ [])
 unfolding Names computing

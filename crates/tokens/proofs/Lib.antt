@@ -16,6 +16,7 @@ pub mod ListExamples
 pub mod TextLaws
 pub mod PlaceLaws
 pub mod NameLaws
+pub mod DateLaws
 pub mod SlotLaws
 pub mod SieveLaws
 pub mod LexLaws

@@ -1,25 +1,12 @@
 -- Dates: yyyy-mm-dd, year 0001 to 9999, a true Gregorian day (ISO 8601).
-use mathlib.Core.Bool.{Bool, _&&_, _||_, not}
+use mathlib.Core.Bool.{Bool, _&&_}
 use mathlib.Core.List.{List}
-use Prim.Native.Nat.{ℕ, _+_, _-_, _*_, _%_}
-use lib.Dec.{ltb, leb, eqb}
+use Prim.Native.Nat.{ℕ, _+_, _-_, _*_}
+use lib.Dec.{ltb, eqb}
 use lib.ListN.{length, getD}
+use Rattle.calendar.specs.declared.days.Day.{Day}
+use Rattle.calendar.specs.Calendar.{isDay, count}
 use Rattle.tokens.specs.Text.{if_then_else_, digit}
-
--- a leap year: divisible by four, and not by a hundred unless by four hundred
-abbrev pub leap : ℕ → Bool
-leap y = eqb (y % 4) 0 && (not (eqb (y % 100) 0) || eqb (y % 400) 0)
-
--- the days of a month
-abbrev pub days : ℕ → ℕ → ℕ
-days y m =
-    if eqb m 2
-    then (if leap y then 29 else 28)
-    else (if eqb m 4 || (eqb m 6 || (eqb m 9 || eqb m 11)) then 30 else 31)
-
--- a true day of the Gregorian calendar, from year 1 on
-abbrev pub isDay : ℕ → ℕ → ℕ → Bool
-isDay y m d = leb 1 y && (leb 1 m && (leb m 12 && (leb 1 d && leb d (days y m))))
 
 -- the number that two digits at a place write, and 100 where they are not both digits
 abbrev pub pair : List ℕ → ℕ → ℕ
@@ -33,12 +20,13 @@ abbrev pub isShape : List ℕ → Bool
 isShape s =
     eqb (length s) 10 && (eqb (getD s 4 0) 45 && (eqb (getD s 7 0) 45 && (ltb (pair s 0) 100 && ltb (pair s 2) 100)))
 
-abbrev pub year : List ℕ → ℕ
-year s = pair s 0 * 100 + pair s 2
+-- the day that they write
+abbrev pub written : List ℕ → Day
+written s = record { year = pair s 0 * 100 + pair s 2; month = pair s 5; day = pair s 8 }
 
--- a text's date as yyyymmdd; 0 where it is no date
+abbrev pub isDate : List ℕ → Bool
+isDate s = isShape s && isDay (written s)
+
+-- a text's date as its day count; 0 where it is no date
 unfoldable pub date : List ℕ → ℕ
-date s =
-    if isShape s && isDay (year s) (pair s 5) (pair s 8)
-    then year s * 10000 + pair s 5 * 100 + pair s 8
-    else 0
+date s = if isDate s then count (written s) else 0

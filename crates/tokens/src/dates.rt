@@ -1,31 +1,11 @@
 // A date as ISO 8601 writes it.
 use crate::text::is_digit;
+use calendar::days::Day;
+use calendar::days::count_of;
 ghost use mathlib.Core.Path.{_≡_};
 ghost use Prim.Native.Nat.{_+_, _-_, _≤_, _<_};
 ghost use lib.ListN.{length};
-ghost use Rattle.tokens.specs.Dates.{leap, days, isDay, pair, isShape, date};
-
-fn is_leap(y: u32) -> bool
-    ensures { λ r. ⌜ r ≡ leap y ⌝ }
-{
-    y % 4 == 0 && (y % 100 != 0 || y % 400 == 0)
-}
-
-fn days_in(y: u32, m: u32) -> u32
-    ensures { λ r. ⌜ r ≡ days y m ⌝ }
-{
-    match m {
-        2 => if is_leap(y) { 29 } else { 28 },
-        4 | 6 | 9 | 11 => 30,
-        _ => 31,
-    }
-}
-
-fn is_day(y: u32, m: u32, d: u32) -> bool
-    ensures { λ r. ⌜ r ≡ isDay y m d ⌝ }
-{
-    1 <= y && (1 <= m && (m <= 12 && (1 <= d && d <= days_in(y, m))))
-}
+ghost use Rattle.tokens.specs.Dates.{pair, isShape, date};
 
 // What a digit counts.
 fn worth(b: u8) -> u32
@@ -54,19 +34,16 @@ fn is_shape(s: &[u8]) -> bool
     s.len() == 10 && (s[4] == 45 && (s[7] == 45 && (pair_at(s, 0) < 100 && pair_at(s, 2) < 100)))
 }
 
-// The date that a text writes, as yyyymmdd; 0 where it is none.
+// The count of the day that a text writes; 0 where it is no date.
 pub fn date_of(s: &[u8]) -> u32
     ensures { λ r. ⌜ r ≡ date (now (s .entry)) ⌝ }
 {
     if !is_shape(s) {
         return 0;
     }
-    let y = pair_at(s, 0) * 100 + pair_at(s, 2);
-    let m = pair_at(s, 5);
-    let d = pair_at(s, 8);
-    if is_day(y, m, d) {
-        y * 10000 + m * 100 + d
-    } else {
-        0
-    }
+    count_of(Day {
+        year: pair_at(s, 0) * 100 + pair_at(s, 2),
+        month: pair_at(s, 5),
+        day: pair_at(s, 8),
+    })
 }

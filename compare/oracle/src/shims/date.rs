@@ -1,20 +1,22 @@
 //! Dates by the rule that the archive follows: yyyy-mm-dd, a Gregorian day of the years 0001 to 9999.
 use super::errors::{QSError, Result};
 
-/// A day as the number yyyymmdd.
 #[derive(Debug, Clone, Copy, Default, PartialEq)]
-pub struct Date(pub u32);
+pub struct Date {
+    pub year: u32,
+    pub month: u32,
+    pub day: u32,
+}
 
 impl Date {
     /// The format is the same in every call, and it is the rule above.
     pub fn from_str(text: &str, _format: &str) -> Result<Self> {
-        day(text.as_bytes())
-            .map(Self)
+        date(text.as_bytes())
             .ok_or_else(|| QSError::InvalidValueErr(format!("no date: {text}")))
     }
 }
 
-fn day(text: &[u8]) -> Option<u32> {
+fn date(text: &[u8]) -> Option<Date> {
     let [y1, y2, y3, y4, b'-', m1, m2, b'-', d1, d2] = text else {
         return None;
     };
@@ -22,7 +24,7 @@ fn day(text: &[u8]) -> Option<u32> {
     let month = number(&[*m1, *m2])?;
     let day = number(&[*d1, *d2])?;
     let is_day = year >= 1 && (1..=days_of(year, month)).contains(&day);
-    is_day.then_some(year * 10_000 + month * 100 + day)
+    is_day.then_some(Date { year, month, day })
 }
 
 fn number(digits: &[u8]) -> Option<u32> {

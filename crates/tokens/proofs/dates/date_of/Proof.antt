@@ -2,13 +2,15 @@
 use mathlib.Core.Path.{_≡_, refl, sym, _∙_}
 use mathlib.Core.Bool.{Bool, true, false, not, true≢false}
 use mathlib.Core.List.{List}
-use Prim.Native.Nat.{ℕ, _<_}
+use Prim.Native.Nat.{ℕ, _+_, _*_, _<_}
 use native.Mathlib.Omega.{arith}
 use lib.Dec.{eqb}
 use lib.ListN.{length}
-use borrow.Author.Tests.{eqb-true, not-true, not-false}
-use Rattle.tokens.specs.Dates.{isShape, date}
 use borrow.Author.Needs.{needs}
+use borrow.Author.Tests.{eqb-true, not-true, not-false}
+use Rattle.calendar.specs.Calendar.{countOf}
+use Rattle.tokens.specs.Dates.{isShape, date}
+use Rattle.tokens.proofs.DateLaws.{date-shaped}
 use Rattle.tokens.proofs.dates.date_of.Statement.{statement}
 use Rattle.tokens.proofs.dates.date_of.Tie as tie
 
@@ -30,14 +32,14 @@ returns c = simp (sym (c .before .is-shape .ensures) ∙ not-true _ (c .if1 .tak
 pair-at-requires : tie.Need-pair-at-requires
 pair-at-requires c κs = inside (c .before .before .before .args .s .now) _ (c .before .is-shape .ensures) (c .if1 .left) 1 (omega arith)
 
-mul-y : tie.Need-mul-y
-mul-y c = search needs
+mul-t5 : tie.Need-mul-t5
+mul-t5 c = search needs
 
 pair-at-requires-2 : tie.Need-pair-at-requires-2
 pair-at-requires-2 c κs = inside (c .before .before .before .before .args .s .now) _ (c .before .before .is-shape .ensures) (c .before .if1 .left) 3 (omega arith)
 
-add-y : tie.Need-add-y
-add-y c = search needs
+add-t7 : tie.Need-add-t7
+add-t7 c = search needs
 
 pair-at-requires-3 : tie.Need-pair-at-requires-3
 pair-at-requires-3 c κs = inside (c .before .before .before .before .before .args .s .now) _ (c .before .before .before .is-shape .ensures) (c .before .before .if1 .left) 6 (omega arith)
@@ -45,44 +47,18 @@ pair-at-requires-3 c κs = inside (c .before .before .before .before .before .ar
 pair-at-requires-4 : tie.Need-pair-at-requires-4
 pair-at-requires-4 c κs = inside (c .before .before .before .before .before .before .args .s .now) _ (c .before .before .before .before .is-shape .ensures) (c .before .before .before .if1 .left) 9 (omega arith)
 
-is-day-requires : tie.Need-is-day-requires
-is-day-requires c κs = search needs
-
-mul-result : tie.Need-mul-result
-mul-result c = search needs
-
-mul-result-2 : tie.Need-mul-result-2
-mul-result-2 c = search needs
-
-add-result : tie.Need-add-result
-add-result c = search needs
-
-add-result-2 : tie.Need-add-result-2
-add-result-2 c = search needs
+count-of-requires : tie.Need-count-of-requires
+count-of-requires c κs = search needs
 
 returns-2 : tie.Need-returns-2
-unfolding date
 returns-2 c =
-    simp (
-      sym (c .before .before .before .before .before .before .before .is-shape .ensures) ∙ not-false _ (c .before .before .before .before .before .before .if1 .left),
-      ← c .before .before .before .before .before .pair-at .ensures .0,
-      ← c .before .before .before .before .pair-at2 .ensures .0,
-      ← c .before .before .before .pair-at3 .ensures .0,
-      ← c .before .before .pair-at4 .ensures .0,
-      sym (c .before .is-day .ensures) ∙ c .if2 .taken,
-    )
-
-returns-3 : tie.Need-returns-3
-unfolding date
-returns-3 c =
-    simp (
-      sym (c .before .before .before .before .before .before .before .is-shape .ensures) ∙ not-false _ (c .before .before .before .before .before .before .if1 .left),
-      ← c .before .before .before .before .before .pair-at .ensures .0,
-      ← c .before .before .before .before .pair-at2 .ensures .0,
-      ← c .before .before .before .pair-at3 .ensures .0,
-      ← c .before .before .pair-at4 .ensures .0,
-      sym (c .before .is-day .ensures) ∙ c .if2 .left,
-    )
+    c .count-of .ensures
+    ∙ (λ i. countOf (record {
+      year = c .before .before .before .before .pair-at .ensures .0 i * 100 + c .before .before .before .pair-at2 .ensures .0 i;
+      month = c .before .before .pair-at3 .ensures .0 i;
+      day = c .before .pair-at4 .ensures .0 i;
+    }))
+    ∙ sym (date-shaped (c .before .before .before .before .before .before .before .before .args .s .now) (sym (c .before .before .before .before .before .before .is-shape .ensures) ∙ not-false _ (c .before .before .before .before .before .if1 .left)))
 
 pub date-of-spec : {M : Type 1} → statement M
 date-of-spec =
@@ -91,15 +67,10 @@ date-of-spec =
     is-shape-requires
     returns
     pair-at-requires
-    mul-y
+    mul-t5
     pair-at-requires-2
-    add-y
+    add-t7
     pair-at-requires-3
     pair-at-requires-4
-    is-day-requires
-    mul-result
-    mul-result-2
-    add-result
-    add-result-2
-    returns-2
-    returns-3)
+    count-of-requires
+    returns-2)

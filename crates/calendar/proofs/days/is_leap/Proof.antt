@@ -1,7 +1,7 @@
 -- `is_leap` tells the leap years.
 use borrow.Author.Tests.{eq-eqb, ne-eqb}
-use Rattle.tokens.proofs.dates.is_leap.Statement.{statement}
-use Rattle.tokens.proofs.dates.is_leap.Tie as tie
+use Rattle.calendar.proofs.days.is_leap.Statement.{statement}
+use Rattle.calendar.proofs.days.is_leap.Tie as tie
 
 returns : tie.Need-returns
 returns c = simp (eq-eqb _ _ (c .before .if1 .taken), ne-eqb _ _ (c .if2 .taken))

@@ -2,8 +2,8 @@
 use mathlib.Core.Logic.{⊎-elim, inl, inr}
 use borrow.Author.Tests.{eq-eqb, ne-eqb}
 use borrow.Author.Needs.{needs}
-use Rattle.tokens.proofs.dates.days_in.Statement.{statement}
-use Rattle.tokens.proofs.dates.days_in.Tie as tie
+use Rattle.calendar.proofs.days.days_in.Statement.{statement}
+use Rattle.calendar.proofs.days.days_in.Tie as tie
 
 is-leap-requires : tie.Need-is-leap-requires
 is-leap-requires c κs = search needs

@@ -1,0 +1,49 @@
+//! Days of the calendar: the count that records have of them, by a rule of its own, and scripts with each of them.
+
+/// 0001-01-01 is 1. The years are counted from March, so that a leap day is the last of its year, and the months behind March
+/// follow one pattern: 31, 30, 31, 30, 31 days, and again.
+pub fn count(year: u32, month: u32, day: u32) -> u32 {
+    let (years, months) = if month < 3 {
+        (year - 1, month + 9)
+    } else {
+        (year, month - 3)
+    };
+    let leap_days = years / 4 - years / 100 + years / 400;
+    365 * years + leap_days + (153 * months + 2) / 5 + day - 306
+}
+
+/// Every day as a date, in each place that takes one: the days of a year in one script. And the day behind each month's last,
+/// alone, since it is refused.
+pub fn scripts() -> impl Iterator<Item = String> {
+    (1..=9999).flat_map(|year| {
+        let mut days = String::new();
+        let mut scripts = Vec::new();
+        for month in 1..=12 {
+            let behind = length(year, month) + 1;
+            days.extend((1..behind).map(|day| statement(year, month, day)));
+            scripts.push(statement(year, month, behind));
+        }
+        scripts.push(days);
+        scripts
+    })
+}
+
+fn length(year: u32, month: u32) -> u32 {
+    let next = if month < 12 {
+        count(year, month + 1, 1)
+    } else {
+        count(year + 1, 1, 1)
+    };
+    next - count(year, month, 1)
+}
+
+fn statement(year: u32, month: u32, day: u32) -> String {
+    let date = format!("\"{year:04}-{month:02}-{day:02}\"");
+    match day % 5 {
+        0 => format!("Spot(\"EUR\",\"USD\",{date});"),
+        1 => format!("Spot(\"x\",{date});"),
+        2 => format!("Df({date});"),
+        3 => format!("RateIndex(\"\",{date},{date});"),
+        _ => format!("pays 1 on {date};"),
+    }
+}

@@ -1,0 +1,3 @@
+-- Laws of the calendar, and the calendar on examples.
+pub mod CalendarLaws
+pub mod CalendarExamples
