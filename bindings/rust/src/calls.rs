@@ -1,4 +1,4 @@
-//! The three calls, over memory that the caller lends. Each is answered for any bytes, words and lengths.
+//! The three calls on scripts, over memory that the caller lends. Each is answered for any bytes, words and lengths.
 
 use crate::answer::{outcome, Counts, Refusal};
 use crate::foreign;

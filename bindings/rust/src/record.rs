@@ -120,7 +120,9 @@ impl Record {
             Some(Kind::Spot) => Fields::Spot { first: currency(f1), second: currency(f2), date: Date::from_count(f3) },
             Some(Kind::EquitySpot) => Fields::EquitySpot { name: place(f1, f2), date: Date::from_count(f3) },
             Some(Kind::Df) => Fields::Df { date: Date::from_count(f1), curve: (f2 != 0).then(|| place(f2, f3)) },
-            Some(Kind::RateIndex) => Fields::RateIndex { name: place(f1, f2), from: Date::from_count(f3), to: Date::from_count(f4) },
+            Some(Kind::RateIndex) => {
+                Fields::RateIndex { name: place(f1, f2), from: Date::from_count(f3), to: Date::from_count(f4) }
+            }
             Some(Kind::Pays) => Fields::Pays { date: Date::from_count(f1), currency: currency(f2) },
             Some(Kind::If) => Fields::If { first_else: (f1 != 0).then_some(f1) },
             Some(Kind::ForEach) => Fields::ForEach { variable: place(f1, f2) },

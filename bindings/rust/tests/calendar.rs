@@ -2,43 +2,11 @@
 
 mod common;
 
+use common::calendar::{days, written, Day};
 use common::LISTS;
 use gorembiin::{Date, Fields, Note, Record, STATEMENTS};
 
 const LAST_COUNT: u32 = 3_652_059;
-
-/// Year, month, day.
-type Day = (u32, u32, u32);
-
-/// The days from 0001-01-01 to 9999-12-31, in their order.
-fn days() -> impl Iterator<Item = Day> {
-    std::iter::successors(Some((1, 1, 1)), |&day| Some(next(day))).take_while(|&(year, _, _)| year <= 9999)
-}
-
-fn next((year, month, day): Day) -> Day {
-    if day < length(year, month) {
-        (year, month, day + 1)
-    } else if month < 12 {
-        (year, month + 1, 1)
-    } else {
-        (year + 1, 1, 1)
-    }
-}
-
-fn length(year: u32, month: u32) -> u32 {
-    match month {
-        4 | 6 | 9 | 11 => 30,
-        2 if year % 400 == 0 => 29,
-        2 if year % 100 == 0 => 28,
-        2 if year % 4 == 0 => 29,
-        2 => 28,
-        _ => 31,
-    }
-}
-
-fn written((year, month, day): Day) -> String {
-    format!("{year:04}-{month:02}-{day:02}")
-}
 
 #[test]
 fn every_count_is_one_day() {

@@ -1,5 +1,8 @@
 //! The program `desk`, run as a user runs it.
 
+mod common;
+
+use common::calendar::{days, written};
 use std::fs;
 use std::io::Write;
 use std::path::{Path, PathBuf};
@@ -363,5 +366,35 @@ fn help_names_each_command() {
         for command in ["desk show FILE", "desk check FILE", "desk amend FILE N TEXTFILE"] {
             assert!(answer.said.contains(command), "{command}");
         }
+    }
+}
+
+#[test]
+fn dates_are_shown_in_every_kind_that_has_them() {
+    let folder = Folder::new("dates_are_shown_in_every_kind_that_has_them");
+    let cases = [
+        ("Spot(\"EUR\",\"USD\",\"2020-02-29\");", "Spot EUR in USD, 2020-02-29"),
+        ("Spot(\"x\",\"2020-02-29\");", "equity spot \"x\" at 6..7, 2020-02-29"),
+        ("Df(\"0001-01-01\",\"c\");", "Df 0001-01-01 curve \"c\" at 17..18"),
+        ("RateIndex(\"r\",\"2019-12-31\",\"2020-01-01\");", "RateIndex \"r\" at 11..12, 2019-12-31, 2020-01-01"),
+        ("pays on \"9999-12-31\" in \"EUR\"", "Pays on 9999-12-31 in EUR"),
+    ];
+    for (script, expected) in cases {
+        let answer = folder.desk_on(&["show", "-"], script.as_bytes());
+        assert_eq!(answer.said.lines().last(), Some(format!("  {expected}").as_str()));
+    }
+}
+
+#[test]
+fn every_day_is_shown_as_it_is_written() {
+    let folder = Folder::new("every_day_is_shown_as_it_is_written");
+    let days: Vec<String> = days().map(written).collect();
+    // a script has tokens for so many
+    for days in days.chunks(800) {
+        let parts: Vec<String> = days.iter().map(|day| format!("Df(\"{day}\")")).collect();
+        let answer = folder.desk_on(&["show", "-"], format!("[{}];", parts.join(",")).as_bytes());
+        assert_eq!((answer.status, answer.complained.as_str()), (0, ""));
+        let shown: Vec<&str> = answer.said.lines().filter_map(|line| line.strip_prefix("    Df ")).collect();
+        assert_eq!(shown, days);
     }
 }

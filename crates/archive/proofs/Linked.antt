@@ -7,6 +7,9 @@ use mathlib.Core.List.{List, [], _∷_}
 use Prim.Native.Nat.{ℕ, zero, suc, _+_, _*_, _<_, _≤_}
 use native.Mathlib.Omega.{arith}
 use lib.ListN.{length, take}
+use Rattle.calendar.specs.declared.days.Day.{Day}
+use Rattle.calendar.specs.Calendar.{isDay, countOf, lastCount, dayOf}
+use Rattle.calendar.proofs.WayBack.{day-counted, counted-day}
 use Rattle.tokens.specs.Limits.{mostBytes}
 use Rattle.tokens.specs.Text.{script}
 use Rattle.tokens.specs.Names.{Lists}
@@ -29,7 +32,7 @@ use Rattle.amending.proofs.AmendAnswers as amended
 use Rattle.amending.proofs.GroundLaws.{bounded}
 use Rattle.amending.proofs.StateLaws.{held-within, call-holds}
 use Rattle.amending.proofs.Certain as certain
-use Rattle.archive.specs.Exports.{word, answerWords, numberIn, heldIn, placeWords, Reads, Replaces, AreWords, numbers, Runs, none as no-calls, call}
+use Rattle.archive.specs.Exports.{word, answerWords, numberIn, heldIn, placeWords, dayWords, dayIn, Reads, Replaces, AreWords, numbers, Runs, none as no-calls, call}
 
 -- ---- two outcomes of one call coincide
 
@@ -210,3 +213,15 @@ module _ (s c ws : List ℕ) (start : ℕ) (second : Bool) (short : length s < 4
   part-words =
       let e = ends (p .in_list) refl in
       λ i. cond (p .in_list) 1 0 ∷ low (p .from) (omega (arith, e)) i ∷ low (p .size) (omega (arith, e)) i ∷ []
+
+-- ---- `calendar_count` answers `countOf` of a day, and `calendar_day` leaves `dayWords` of `dayOf` a count: each gives back what the other was asked
+
+words-day : (d : Day) → dayIn (dayWords d) ≡ d
+unfolding dayWords dayIn
+words-day d = refl
+
+pub day-back : (d : Day) → isDay d ≡ true → dayIn (dayWords (dayOf (countOf d))) ≡ d
+day-back d e = words-day (dayOf (countOf d)) ∙ counted-day d e
+
+pub count-back : (n : ℕ) → n ≤ lastCount → countOf (dayIn (dayWords (dayOf n))) ≡ n
+count-back n h = ap countOf (words-day (dayOf n)) ∙ day-counted n h

@@ -37,6 +37,10 @@ placeWords p = cond (p .in_list) 1 0 ∷ word (p .from) ∷ word (p .size) ∷ [
 unfoldable pub dayWords : Day → List ℕ
 dayWords d = d .year ∷ d .month ∷ d .day ∷ []
 
+-- the day that such words are
+unfoldable pub dayIn : List ℕ → Day
+dayIn ws = record { year = getD ws 0 0; month = getD ws 1 0; day = getD ws 2 0 }
+
 -- a script bs read into the records o and the directory d: the words of the answer, and what is left in both
 pub record Reads (l : Lists) (bs o d ws o′ d′ : List ℕ) : Type 0 where
   pub answer : Answer

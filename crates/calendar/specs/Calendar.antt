@@ -21,11 +21,14 @@ daysOf y m =
     (cond (leap y) 29 28)
     (cond (eqb m 4 || (eqb m 6 || (eqb m 9 || eqb m 11))) 30 31)
 
+abbrev pub lastYear : ℕ
+lastYear = 9999
+
 -- a true day, of the years 1 to 9999
 abbrev pub isDay : Day → Bool
 isDay d =
     leb 1 (d .year)
-    && (leb (d .year) 9999
+    && (leb (d .year) lastYear
     && (leb 1 (d .month) && (leb (d .month) 12 && (leb 1 (d .day) && leb (d .day) (daysOf (d .year) (d .month))))))
 
 -- ---- from a day to its count
@@ -45,7 +48,7 @@ countOf d = cond (isDay d) (count d) 0
 
 -- ---- and back
 
--- 9999-12-31
+-- the count of 9999-12-31, and the greatest (`CalendarLaws.count-most`)
 abbrev pub lastCount : ℕ
 lastCount = 3652059
 
@@ -57,7 +60,7 @@ countOff f (suc k) i n = cond (leb n (f i)) (i, n) (countOff f k (suc i) (n - f 
 
 -- the year of the n-th day, and the day of that year
 abbrev pub yearFrom : ℕ → ℕ × ℕ
-yearFrom n = countOff yearDays 9998 1 n
+yearFrom n = countOff yearDays (lastYear - 1) 1 n
 
 -- the month of the n-th day of the year y, and the day of that month
 abbrev pub monthFrom : ℕ → ℕ → ℕ × ℕ

@@ -1,7 +1,11 @@
 // Days of the Gregorian calendar and their counts: 0001-01-01 is 1, and 9999-12-31 is 3652059.
 ghost use mathlib.Core.Path.{_≡_};
 ghost use Prim.Native.Nat.{_-_, _≤_, _<_};
-ghost use Rattle.calendar.specs.Calendar.{leap, daysOf, yearDays, isDay, total, countOf, dayOf};
+ghost use Rattle.calendar.specs.Calendar.{leap, daysOf, yearDays, lastYear, isDay, total, countOf, lastCount, dayOf};
+
+const LAST_YEAR: u32 = 9999;
+
+const LAST_COUNT: u32 = 3652059;
 
 pub struct Day {
     pub year: u32,
@@ -29,14 +33,14 @@ fn is_day(d: Day) -> bool
     ensures { λ r. ⌜ r ≡ isDay d ⌝ }
 {
     1 <= d.year
-        && (d.year <= 9999
+        && (d.year <= LAST_YEAR
             && (1 <= d.month
                 && (d.month <= 12 && (1 <= d.day && d.day <= days_in(d.year, d.month)))))
 }
 
 // The days of the first n years: 365 each, and a leap day by the Gregorian rule.
 fn days_of_years(n: u32) -> u32
-    requires { ⌜ n ≤ 9999 ⌝ }
+    requires { ⌜ n ≤ lastYear ⌝ }
     ensures { λ r. ⌜ r ≡ total yearDays n ⌝ }
 {
     n * 365 + n / 4 - n / 100 + n / 400
@@ -89,8 +93,8 @@ pub fn count_of(d: Day) -> u32
 // The year of the day with the count n. 400 years have 146097 days; by that measure a day falls into its own year or, near
 // the turn, into the year before.
 fn year_of(n: u32) -> u32
-    requires { ⌜ (1 ≤ n) × (n ≤ 3652059) ⌝ }
-    ensures { λ r. ⌜ (1 ≤ r) × (r ≤ 9999) × (total yearDays (r - 1) < n) × (n ≤ total yearDays r) ⌝ }
+    requires { ⌜ (1 ≤ n) × (n ≤ lastCount) ⌝ }
+    ensures { λ r. ⌜ (1 ≤ r) × (r ≤ lastYear) × (total yearDays (r - 1) < n) × (n ≤ total yearDays r) ⌝ }
 {
     let before = (n - 1) * 400 / 146097;
     if n <= days_of_years(before + 1) {
@@ -118,7 +122,7 @@ fn month_of(y: u32, n: u32) -> u32
 pub fn day_of(n: u32) -> Day
     ensures { λ r. ⌜ r ≡ dayOf n ⌝ }
 {
-    if n == 0 || 3652059 < n {
+    if n == 0 || LAST_COUNT < n {
         return Day {
             year: 0,
             month: 0,

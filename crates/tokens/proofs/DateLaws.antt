@@ -6,7 +6,8 @@ use Prim.Native.Nat.{ℕ, _≤_, _<_}
 use native.Mathlib.Omega.{arith}
 use lib.Dec.{eqb}
 use Rattle.calendar.specs.Calendar.{isDay, count, countOf, lastCount, dayOf, Before}
-use Rattle.calendar.proofs.CalendarLaws.{count-is, count-none, count-most, increasing, counted-day}
+use Rattle.calendar.proofs.CalendarLaws.{count-none, count-most, increasing}
+use Rattle.calendar.proofs.WayBack.{counted-day}
 use Rattle.tokens.specs.Text.{if_then_else_}
 use Rattle.tokens.specs.Dates.{isShape, written, isDate, date}
 use Rattle.tokens.proofs.NameLaws.{and-true-both}

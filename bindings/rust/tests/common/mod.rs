@@ -1,6 +1,8 @@
 //! What the tests share.
 #![allow(dead_code)] // each test program uses its own part
 
+pub mod calendar;
+
 use gorembiin::{Fields, Ground, Lists, Note, Refusal, Statement, Which};
 
 /// Lists with names in all three.

@@ -11,8 +11,7 @@ pub struct Date {
 impl Date {
     /// The format is the same in every call, and it is the rule above.
     pub fn from_str(text: &str, _format: &str) -> Result<Self> {
-        date(text.as_bytes())
-            .ok_or_else(|| QSError::InvalidValueErr(format!("no date: {text}")))
+        date(text.as_bytes()).ok_or_else(|| QSError::InvalidValueErr(format!("no date: {text}")))
     }
 }
 

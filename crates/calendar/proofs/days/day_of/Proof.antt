@@ -6,7 +6,8 @@ use native.Mathlib.Omega.{arith}
 use borrow.Author.Needs.{needs}
 use borrow.Author.Tests.{ltb-true}
 use Rattle.calendar.specs.Calendar.{yearDays, daysOf}
-use Rattle.calendar.proofs.CalendarLaws.{total-next, day-none, day-found}
+use Rattle.calendar.proofs.Sums.{total-next}
+use Rattle.calendar.proofs.WayBack.{day-none, day-found}
 use Rattle.calendar.proofs.days.day_of.Statement.{statement}
 use Rattle.calendar.proofs.days.day_of.Tie as tie
 

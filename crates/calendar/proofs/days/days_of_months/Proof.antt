@@ -4,7 +4,7 @@ use native.Mathlib.Omega.{arith}
 use borrow.Author.Needs.{needs}
 use borrow.Author.Tests.{le-leb, lt-leb}
 use Rattle.calendar.specs.Calendar.{daysOf}
-use Rattle.calendar.proofs.CalendarLaws.{months-of, months-most}
+use Rattle.calendar.proofs.YearLaws.{months-of, months-most}
 use Rattle.calendar.proofs.days.days_of_months.Statement.{statement}
 use Rattle.calendar.proofs.days.days_of_months.Tie as tie
 

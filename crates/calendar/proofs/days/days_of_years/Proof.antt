@@ -1,7 +1,7 @@
 -- `days_of_years` counts the days of the first years by the rule.
 use mathlib.Core.Path.{sym}
 use borrow.Author.Needs.{needs}
-use Rattle.calendar.proofs.CalendarLaws.{years-by-rule}
+use Rattle.calendar.proofs.YearLaws.{years-by-rule}
 use Rattle.calendar.proofs.days.days_of_years.Statement.{statement}
 use Rattle.calendar.proofs.days.days_of_years.Tie as tie
 

@@ -4,7 +4,8 @@ use Prim.Native.Nat.{_+_, _-_, _/_}
 use native.Mathlib.Omega.{arith}
 use borrow.Author.Needs.{needs}
 use Rattle.calendar.specs.Calendar.{daysOf}
-use Rattle.calendar.proofs.CalendarLaws.{behind, year-most, months-of-year, month-low, month-high}
+use Rattle.calendar.proofs.Sums.{behind}
+use Rattle.calendar.proofs.YearLaws.{year-most, months-of-year, month-low, month-high}
 use Rattle.calendar.proofs.days.month_of.Statement.{statement}
 use Rattle.calendar.proofs.days.month_of.Tie as tie
 

@@ -3,8 +3,9 @@ use mathlib.Core.Path.{refl}
 use Prim.Native.Nat.{_+_, _-_, _*_, _/_}
 use native.Mathlib.Omega.{arith}
 use borrow.Author.Needs.{needs}
-use Rattle.calendar.specs.Calendar.{yearDays}
-use Rattle.calendar.proofs.CalendarLaws.{behind, years-last, year-low, year-high}
+use Rattle.calendar.specs.Calendar.{yearDays, lastYear}
+use Rattle.calendar.proofs.Sums.{behind}
+use Rattle.calendar.proofs.YearLaws.{years-last, year-low, year-high}
 use Rattle.calendar.proofs.days.year_of.Statement.{statement}
 use Rattle.calendar.proofs.days.year_of.Tie as tie
 
@@ -27,7 +28,7 @@ returns : tie.Need-returns
 returns c =
     let n = c .before .before .args .n in
     let before = (n - 1) * 400 / 146097 in
-    behind yearDays 9999 n before (before + 1) refl (omega (arith, c .before .before .pre, years-last)) (year-low n (c .before .before .pre .0))
+    behind yearDays lastYear n before (before + 1) refl (omega (arith, c .before .before .pre, years-last)) (year-low n (c .before .before .pre .0))
     (omega (arith, c .before .days-of-years .ensures, c .if1 .taken))
 
 add-result-2 : tie.Need-add-result-2
@@ -37,7 +38,7 @@ returns-2 : tie.Need-returns-2
 returns-2 c =
     let n = c .before .before .args .n in
     let before = (n - 1) * 400 / 146097 in
-    behind yearDays 9999 n (before + 1) (before + 2) (omega arith) (omega (arith, c .before .before .pre, years-last))
+    behind yearDays lastYear n (before + 1) (before + 2) (omega arith) (omega (arith, c .before .before .pre, years-last))
     (omega (arith, c .before .days-of-years .ensures, c .if1 .left)) (year-high n)
 
 pub year-of-spec : {M : Type 1} → statement M
