@@ -2,7 +2,6 @@
 // lent arrays.
 use amending::amending::amend;
 use amending::held::Held;
-use calendar::days::Day;
 use calendar::days::count_of;
 use calendar::days::day_of;
 use reading::parts::Place;
@@ -11,7 +10,7 @@ use reading::reading::Answer;
 use reading::reading::read;
 ghost use mathlib.Core.Path.{_≡_};
 ghost use Prim.Native.Nat.{_%_, _^_};
-ghost use Rattle.calendar.specs.Calendar.{countOf, dayOf};
+ghost use Rattle.calendar.specs.Calendar.{dated, countOf, dayOf};
 ghost use Rattle.reading.specs.Judging.{listsIn};
 ghost use Rattle.reading.specs.Parts.{partNamed, placed};
 ghost use Rattle.amending.specs.Memory.{memory};
@@ -91,13 +90,9 @@ pub extern "C" fn script_part(
 // The count of a day, as records have it; 0 where there is no such day.
 #[no_mangle]
 pub extern "C" fn calendar_count(year: u32, month: u32, day: u32) -> u32
-    ensures { λ r. ⌜ r ≡ countOf (record { year = year; month = month; day = day }) ⌝ }
+    ensures { λ r. ⌜ r ≡ countOf (dated year month day) ⌝ }
 {
-    count_of(Day {
-        year: year,
-        month: month,
-        day: day,
-    })
+    count_of(year, month, day)
 }
 
 // Says which day has a count: year, month, day, and 0, 0, 0 where none has it.

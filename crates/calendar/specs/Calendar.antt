@@ -24,6 +24,10 @@ daysOf y m =
 abbrev pub lastYear : ℕ
 lastYear = 9999
 
+-- the day d of the month m of the year y
+abbrev pub dated : ℕ → ℕ → ℕ → Day
+dated y m d = record { year = y; month = m; day = d }
+
 -- a true day, of the years 1 to 9999
 abbrev pub isDay : Day → Bool
 isDay d =
@@ -70,10 +74,10 @@ abbrev pub dayFrom : ℕ → Day
 dayFrom n =
     let y = yearFrom n in
     let m = monthFrom (y .0) (y .1) in
-    record { year = y .0; month = m .0; day = m .1 }
+    dated (y .0) (m .0) (m .1)
 
 abbrev pub noDay : Day
-noDay = record { year = 0; month = 0; day = 0 }
+noDay = dated 0 0 0
 
 -- no day has the count 0 or one behind the last
 unfoldable pub dayOf : ℕ → Day

@@ -1,7 +1,7 @@
 // Days of the Gregorian calendar and their counts: 0001-01-01 is 1, and 9999-12-31 is 3652059.
 ghost use mathlib.Core.Path.{_≡_};
 ghost use Prim.Native.Nat.{_-_, _≤_, _<_};
-ghost use Rattle.calendar.specs.Calendar.{leap, daysOf, yearDays, lastYear, isDay, total, countOf, lastCount, dayOf};
+ghost use Rattle.calendar.specs.Calendar.{leap, daysOf, yearDays, lastYear, dated, isDay, total, countOf, lastCount, dayOf};
 
 const LAST_YEAR: u32 = 9999;
 
@@ -29,13 +29,10 @@ fn days_in(y: u32, m: u32) -> u32
     }
 }
 
-fn is_day(d: Day) -> bool
-    ensures { λ r. ⌜ r ≡ isDay d ⌝ }
+fn is_day(y: u32, m: u32, d: u32) -> bool
+    ensures { λ r. ⌜ r ≡ isDay (dated y m d) ⌝ }
 {
-    1 <= d.year
-        && (d.year <= LAST_YEAR
-            && (1 <= d.month
-                && (d.month <= 12 && (1 <= d.day && d.day <= days_in(d.year, d.month)))))
+    1 <= y && (y <= LAST_YEAR && (1 <= m && (m <= 12 && (1 <= d && d <= days_in(y, m)))))
 }
 
 // The days of the first n years: 365 each, and a leap day by the Gregorian rule.
@@ -80,14 +77,15 @@ fn days_of_months(y: u32, n: u32) -> u32
     if is_leap(y) { plain + 1 } else { plain }
 }
 
-// The count of a day, 0 where there is no such day.
-pub fn count_of(d: Day) -> u32
-    ensures { λ r. ⌜ r ≡ countOf d ⌝ }
+// The count of the day d of the month m of the year y, 0 where there is no such day. The three are handed over as they are,
+// since a `Day` goes through memory.
+pub fn count_of(y: u32, m: u32, d: u32) -> u32
+    ensures { λ r. ⌜ r ≡ countOf (dated y m d) ⌝ }
 {
-    if !is_day(d) {
+    if !is_day(y, m, d) {
         return 0;
     }
-    days_of_years(d.year - 1) + days_of_months(d.year, d.month - 1) + d.day
+    days_of_years(y - 1) + days_of_months(y, m - 1) + d
 }
 
 // The year of the day with the count n. 400 years have 146097 days; by that measure a day falls into its own year or, near

@@ -5,7 +5,7 @@ use Prim.Native.Nat.{ℕ, _+_, _-_, _*_}
 use lib.Dec.{ltb, eqb}
 use lib.ListN.{length, getD}
 use Rattle.calendar.specs.declared.days.Day.{Day}
-use Rattle.calendar.specs.Calendar.{isDay, count}
+use Rattle.calendar.specs.Calendar.{dated, isDay, count}
 use Rattle.tokens.specs.Text.{if_then_else_, digit}
 
 -- the number that two digits at a place write, and 100 where they are not both digits
@@ -22,7 +22,7 @@ isShape s =
 
 -- the day that they write
 abbrev pub written : List ℕ → Day
-written s = record { year = pair s 0 * 100 + pair s 2; month = pair s 5; day = pair s 8 }
+written s = dated (pair s 0 * 100 + pair s 2) (pair s 5) (pair s 8)
 
 abbrev pub isDate : List ℕ → Bool
 isDate s = isShape s && isDay (written s)

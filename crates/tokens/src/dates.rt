@@ -1,6 +1,5 @@
 // A date as ISO 8601 writes it.
 use crate::text::is_digit;
-use calendar::days::Day;
 use calendar::days::count_of;
 ghost use mathlib.Core.Path.{_≡_};
 ghost use Prim.Native.Nat.{_+_, _-_, _≤_, _<_};
@@ -41,9 +40,6 @@ pub fn date_of(s: &[u8]) -> u32
     if !is_shape(s) {
         return 0;
     }
-    count_of(Day {
-        year: pair_at(s, 0) * 100 + pair_at(s, 2),
-        month: pair_at(s, 5),
-        day: pair_at(s, 8),
-    })
+    let y = pair_at(s, 0) * 100 + pair_at(s, 2);
+    count_of(y, pair_at(s, 5), pair_at(s, 8))
 }

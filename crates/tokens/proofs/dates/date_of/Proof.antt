@@ -8,7 +8,7 @@ use lib.Dec.{eqb}
 use lib.ListN.{length}
 use borrow.Author.Needs.{needs}
 use borrow.Author.Tests.{eqb-true, not-true, not-false}
-use Rattle.calendar.specs.Calendar.{countOf}
+use Rattle.calendar.specs.Calendar.{dated, countOf}
 use Rattle.tokens.specs.Dates.{isShape, date}
 use Rattle.tokens.proofs.DateLaws.{date-shaped}
 use Rattle.tokens.proofs.dates.date_of.Statement.{statement}
@@ -32,14 +32,14 @@ returns c = simp (sym (c .before .is-shape .ensures) ∙ not-true _ (c .if1 .tak
 pair-at-requires : tie.Need-pair-at-requires
 pair-at-requires c κs = inside (c .before .before .before .args .s .now) _ (c .before .is-shape .ensures) (c .if1 .left) 1 (omega arith)
 
-mul-t5 : tie.Need-mul-t5
-mul-t5 c = search needs
+mul-y : tie.Need-mul-y
+mul-y c = search needs
 
 pair-at-requires-2 : tie.Need-pair-at-requires-2
 pair-at-requires-2 c κs = inside (c .before .before .before .before .args .s .now) _ (c .before .before .is-shape .ensures) (c .before .if1 .left) 3 (omega arith)
 
-add-t7 : tie.Need-add-t7
-add-t7 c = search needs
+add-y : tie.Need-add-y
+add-y c = search needs
 
 pair-at-requires-3 : tie.Need-pair-at-requires-3
 pair-at-requires-3 c κs = inside (c .before .before .before .before .before .args .s .now) _ (c .before .before .before .is-shape .ensures) (c .before .before .if1 .left) 6 (omega arith)
@@ -53,11 +53,7 @@ count-of-requires c κs = search needs
 returns-2 : tie.Need-returns-2
 returns-2 c =
     c .count-of .ensures
-    ∙ (λ i. countOf (record {
-      year = c .before .before .before .before .pair-at .ensures .0 i * 100 + c .before .before .before .pair-at2 .ensures .0 i;
-      month = c .before .before .pair-at3 .ensures .0 i;
-      day = c .before .pair-at4 .ensures .0 i;
-    }))
+    ∙ (λ i. countOf (dated (c .before .before .before .before .pair-at .ensures .0 i * 100 + c .before .before .before .pair-at2 .ensures .0 i) (c .before .before .pair-at3 .ensures .0 i) (c .before .pair-at4 .ensures .0 i)))
     ∙ sym (date-shaped (c .before .before .before .before .before .before .before .before .args .s .now) (sym (c .before .before .before .before .before .before .is-shape .ensures) ∙ not-false _ (c .before .before .before .before .before .if1 .left)))
 
 pub date-of-spec : {M : Type 1} → statement M
@@ -67,9 +63,9 @@ date-of-spec =
     is-shape-requires
     returns
     pair-at-requires
-    mul-t5
+    mul-y
     pair-at-requires-2
-    add-t7
+    add-y
     pair-at-requires-3
     pair-at-requires-4
     count-of-requires
