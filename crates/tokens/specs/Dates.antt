@@ -24,6 +24,7 @@ isShape s =
 abbrev pub written : List ℕ → Day
 written s = dated (pair s 0 * 100 + pair s 2) (pair s 5) (pair s 8)
 
+-- a text of that shape that writes a true day
 abbrev pub isDate : List ℕ → Bool
 isDate s = isShape s && isDay (written s)
 
