@@ -1,4 +1,13 @@
 //! Days of the calendar: the count that records have of them, by a rule of its own, and scripts with each of them.
+use crate::memory::Room;
+use crate::tally::Section;
+use std::time::{Duration, Instant};
+
+const YEARS: u32 = 9999;
+
+/// From one year to the next that is compared. It shares no divisor with their number, so that each year comes once, and a
+/// short run has some of all centuries.
+const STEP: u32 = 3701;
 
 /// 0001-01-01 is 1. The years are counted from March, so that a leap day is the last of its year, and the months behind March
 /// follow one pattern: 31, 30, 31, 30, 31 days, and again.
@@ -12,20 +21,33 @@ pub fn count(year: u32, month: u32, day: u32) -> u32 {
     365 * years + leap_days + (153 * months + 2) / 5 + day - 306
 }
 
-/// Every day as a date, in each place that takes one: the days of a year in one script. And the day behind each month's last,
-/// alone, since it is refused.
-pub fn scripts() -> impl Iterator<Item = String> {
-    (1..=9999).flat_map(|year| {
-        let mut days = String::new();
-        let mut scripts = Vec::new();
-        for month in 1..=12 {
-            let behind = length(year, month) + 1;
-            days.extend((1..behind).map(|day| statement(year, month, day)));
-            scripts.push(statement(year, month, behind));
+/// Years, each with all its days, until the time is over.
+pub fn run(time: Duration) -> Section {
+    let begin = Instant::now();
+    let mut section = Section::new("days of the calendar");
+    let mut years = 0;
+    while years < YEARS && begin.elapsed() < time {
+        for script in scripts(1 + years * STEP % YEARS) {
+            section.compare(&script, Room::FULL);
         }
-        scripts.push(days);
-        scripts
-    })
+        years += 1;
+    }
+    section.remark = format!("all days of {years} years, of {YEARS}");
+    section
+}
+
+/// Every day of a year as a date, in each place that takes one. And the day behind each month's last, alone, since it is
+/// refused.
+fn scripts(year: u32) -> Vec<String> {
+    let mut days = String::new();
+    let mut scripts = Vec::new();
+    for month in 1..=12 {
+        let behind = length(year, month) + 1;
+        days.extend((1..behind).map(|day| statement(year, month, day)));
+        scripts.push(statement(year, month, behind));
+    }
+    scripts.push(days);
+    scripts
 }
 
 fn length(year: u32, month: u32) -> u32 {

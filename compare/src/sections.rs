@@ -19,12 +19,13 @@ use std::time::{Duration, Instant};
 
 /// Hundredths of the time.
 const EACH_ALPHABET: u64 = 7;
-const SCRIPTS: u64 = 15;
-const DAMAGED: u64 = 15;
+const DAYS: u64 = 8;
+const SCRIPTS: u64 = 13;
+const DAMAGED: u64 = 13;
 const TOWERS: u64 = 3;
 const LISTS: u64 = 2;
 const LOOKUPS: u64 = 1;
-const AMENDMENTS: u64 = 22;
+const AMENDMENTS: u64 = 18;
 
 pub fn all(seconds: u64, seed: u64) -> ExitCode {
     println!("{seconds} seconds, seed {seed}\n");
@@ -35,7 +36,7 @@ pub fn all(seconds: u64, seed: u64) -> ExitCode {
     }
     tally.add(each("scripts at the limits", limits::scripts()));
     tally.add(each("words near keywords", near::scripts()));
-    tally.add(each("days of the calendar", days::scripts()));
+    tally.add(days::run(share(DAYS)));
     tally.add(random(
         "random scripts",
         share(SCRIPTS),
