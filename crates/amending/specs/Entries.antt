@@ -11,9 +11,10 @@ use Rattle.amending.specs.Amending.{Pick}
 
 -- ---- read
 
--- the entry whose four words stand at the index i
+-- the entry whose five words stand at the index i
 abbrev pub rowAt : List ℕ → ℕ → Row
-rowAt d i = record { start = getD d i 0; end = getD d (i + 1) 0; records = getD d (i + 2) 0; tokens = getD d (i + 3) 0 }
+rowAt d i =
+    record { start = getD d i 0; end = getD d (i + 1) 0; records = getD d (i + 2) 0; tokens = getD d (i + 3) 0; latest = getD d (i + 4) 0 }
 
 -- the first k entries
 unfoldable pub rowsFrom : ℕ → List ℕ → List Row
@@ -42,7 +43,7 @@ movedPlace old new w = if leb old w && ltb (w - old + new) (2 ^ 32) then w - old
 
 abbrev pub shiftedRow : ℕ → ℕ → Row → Row
 shiftedRow old new r =
-    record { start = movedPlace old new (r .start); end = movedPlace old new (r .end); records = r .records; tokens = r .tokens }
+    record { start = movedPlace old new (r .start); end = movedPlace old new (r .end); records = r .records; tokens = r .tokens; latest = r .latest }
 
 -- the words of the first k entries, their places moved; an entry that is not whole stays
 unfoldable pub movedWords : ℕ → ℕ → ℕ → List ℕ → List ℕ
@@ -51,7 +52,8 @@ movedWords old new (suc k) [] = []
 movedWords old new (suc k) (a ∷ []) = a ∷ []
 movedWords old new (suc k) (a ∷ b ∷ []) = a ∷ b ∷ []
 movedWords old new (suc k) (a ∷ b ∷ r ∷ []) = a ∷ b ∷ r ∷ []
-movedWords old new (suc k) (a ∷ b ∷ r ∷ t ∷ d) = movedPlace old new a ∷ movedPlace old new b ∷ r ∷ t ∷ movedWords old new k d
+movedWords old new (suc k) (a ∷ b ∷ r ∷ t ∷ []) = a ∷ b ∷ r ∷ t ∷ []
+movedWords old new (suc k) (a ∷ b ∷ r ∷ t ∷ x ∷ d) = movedPlace old new a ∷ movedPlace old new b ∷ r ∷ t ∷ x ∷ movedWords old new k d
 
 -- the words with the entries from number `from` up to, not including, number `to` moved
 abbrev pub movedFrom : List ℕ → ℕ → ℕ → ℕ → ℕ → List ℕ

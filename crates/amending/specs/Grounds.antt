@@ -14,7 +14,7 @@ use Rattle.reading.specs.declared.judging.Counts.{Counts}
 use Rattle.reading.specs.declared.reading.Answer.{Answer}
 use Rattle.amending.specs.Amending.{Rooms}
 use Rattle.amending.specs.Lent.{handed, unchanged, ascending, sumRecords, sumTokens, swapped}
-use Rattle.amending.specs.Memory.{Memory, roomsIn, usedIn, within, amendIn, heldBy, acceptedWith, refusedAt}
+use Rattle.amending.specs.Memory.{Memory, roomsIn, usedIn, within, amendIn, heldBy, dated, refusedAt}
 use Rattle.amending.specs.Entries.{rowsFrom, pickAt}
 use Rattle.amending.specs.declared.held.Held.{Held}
 use Rattle.amending.specs.declared.grounds.Row.{Row}
@@ -52,17 +52,18 @@ Few c = (c .bytes ≤ mostBytes) × (c .statements ≤ mostStatements) × (c .re
 abbrev pub Ends : List ℕ → Counts → Type 0
 Ends n c = (c .last ≤ length n) × ((c .tokens ≡ 0 → ⊥) → 1 ≤ c .last)
 
--- what is used of memory that holds the new text alone
+-- what is used of memory that holds the new text alone; its latest date is not asked for
 abbrev pub alone : Counts → Held
-alone c = record { bytes = c .bytes; statements = c .statements; records = c .records; tokens = c .tokens }
+alone c = record { bytes = c .bytes; statements = c .statements; records = c .records; tokens = c .tokens; latest = 0 }
 
--- what is used with the new text in place of an entry
+-- what is used with the new text in place of an entry; the latest date is told by the entries, once they are there
 abbrev pub totals : Held → Row → Counts → Held
 totals h e c = record {
   bytes = h .bytes - (e .end - e .start) + c .bytes;
   statements = h .statements - 1 + c .statements;
   records = h .records - e .records + c .records;
   tokens = h .tokens - e .tokens + c .tokens;
+  latest = 0;
 }
 
 -- 18, and 16 over the totals
@@ -73,7 +74,7 @@ fittingBy R h e n c =
     else if not (within R (totals h e c)) then verdict.Refused 16 (c .bytes)
     else verdict.Fits c (totals h e c)
 
--- an amendment that is made: w is used then
+-- an amendment that is made: w is used then, with the latest date of the entries
 pub record Fits (l : Lists) (M : Memory) (h : Held) (k : ℕ) (n : List ℕ) (c : Counts) (w : Held) : Type 0 where
   pub entries : List Entry
   pub there : k < h .statements
@@ -87,7 +88,7 @@ pub record Fits (l : Lists) (M : Memory) (h : Held) (k : ℕ) (n : List ℕ) (c 
   pub records-sum : h .records ≡ sumRecords (rowsFrom (h .statements) (M .directory))
   pub tokens-sum : h .tokens ≡ sumTokens (rowsFrom (h .statements) (M .directory))
   pub whole : w ≡ totals h (wordsAt (M .directory) (entryWidth * k)) c
-  pub held-then : w ≡ heldBy (swapped (usedIn M h) (pickAt k (h .statements) (M .directory)) n entries)
+  pub held-then : dated (swapped (usedIn M h) (pickAt k (h .statements) (M .directory)) n entries .latest) w ≡ heldBy (swapped (usedIn M h) (pickAt k (h .statements) (M .directory)) n entries)
   pub fits : within (roomsIn M) w ≡ true
   pub is : amendIn l M h k n ≡ handed (swapped (usedIn M h) (pickAt k (h .statements) (M .directory)) n entries)
 
@@ -105,11 +106,6 @@ pub record Ready (s o d : List ℕ) (h : Held) (k : ℕ) (n : List ℕ) (c : Cou
   pub script-room : getD d (entryWidth * k) 0 + length n + (h .bytes - getD d (entryWidth * k + 1) 0) ≤ length s
   pub record-room : recordWidth * (sumRecords (rowsFrom k d) + c .records + (h .records - (sumRecords (rowsFrom k d) + getD d (entryWidth * k + 2) 0))) ≤ length o
   pub entry-room : entryWidth * (k + c .statements + (h .statements - (k + 1))) ≤ length d
-
--- the answer that a verdict stands for: 0 and what is used then; or its number, at its byte of the new text, and the old counts
-abbrev pub answerBy : Held → List ℕ → Verdict → Answer
-answerBy h n (verdict.Fits c w) = acceptedWith w
-answerBy h n (verdict.Refused f p) = refusedAt h n f p
 
 -- what each case says of the call
 abbrev pub MeetsVerdict : Lists → Memory → Held → ℕ → List ℕ → Verdict → Type 0

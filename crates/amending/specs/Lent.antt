@@ -9,16 +9,17 @@ use Rattle.tokens.specs.Text.{if_then_else_}
 use Rattle.tokens.specs.Names.{Lists}
 use Rattle.grammar.specs.Sizes.{recordWidth}
 use Rattle.grammar.specs.Script.{Entry, Outcome, accepted, refused, tokensOf, noZero, readScript}
-use Rattle.grammar.specs.Words.{wordsOf, Row, rowOf}
+use Rattle.grammar.specs.Words.{wordsOf, Row, rowOf, latestOf}
 use Rattle.amending.specs.Amend.{endsWell}
 use Rattle.amending.specs.Amending.{State, Rooms, Pick, pick, Answer, done, refusal}
 
--- what is lent: the words that are used of it, and the count of tokens
+-- what is lent: the words that are used of it, the count of tokens, and the script's latest date
 pub record Lent : Type 0 where
   pub script : List ℕ
   pub rows : List Row
   pub words : List ℕ
   pub tokens : ℕ
+  pub latest : ℕ
 
 -- ---- sums
 
@@ -43,22 +44,23 @@ ascending i j [] = leb i j
 ascending i j (r ∷ rs) =
     leb i (r .start) && (ltb (r .start) (r .end) && (leb 1 (r .records) && (leb 1 (r .tokens) && ascending (r .end) j rs)))
 
--- inside the script, sums equal to the counts, and bytes and counts within capacity and the lent slices
+-- inside the script, sums equal to the counts, bytes and counts within capacity and the lent slices, and the script's latest date the greatest of the entries'
 unfoldable pub inOrder : Rooms → Lent → Bool
 inOrder R L =
     ascending 0 (length (L .script)) (L .rows)
     && (eqb (length (L .words)) (recordWidth * sumRecords (L .rows))
-    && (eqb (L .tokens) (sumTokens (L .rows)) && not (overRows R (length (L .script)) (L .rows))))
+    && (eqb (L .tokens) (sumTokens (L .rows))
+    && (eqb (L .latest) (latestOf (L .rows)) && not (overRows R (length (L .script)) (L .rows)))))
 
 -- ---- the words that an amendment leaves
 
 -- an entry d bytes further on
 abbrev pub movedRow : ℕ → Row → Row
-movedRow d r = record { start = r .start + d; end = r .end + d; records = r .records; tokens = r .tokens }
+movedRow d r = record { start = r .start + d; end = r .end + d; records = r .records; tokens = r .tokens; latest = r .latest }
 
 -- an entry behind a text of a bytes that stands where one of b bytes stood
 abbrev pub betweenRow : ℕ → ℕ → Row → Row
-betweenRow a b r = record { start = r .start + a - b; end = r .end + a - b; records = r .records; tokens = r .tokens }
+betweenRow a b r = record { start = r .start + a - b; end = r .end + a - b; records = r .records; tokens = r .tokens; latest = r .latest }
 
 -- the entries behind are moved, and those of the new text of n bytes put between
 abbrev pub swappedRows : Pick Row → ℕ → List Row → List Row
@@ -72,6 +74,7 @@ swapped L p n ns = record {
   rows = swappedRows p (length n) (map rowOf ns);
   words = take (recordWidth * sumRecords (p .before)) (L .words) ++ (wordsOf ns ++ drop (recordWidth * (sumRecords (p .before) + p .one .records)) (L .words));
   tokens = sumTokens (swappedRows p (length n) (map rowOf ns));
+  latest = latestOf (swappedRows p (length n) (map rowOf ns));
 }
 
 -- ---- the call. Order: 20, 17, 19, then the new text read alone as a script (1 to 15), 18, 16 over the totals
@@ -105,8 +108,13 @@ module _ (l : Lists) (R : Rooms) where
 
 -- a state in lent words
 abbrev pub lentOf : State → Lent
-lentOf st =
-    record { script = st .script; rows = map rowOf (st .entries); words = wordsOf (st .entries); tokens = tokensOf (st .entries) }
+lentOf st = record {
+  script = st .script;
+  rows = map rowOf (st .entries);
+  words = wordsOf (st .entries);
+  tokens = tokensOf (st .entries);
+  latest = latestOf (map rowOf (st .entries));
+}
 
 -- what a call on a state answers, in lent words
 abbrev pub given : Answer → Handed

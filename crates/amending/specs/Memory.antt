@@ -1,4 +1,4 @@
--- The call on lent memory: three slices, and the counts that say how much of each is used.
+-- The call on lent memory: three slices, the counts that say how much of each is used, and the script's latest date.
 use mathlib.Core.Path.{_≡_}
 use mathlib.Core.Bool.{Bool, _&&_, not}
 use mathlib.Core.List.{List}
@@ -41,6 +41,7 @@ usedIn M h = record {
   rows = rowsFrom (h .statements) (M .directory);
   words = take (recordWidth * h .records) (M .records);
   tokens = h .tokens;
+  latest = h .latest;
 }
 
 -- 20: bytes and counts within capacity and the lent slices
@@ -53,7 +54,7 @@ amendIn l M h k n = if not (within (roomsIn M) h) then unchanged 20 0 else amend
 
 -- ---- what the call answers and leaves
 
--- accepted: 0, 0, 1, 1, and the counts of the whole
+-- accepted: 0, 0, 1, 1, the counts of the whole, and its latest date
 abbrev pub acceptedWith : Held → Answer
 acceptedWith w = record {
   number = 0;
@@ -64,9 +65,10 @@ acceptedWith w = record {
   statements = w .statements;
   records = w .records;
   tokens = w .tokens;
+  latest = w .latest;
 }
 
--- a refusal: number, byte, line and column in the new text, and the old counts
+-- a refusal: number, byte, line and column in the new text, the old counts, and the old date
 abbrev pub refusedAt : Held → List ℕ → ℕ → ℕ → Answer
 refusedAt h n k p = record {
   number = k;
@@ -77,11 +79,17 @@ refusedAt h n k p = record {
   statements = h .statements;
   records = h .records;
   tokens = h .tokens;
+  latest = h .latest;
 }
 
--- how much is used
+-- how much is used, and the latest date
 abbrev pub heldBy : Lent → Held
-heldBy L = record { bytes = length (L .script); statements = length (L .rows); records = sumRecords (L .rows); tokens = L .tokens }
+heldBy L =
+    record { bytes = length (L .script); statements = length (L .rows); records = sumRecords (L .rows); tokens = L .tokens; latest = L .latest }
+
+-- the same with another latest date
+abbrev pub dated : ℕ → Held → Held
+dated x h = record { bytes = h .bytes; statements = h .statements; records = h .records; tokens = h .tokens; latest = x }
 
 abbrev pub answered : Held → List ℕ → Handed → Answer
 answered h n (handed L) = acceptedWith (heldBy L)

@@ -11,9 +11,9 @@ use Rattle.amending.specs.Lent.{lentOf}
 use Rattle.amending.specs.Memory.{Memory, roomsIn, usedIn, heldBy, Amends}
 use Rattle.amending.specs.declared.held.Held.{Held}
 
--- the counts of an answer
+-- the counts of an answer, and its latest date
 abbrev pub heldOf : Answer → Held
-heldOf r = record { bytes = r .bytes; statements = r .statements; records = r .records; tokens = r .tokens }
+heldOf r = record { bytes = r .bytes; statements = r .statements; records = r .records; tokens = r .tokens; latest = r .latest }
 
 -- memory whose used part is a state: a script that has no zero byte, that reads as these statements with these lists, and for which there is room
 pub record Holds (l : Lists) (M : Memory) (h : Held) (st : State) : Type 0 where

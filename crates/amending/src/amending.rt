@@ -5,6 +5,7 @@ use crate::grounds::verdict_on;
 use crate::held::Held;
 use crate::moves::replace_bytes;
 use crate::moves::resize_words;
+use crate::orders::latest_entry;
 use crate::orders::records_before;
 use crate::shifts::shift_entries;
 use reading::judging::Counts;
@@ -15,7 +16,7 @@ use reading::rooms::ENTRY_WIDTH;
 use reading::rooms::RECORD_WIDTH;
 ghost use mathlib.Core.Path.{_≡_};
 ghost use Rattle.reading.specs.Judging.{listsIn};
-ghost use Rattle.amending.specs.Memory.{memory, amendIn, leftIn, acceptedWith, refusedAt, Amends};
+ghost use Rattle.amending.specs.Memory.{memory, amendIn, leftIn, dated, acceptedWith, refusedAt, Amends};
 ghost use Rattle.amending.specs.Grounds.{Ready, Fits};
 
 // Replaces the text of a statement: 20, 17, 19, then the new text read alone (1 to 15), 18, 16 over the totals; or the whole
@@ -58,7 +59,8 @@ pub fn amend(
                 directory,
                 c,
             );
-            acceptance(whole)
+            let statements = whole.statements;
+            acceptance(whole, latest_entry(directory, statements))
         }
     }
 }
@@ -120,8 +122,8 @@ fn replace(
     );
 }
 
-fn acceptance(whole: Held) -> Answer
-    ensures { λ r. ⌜ r ≡ acceptedWith whole ⌝ }
+fn acceptance(whole: Held, latest: usize) -> Answer
+    ensures { λ r. ⌜ r ≡ acceptedWith (dated latest whole) ⌝ }
 {
     Answer {
         number: 0,
@@ -132,10 +134,11 @@ fn acceptance(whole: Held) -> Answer
         statements: whole.statements,
         records: whole.records,
         tokens: whole.tokens,
+        latest,
     }
 }
 
-// A refusal: its place is in the new text, and the counts are the old ones.
+// A refusal: its place is in the new text, and the counts and the latest date are the old ones.
 fn unchanged(held: Held, text: &[u8], number: u32, byte: usize) -> Answer
     ensures { λ r. ⌜ r ≡ refusedAt held (now (text .entry)) number byte ⌝ }
 {
@@ -149,5 +152,6 @@ fn unchanged(held: Held, text: &[u8], number: u32, byte: usize) -> Answer
         statements: held.statements,
         records: held.records,
         tokens: held.tokens,
+        latest: held.latest,
     }
 }

@@ -1,6 +1,7 @@
 // On what grounds an amendment is refused: 20, 17, 19, then the new text read alone (1 to 15), 18, 16 over the totals.
 use crate::held::Held;
 use crate::orders::in_order;
+use crate::orders::latest_entry;
 use crate::orders::wide;
 use reading::judging::Counts;
 use reading::judging::Judged;
@@ -23,7 +24,7 @@ const SEMICOLON: u8 = 59;
 
 const BRACE: u8 = 125;
 
-// The words of a directory entry.
+// The words of a directory entry that say where its text lies, and how many records and tokens it has.
 pub struct Row {
     pub start: usize,
     pub end: usize,
@@ -31,7 +32,8 @@ pub struct Row {
     pub tokens: usize,
 }
 
-// What the new text holds, and what is used with it in place; or a refusal: its number, and its byte in the new text.
+// What the new text holds, and what is used with it in place, but for the latest date, which its entries tell once they are
+// there; or a refusal: its number, and its byte in the new text.
 pub enum Verdict {
     Fits(Counts, Held),
     Refused(u32, usize),
@@ -60,6 +62,9 @@ pub fn verdict_on(
         held.records,
         held.tokens,
     ) {
+        return Verdict::Refused(20, 0);
+    }
+    if latest_entry(directory, held.statements) != held.latest {
         return Verdict::Refused(20, 0);
     }
     if held.statements <= statement {
@@ -121,6 +126,7 @@ fn alone(c: Counts) -> Held
         statements: c.statements,
         records: c.records,
         tokens: c.tokens,
+        latest: 0,
     }
 }
 
@@ -201,5 +207,6 @@ fn totals(held: Held, row: Row, c: Counts) -> Held
         statements: held.statements - 1 + c.statements,
         records: held.records - row.records + c.records,
         tokens: held.tokens - row.tokens + c.tokens,
+        latest: 0,
     }
 }

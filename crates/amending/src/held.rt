@@ -1,7 +1,9 @@
-// How much of the lent memory is used: bytes of the script, entries of the directory, records, and the tokens that they had.
+// How much of the lent memory is used: bytes of the script, entries of the directory, records, and the tokens that they had;
+// and the script's latest date.
 pub struct Held {
     pub bytes: usize,
     pub statements: usize,
     pub records: usize,
     pub tokens: usize,
+    pub latest: usize,
 }

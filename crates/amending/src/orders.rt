@@ -1,11 +1,12 @@
-// A directory in lent words: whether its entries are in order, and how many records stand before one.
+// A directory in lent words: whether its entries are in order, how many records stand before one, and their latest date.
 use reading::rooms::ENTRY_WIDTH;
 ghost use mathlib.Core.Path.{_≡_};
 ghost use mathlib.Core.Bool.{_&&_};
-ghost use Prim.Native.Nat.{_*_, _^_, _≤_, _<_};
+ghost use Prim.Native.Nat.{_*_, _^_, _≤_, _<_, max};
 ghost use lib.Dec.{leb, eqb};
 ghost use lib.ListN.{length};
 ghost use Rattle.grammar.specs.Sizes.{entryWidth};
+ghost use Rattle.grammar.specs.Words.{latestOf};
 ghost use Rattle.amending.specs.Lent.{ascending, sumRecords, sumTokens};
 ghost use Rattle.amending.specs.Entries.{rowsFrom, rowFits};
 
@@ -25,7 +26,7 @@ fn row_fits(
     records_left: usize,
     tokens_left: usize,
 ) -> bool
-    ensures { λ ok. ⌜ ok ≡ rowFits after «records_left» «tokens_left» (record { start = start; end = end; records = records; tokens = tokens }) ⌝ }
+    ensures { λ ok. ⌜ ok ≡ rowFits after «records_left» «tokens_left» (record { start = start; end = end; records = records; tokens = tokens; latest = 0 }) ⌝ }
 {
     if start < after {
         return false;
@@ -98,6 +99,28 @@ pub fn in_order(
         left -= 1;
     }
     nothing_left(after, bytes, records_left, tokens_left)
+}
+
+// The latest date of the first `number` entries.
+pub fn latest_entry(directory: &[u32], number: usize) -> usize
+    requires { ⌜ entryWidth * number ≤ length (now directory) ⌝ }
+    ensures { λ r. ⌜ r ≡ latestOf (rowsFrom number (now (directory .entry))) ⌝ }
+{
+    let mut left = number;
+    let mut at = 0;
+    let mut latest = 0;
+    while 0 < left {
+        latest = later(latest, wide(directory[at + 4]));
+        at += ENTRY_WIDTH;
+        left -= 1;
+    }
+    latest
+}
+
+fn later(a: usize, b: usize) -> usize
+    ensures { λ r. ⌜ r ≡ max a b ⌝ }
+{
+    if a < b { b } else { a }
 }
 
 // How many records the first `number` statements have.

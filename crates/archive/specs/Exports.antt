@@ -16,18 +16,19 @@ use Rattle.amending.specs.declared.held.Held.{Held}
 abbrev pub word : ℕ → ℕ
 word n = n % 2 ^ 32
 
--- number, byte, line, column, bytes, statements, records, tokens
+-- number, byte, line, column, bytes, statements, records, tokens, latest date
 unfoldable pub answerWords : Answer → List ℕ
 answerWords a =
-    a .number ∷ word (a .byte) ∷ word (a .line) ∷ word (a .column) ∷ word (a .bytes) ∷ word (a .statements) ∷ word (a .records) ∷ word (a .tokens) ∷ []
+    a .number ∷ word (a .byte) ∷ word (a .line) ∷ word (a .column) ∷ word (a .bytes) ∷ word (a .statements) ∷ word (a .records) ∷ word (a .tokens) ∷ word (a .latest) ∷ []
 
 -- the number of an answer: 0 where the call was accepted
 abbrev pub numberIn : List ℕ → ℕ
 numberIn ws = getD ws 0 0
 
--- how much of the memory is used: the last four words of an answer
+-- how much of the memory is used, and the script's latest date: the last five words of an answer
 unfoldable pub heldIn : List ℕ → Held
-heldIn ws = record { bytes = getD ws 4 0; statements = getD ws 5 0; records = getD ws 6 0; tokens = getD ws 7 0 }
+heldIn ws =
+    record { bytes = getD ws 4 0; statements = getD ws 5 0; records = getD ws 6 0; tokens = getD ws 7 0; latest = getD ws 8 0 }
 
 -- of the script (0) or of the list of currencies (1), first byte, length
 unfoldable pub placeWords : Place → List ℕ
@@ -61,7 +62,7 @@ AreWords vs = (i : ℕ) → getD vs i 0 < 2 ^ 32
 
 -- the numbers of an answer, whole
 abbrev pub numbers : Answer → List ℕ
-numbers a = a .number ∷ a .byte ∷ a .line ∷ a .column ∷ a .bytes ∷ a .statements ∷ a .records ∷ a .tokens ∷ []
+numbers a = a .number ∷ a .byte ∷ a .line ∷ a .column ∷ a .bytes ∷ a .statements ∷ a .records ∷ a .tokens ∷ a .latest ∷ []
 
 -- calls of `script_amend` one after the other, each lent the words that the one before it answered; refused ones among them
 pub data Runs (l : Lists) : Memory → List ℕ → List (ℕ × List ℕ) → Memory → List ℕ → Type 0 where

@@ -25,7 +25,7 @@ pub extern "C" fn script_read(
     day_counters: &[u8],
     records: &mut [u32],
     directory: &mut [u32],
-    answer: &mut [u32; 8],
+    answer: &mut [u32; 9],
 )
     ensures { λ _. ⌜ Reads (listsIn (now (reserved .entry)) (now (currencies .entry)) (now («day_counters» .entry))) (now (script .entry)) (now (records .entry)) (now (directory .entry)) (now (answer .exit)) (now (records .exit)) (now (directory .exit)) ⌝ }
 {
@@ -40,8 +40,8 @@ pub extern "C" fn script_read(
     *answer = answer_words(a);
 }
 
-// Replaces the text of one statement. The last four words of the answer say at entry how much of the memory is used, as
-// an earlier call left them.
+// Replaces the text of one statement. The last five words of the answer say at entry how much of the memory is used, and
+// the script's latest date, as an earlier call left them.
 #[no_mangle]
 pub extern "C" fn script_amend(
     script: &mut [u8],
@@ -52,7 +52,7 @@ pub extern "C" fn script_amend(
     day_counters: &[u8],
     records: &mut [u32],
     directory: &mut [u32],
-    answer: &mut [u32; 8],
+    answer: &mut [u32; 9],
 )
     ensures { λ _. ⌜ Replaces (listsIn (now (reserved .entry)) (now (currencies .entry)) (now («day_counters» .entry))) (memory (now (script .entry)) (now (records .entry)) (now (directory .entry))) (now (answer .entry)) statement (now (text .entry)) (now (answer .exit)) (memory (now (script .exit)) (now (records .exit)) (now (directory .exit))) ⌝ }
 {
@@ -104,7 +104,7 @@ pub extern "C" fn calendar_day(count: u32, day: &mut [u32; 3])
     *day = [d.year, d.month, d.day];
 }
 
-fn held_in(words: &[u32; 8]) -> Held
+fn held_in(words: &[u32; 9]) -> Held
     ensures { λ r. ⌜ r ≡ heldIn (now (words .entry)) ⌝ }
 {
     Held {
@@ -112,10 +112,11 @@ fn held_in(words: &[u32; 8]) -> Held
         statements: wide(words[5]),
         records: wide(words[6]),
         tokens: wide(words[7]),
+        latest: wide(words[8]),
     }
 }
 
-fn answer_words(a: Answer) -> [u32; 8]
+fn answer_words(a: Answer) -> [u32; 9]
     ensures { λ r. ⌜ r ≡ answerWords a ⌝ }
 {
     [
@@ -127,6 +128,7 @@ fn answer_words(a: Answer) -> [u32; 8]
         low_word(a.statements),
         low_word(a.records),
         low_word(a.tokens),
+        low_word(a.latest),
     ]
 }
 

@@ -9,7 +9,7 @@ use Rattle.grammar.specs.Trees.{Tree, Trees, node, nil, _▹_, fields, r
 use Rattle.grammar.specs.Script.{Entry, movedEntry, nodes}
 use Rattle.grammar.specs.Words.{wordsOf, Row, rowOf, rowWords, rowsWords, directoryOf}
 
--- ---- seven words a record, four an entry
+-- ---- seven words a record, five an entry
 
 mutual
   unfolding records size

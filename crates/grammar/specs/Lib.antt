@@ -4,5 +4,6 @@ pub mod Trees
 pub mod Readers
 pub mod Grammar
 pub mod Script
+pub mod Latest
 pub mod Words
 pub mod Computing

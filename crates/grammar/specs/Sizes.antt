@@ -7,9 +7,9 @@ use Rattle.tokens.specs.Text.{if_then_else_}
 abbrev pub recordWidth : ℕ
 recordWidth = 7
 
--- the directory has four words per top-level statement
+-- the directory has five words per top-level statement
 abbrev pub entryWidth : ℕ
-entryWidth = 4
+entryWidth = 5
 
 -- capacities: 2,048 records, 512 statements
 abbrev pub mostRecords : ℕ

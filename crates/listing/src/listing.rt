@@ -11,7 +11,7 @@ ghost use Rattle.listing.specs.Listing.{acceptedLines, refusedLine, list
 // Room for all records and statements that the capacities allow.
 const RECORD_WORDS: usize = 14336;
 
-const DIRECTORY_WORDS: usize = 2048;
+const DIRECTORY_WORDS: usize = 2560;
 
 fn list_refusal(a: Answer, out: &mut [u8]) -> usize
     requires { ⌜ 36 ≤ length (now out) ⌝ }

@@ -1,6 +1,6 @@
 -- What reading a script into lent memory answers, and what it leaves there.
 use mathlib.Core.Path.{_≡_}
-use mathlib.Core.List.{List, _++_}
+use mathlib.Core.List.{List, _++_, map}
 use Prim.Native.Nat.{ℕ}
 use lib.ListN.{length, drop}
 use Rattle.tokens.specs.Text.{script}
@@ -8,16 +8,18 @@ use Rattle.tokens.specs.Names.{Lists}
 use Rattle.tokens.specs.Places.{line, column}
 use Rattle.grammar.specs.Sizes.{recordRoom, statementRoom}
 use Rattle.grammar.specs.Script.{Entry, Outcome, accepted, refused, reading}
-use Rattle.grammar.specs.Words.{wordsOf, directoryOf}
+use Rattle.grammar.specs.Words.{wordsOf, rowOf, directoryOf, latestOf}
 use Rattle.reading.specs.Judging.{judgedOf, lastEnd}
+use Rattle.reading.specs.declared.answers.All.{All}
+use Rattle.reading.specs.declared.answers.All.the-variants as all
 use Rattle.reading.specs.declared.judging.Counts.{Counts}
 use Rattle.reading.specs.declared.judging.Judged.{Judged}
 use Rattle.reading.specs.declared.judging.Judged.the-variants as judged
 use Rattle.reading.specs.declared.reading.Answer.{Answer}
 
--- Accepted: 0, 0, 1, 1, and the counts
-abbrev pub acceptedWith : Counts → Answer
-acceptedWith c = record {
+-- Accepted: 0, 0, 1, 1, the counts, and the script's latest date
+abbrev pub acceptedWith : Counts → ℕ → Answer
+acceptedWith c x = record {
   number = 0;
   byte = 0;
   line = 1;
@@ -26,9 +28,10 @@ acceptedWith c = record {
   statements = c .statements;
   records = c .records;
   tokens = c .tokens;
+  latest = x;
 }
 
--- a refusal: number, byte, line, column; the counts are 0
+-- a refusal: number, byte, line, column; the counts are 0, and so is the latest date
 abbrev pub refusedAt : List ℕ → ℕ → ℕ → Answer
 refusedAt bs k p = record {
   number = k;
@@ -39,12 +42,23 @@ refusedAt bs k p = record {
   statements = 0;
   records = 0;
   tokens = 0;
+  latest = 0;
 }
 
--- the numbers of a judgement
-abbrev pub answerOf : List ℕ → Judged → Answer
-answerOf bs (judged.Good c) = acceptedWith c
-answerOf bs (judged.Refused k p) = refusedAt bs k p
+-- the numbers of a judgement, and the latest date
+abbrev pub answerOf : List ℕ → ℕ → Judged → Answer
+answerOf bs x (judged.Good c) = acceptedWith c x
+answerOf bs x (judged.Refused k p) = refusedAt bs k p
+
+-- the latest date of what is read: the greatest of the entries'
+abbrev pub latestBy : Outcome → ℕ
+latestBy (accepted es) = latestOf (map rowOf es)
+latestBy (refused k p) = 0
+
+-- the latest date that the reader of all statements answers
+abbrev pub latestRead : All → ℕ
+latestRead (all.Done k n x) = x
+latestRead (all.Refused k b) = 0
 
 -- words at the front of lent memory: those past them are unchanged
 abbrev pub over : List ℕ → List ℕ → List ℕ
@@ -61,6 +75,6 @@ readInto l bs o d = reading l (recordRoom (length o)) (statementRoom (length d))
 
 -- the answer, the records and the directory after reading the script bs into the records o and the directory d
 pub record Leaves (l : Lists) (bs o d : List ℕ) (r : Answer) (o′ d′ : List ℕ) : Type 0 where
-  pub answer : r ≡ answerOf bs (judgedOf (length (script bs)) (lastEnd (script bs)) (readInto l bs o d))
+  pub answer : r ≡ answerOf bs (latestBy (readInto l bs o d)) (judgedOf (length (script bs)) (lastEnd (script bs)) (readInto l bs o d))
   pub records : o′ ≡ leftBy wordsOf o (readInto l bs o d)
   pub directory : d′ ≡ leftBy directoryOf d (readInto l bs o d)

@@ -24,7 +24,7 @@ nodeRow x = row (x .kind) (x .nodes) (x .parts) (fields (x .f1) (x .f2) (x .f3) 
 
 -- the words of an entry as the code has it
 abbrev pub entryRow : Entry → List ℕ
-entryRow e = e .start ∷ e .end ∷ e .records ∷ e .tokens ∷ []
+entryRow e = e .start ∷ e .end ∷ e .records ∷ e .tokens ∷ e .latest ∷ []
 
 -- words from the place i on
 unfoldable pub putWords : List ℕ → ℕ → List ℕ → List ℕ

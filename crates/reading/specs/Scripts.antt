@@ -2,13 +2,14 @@
 use mathlib.Core.Path.{_≡_}
 use mathlib.Core.Bool.{false}
 use mathlib.Core.List.{List, [], _∷_, _++_, map}
-use Prim.Native.Nat.{ℕ, _+_, _-_, _≤_}
+use Prim.Native.Nat.{ℕ, _+_, _-_, _*_, _≤_}
 use lib.ListN.{length}
 use Rattle.tokens.specs.Limits.{mostBytes}
 use Rattle.tokens.specs.Tokens.{Token, lexed, scan}
 use Rattle.tokens.specs.declared.cursor.Cursor.{Cursor}
+use Rattle.grammar.specs.Sizes.{recordWidth}
 use Rattle.grammar.specs.Script.{Entry, Outcome, accepted, refused, nodes}
-use Rattle.grammar.specs.Words.{rowOf, rowWords}
+use Rattle.grammar.specs.Words.{rowOf, rowWords, latestOf}
 use Rattle.reading.specs.Rows.{rows, putRows, putEntries}
 use Rattle.reading.specs.declared.answers.Read.{Read}
 use Rattle.reading.specs.declared.answers.Read.the-variants as answer
@@ -37,14 +38,17 @@ rowsIn (e ∷ es) = rows (e .tree) ++ rowsIn es
 abbrev pub entriesIn : List Entry → List (List ℕ)
 entriesIn es = map (λ e. rowWords (rowOf e)) es
 
-pub record ReadsAll (R : Outcome) (o d : List ℕ) (k n : ℕ) (o′ d′ : List ℕ) : Type 0 where
+-- k statements with n records, whose latest date is x. Dates are found in the records that were written, so that only where all of these have room the entries
+-- and x are known
+pub record ReadsAll (R : Outcome) (o d : List ℕ) (k n x : ℕ) (o′ d′ : List ℕ) : Type 0 where
   pub entries : List Entry
   pub is : R ≡ accepted entries
   pub statements-are : k ≡ length entries
   pub records-are : n ≡ nodes entries
   pub records : o′ ≡ putRows o 0 (rowsIn entries)
-  pub directory : d′ ≡ putEntries d 0 (entriesIn entries)
+  pub directory : recordWidth * n ≤ length o → d′ ≡ putEntries d 0 (entriesIn entries)
+  pub latest : recordWidth * n ≤ length o → x ≡ latestOf (map rowOf entries)
 
 abbrev pub MeetsAll : Outcome → List ℕ → List ℕ → All → List ℕ → List ℕ → Type 0
-MeetsAll R o d (all.Done k n) o′ d′ = ReadsAll R o d k n o′ d′
+MeetsAll R o d (all.Done k n x) o′ d′ = ReadsAll R o d k n x o′ d′
 MeetsAll R o d (all.Refused j b) o′ d′ = R ≡ refused j b

@@ -46,8 +46,9 @@ pub enum Block {
     Refused(u8, u16),
 }
 
-// All statements were read: how many, and how many records. Or a refusal: its number and its byte in the script.
+// All statements were read: how many, how many records, and their latest date. Or a refusal: its number and its byte in
+// the script.
 pub enum All {
-    Done(u32, u32),
+    Done(u32, u32, u32),
     Refused(u8, u32),
 }

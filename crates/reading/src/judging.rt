@@ -81,7 +81,7 @@ fn judge_text(s: &[u8], reserved: &[u8], currencies: &[u8], counters: &[u8]) -> 
                 &mut directory,
             ) {
                 All::Refused(k, b) => Judged::Refused(k as u32, b as usize),
-                All::Done(k, n) => Judged::Good(Counts {
+                All::Done(k, n, _) => Judged::Good(Counts {
                     bytes: s.len(),
                     statements: k as usize,
                     records: n as usize,

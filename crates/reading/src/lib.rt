@@ -7,6 +7,7 @@ mod calling;
 mod calls;
 mod expressions;
 pub mod judging;
+mod latest;
 pub mod parts;
 pub mod reading;
 mod records;

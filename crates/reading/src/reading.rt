@@ -1,4 +1,5 @@
 // A script read into lent memory.
+use crate::answers::All;
 use crate::judging::Counts;
 use crate::judging::Judged;
 use crate::judging::judge;
@@ -8,7 +9,7 @@ use crate::scripts::all;
 use tokens::places::place_of;
 ghost use mathlib.Core.Path.{_≡_};
 ghost use Rattle.reading.specs.Judging.{listsIn};
-ghost use Rattle.reading.specs.Reading.{acceptedWith, refusedAt, Leaves};
+ghost use Rattle.reading.specs.Reading.{acceptedWith, refusedAt, latestRead, Leaves};
 
 // What a call answers: the number of its refusal, or 0; where; and what the memory holds then.
 pub struct Answer {
@@ -20,6 +21,7 @@ pub struct Answer {
     pub statements: usize,
     pub records: usize,
     pub tokens: usize,
+    pub latest: usize,
 }
 
 // Reads a script: its records and its directory are written once nothing can refuse it any more.
@@ -42,7 +44,7 @@ pub fn read(
             if c.statements > statement_room(directory.len()) {
                 return refusal(script, 16, c.bytes);
             }
-            all(
+            let r = all(
                 &script[..c.bytes],
                 reserved,
                 currencies,
@@ -50,13 +52,22 @@ pub fn read(
                 records,
                 directory,
             );
-            acceptance(c)
+            acceptance(c, latest_in(r))
         }
     }
 }
 
-fn acceptance(c: Counts) -> Answer
-    ensures { λ r. ⌜ r ≡ acceptedWith c ⌝ }
+fn latest_in(r: All) -> usize
+    ensures { λ x. ⌜ x ≡ latestRead r ⌝ }
+{
+    match r {
+        All::Done(_, _, latest) => latest as usize,
+        All::Refused(_, _) => 0,
+    }
+}
+
+fn acceptance(c: Counts, latest: usize) -> Answer
+    ensures { λ r. ⌜ r ≡ acceptedWith c latest ⌝ }
 {
     Answer {
         number: 0,
@@ -67,10 +78,11 @@ fn acceptance(c: Counts) -> Answer
         statements: c.statements,
         records: c.records,
         tokens: c.tokens,
+        latest,
     }
 }
 
-// A refusal, with the line and the column of its byte; the counts are 0.
+// A refusal, with the line and the column of its byte; the counts are 0, and so is the latest date.
 pub fn refusal(script: &[u8], number: u32, byte: usize) -> Answer
     ensures { λ r. ⌜ r ≡ refusedAt (now (script .entry)) number byte ⌝ }
 {
@@ -84,5 +96,6 @@ pub fn refusal(script: &[u8], number: u32, byte: usize) -> Answer
         statements: 0,
         records: 0,
         tokens: 0,
+        latest: 0,
     }
 }

@@ -78,16 +78,17 @@ pub fn join(out: &mut [u32], sign: u8, n: u32, m: u32, p: u16) -> Joined
     }
 }
 
-// The words of a directory entry: start byte, end byte, records, tokens.
+// The words of a directory entry: start byte, end byte, records, tokens, the latest date.
 pub struct Entry {
     pub start: u32,
     pub end: u32,
     pub records: u32,
     pub tokens: u32,
+    pub latest: u32,
 }
 
 impl Entry {
-    pub const WIDTH: usize = 4;
+    pub const WIDTH: usize = 5;
 
     pub const MOST: usize = 512;
 }
@@ -103,5 +104,6 @@ pub fn put_entry(directory: &mut [u32], k: u32, entry: Entry)
         directory[at + 1] = entry.end;
         directory[at + 2] = entry.records;
         directory[at + 3] = entry.tokens;
+        directory[at + 4] = entry.latest;
     }
 }

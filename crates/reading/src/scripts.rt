@@ -1,6 +1,8 @@
 // A whole script, statement by statement.
 use crate::answers::All;
 use crate::answers::Read;
+use crate::latest::later;
+use crate::latest::latest_of;
 use crate::records::Entry;
 use crate::records::put_entry;
 use crate::statements::statement;
@@ -44,9 +46,10 @@ pub fn all(
     let mut at = Cursor::start(s);
     let mut n: u32 = 0;
     let mut k: u32 = 0;
+    let mut latest: u32 = 0;
     loop {
         if at.code == EOF {
-            return All::Done(k, n);
+            return All::Done(k, n, latest);
         }
         base += at.start as usize;
         let c = rebased(at);
@@ -63,6 +66,7 @@ pub fn all(
         let Read::Done(d, m, _) = r else {
             return refused_at(r, base);
         };
+        let own = latest_of(records, n, m);
         put_entry(
             directory,
             k,
@@ -71,8 +75,10 @@ pub fn all(
                 end: (base + d.last as usize) as u32,
                 records: m - n,
                 tokens: d.taken as u32,
+                latest: own,
             },
         );
+        latest = later(latest, own);
         at = d;
         n = m;
         k += 1;
