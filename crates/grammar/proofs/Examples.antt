@@ -252,7 +252,7 @@ entries (refused n p) = []
 
 -- counting places from the script's start: the second statement's name is at its byte 0, that of a nested one at 7 from `if`
 own-places : (wordsOf (entries (readScript own (bytes "a; bc;"))) ≡ 1 ∷ 1 ∷ 0 ∷ 0 ∷ 1 ∷ 0 ∷ 0 ∷ 1 ∷ 1 ∷ 0 ∷ 0 ∷ 2 ∷ 0 ∷ 0 ∷ [])
-    × (directoryOf (entries (readScript own (bytes "a; bc;"))) ≡ 0 ∷ 2 ∷ 1 ∷ 2 ∷ 3 ∷ 6 ∷ 1 ∷ 2 ∷ [])
+    × (directoryOf (entries (readScript own (bytes "a; bc;"))) ≡ 0 ∷ 2 ∷ 1 ∷ 2 ∷ 0 ∷ 3 ∷ 6 ∷ 1 ∷ 2 ∷ 0 ∷ [])
     × (wordsOf (entries (readScript own (bytes " if a { b; }"))) ≡ 1 ∷ 1 ∷ 0 ∷ 3 ∷ 1 ∷ 0 ∷ 0 ∷ 1 ∷ 1 ∷ 0 ∷ 7 ∷ 1 ∷ 0 ∷ 0 ∷ 38 ∷ 3 ∷ 2 ∷ 0 ∷ 0 ∷ 0 ∷ 0 ∷ [])
 unfolding computing own entries
 own-places = (refl, refl, refl)
@@ -274,8 +274,8 @@ listing : listed (readScript own (bytes "x pays;"))
 unfolding computing listed own
 listing = refl
 
--- its directory: start byte, end byte, records, tokens
-listing-directory : directoryOf (entries (readScript own (bytes "x pays;"))) ≡ 0 ∷ 7 ∷ 5 ∷ 3 ∷ []
+-- its directory: start byte, end byte, records, tokens, the latest date
+listing-directory : directoryOf (entries (readScript own (bytes "x pays;"))) ≡ 0 ∷ 7 ∷ 5 ∷ 3 ∷ 0 ∷ []
 unfolding computing own entries
 listing-directory = refl
 
@@ -284,9 +284,9 @@ places : line (bytes "a\nbc\nd") 4 ∷ column (bytes "a\nbc\nd") 4 ∷ line (byt
 unfolding computing
 places = refl
 
--- capacities: 2,048 records, 512 statements; a record has seven words, an entry four, and what does not fit whole is no room
+-- capacities: 2,048 records, 512 statements; a record has seven words, an entry five, and what does not fit whole is no room
 rooms : (recordRoom 14335 ∷ recordRoom 14336 ∷ recordRoom 20000 ∷ recordRoom 6 ∷ [] ≡ 2047 ∷ 2048 ∷ 2048 ∷ 0 ∷ [])
-    × (statementRoom 2047 ∷ statementRoom 2048 ∷ statementRoom 4000 ∷ statementRoom 3 ∷ [] ≡ 511 ∷ 512 ∷ 512 ∷ 0 ∷ [])
+    × (statementRoom 2559 ∷ statementRoom 2560 ∷ statementRoom 4000 ∷ statementRoom 4 ∷ [] ≡ 511 ∷ 512 ∷ 512 ∷ 0 ∷ [])
 rooms = (refl, refl)
 
 -- ---- with other lists
