@@ -15,5 +15,6 @@ pub mod TreeLaws
 pub mod SizeLaws
 pub mod Refusals
 pub mod WordLaws
+pub mod LatestLaws
 pub mod Examples
 pub mod KindExamples
