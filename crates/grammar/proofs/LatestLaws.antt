@@ -1,16 +1,23 @@
 -- The latest date: over records' words put together, over the entries of a directory.
-use mathlib.Core.Path.{_≡_, refl, ap, ap₂, _∙_}
-use mathlib.Core.Logic.{_⊎_, inl, inr}
+use mathlib.Core.Path.{_≡_, refl, sym, ap, ap₂, subst, _∙_}
+use mathlib.Core.Bool.{Bool, true, false, _||_}
+use mathlib.Core.Logic.{_⊎_, inl, inr, ⊎-map}
 use mathlib.Core.List.{List, [], _∷_, _++_, map, List·Memᴰ, List·Memᴰ·head, List·Memᴰ·tail}
 use Prim.Native.Nat.{ℕ, zero, suc, _+_, _*_, _≤_, _<_, max}
-use native.Mathlib.Nat.{zero-add, suc-add}
+use native.Mathlib.Nat.{zero-add, suc-add, max-eq-left, max-eq-right}
+use native.Mathlib.Numerals.{add-one}
 use native.Mathlib.Decide.{decLe}
 use native.Mathlib.Omega.{arith}
+use lib.Dec.{eqb}
+use borrow.Author.Tests.{eqb-true}
 use lib.ListN.{length, length-drop, drop, getD, List·getD-append}
 use lib.Seq.{drop-drop, drop-append-le, drop-at}
+use Rattle.tokens.specs.Text.{if_then_else_}
 use Rattle.grammar.specs.Sizes.{recordWidth}
-use Rattle.grammar.specs.Latest.{dateAt, latestIn}
+use Rattle.grammar.specs.Trees.{Tree, Trees, node, nil, _▹_, Fields, fields, row, parts, size, sizes, records, recordsOf}
+use Rattle.grammar.specs.Latest.{dateOf, dateAt, latestIn, Date, spot, equity, df, from, to, pays, Has, here, below, HasPart, this, other}
 use Rattle.grammar.specs.Words.{Row, latestOf}
+use Rattle.grammar.proofs.WordLaws.{records-length, all-length}
 
 -- ---- over words put together
 
@@ -46,6 +53,96 @@ pub latest-append : (n m : ℕ) (ws vs : List ℕ) → length ws ≡ recordWidth
 latest-append n m ws vs h =
     latest-split n m (ws ++ vs) ∙ ap₂ max (latest-first n ws vs (omega arith)) (ap (latestIn m) (drop-at ws vs (recordWidth * n) h))
 
+-- ---- over trees: the greatest of their dates
+
+-- a number is none, or passes a test
+abbrev pub Had : (ℕ → Type 0) → ℕ → Type 0
+Had P x = (x ≡ 0) ⊎ P x
+
+-- then so does the greater of two
+had-max : (P : ℕ → Type 0) {x y : ℕ} → Had P x → Had P y → Had P (max x y)
+had-max P {x} {y} h g = go (decLe y x)
+  where
+    go : Dec (y ≤ x) → Had P (max x y)
+    go (yes l) = rw max-eq-left h
+    go (no n) = let l : x ≤ y = omega arith in rw max-eq-right g
+
+-- the date of a node's record
+abbrev dateIn : ℕ → Fields → ℕ
+dateIn k (fields a b c d) = dateOf k a c d
+
+date-greatest : {k x : ℕ} {f : Fields} → Date k f x → x ≤ dateIn k f
+date-greatest spot = omega arith
+date-greatest equity = omega arith
+date-greatest df = omega arith
+date-greatest from = omega arith
+date-greatest to = omega arith
+date-greatest pays = omega arith
+
+date-had : (k : ℕ) (f : Fields) → Had (Date k f) (dateIn k f)
+date-had k (fields a b c d) = go (eqb k 32) (eqb k 33) (eqb k 34) (eqb k 36) (eqb k 35) refl refl refl refl refl
+  where
+    of-kind : {x : ℕ} (j : ℕ) → eqb k j ≡ true → Date j (fields a b c d) x → Date k (fields a b c d) x
+    of-kind {x} j e h = subst (λ i. Date i (fields a b c d) x) (sym (eqb-true k j e)) h
+
+    go : (s e f p r : Bool) → eqb k 32 ≡ s → eqb k 33 ≡ e → eqb k 34 ≡ f → eqb k 36 ≡ p → eqb k 35 ≡ r
+        → Had (Date k (fields a b c d)) (if s || e then c else if f || p then a else if r then max c d else 0)
+    go true e f p r hs he hf hp hr = inr (of-kind 32 hs spot)
+    go false true f p r hs he hf hp hr = inr (of-kind 33 he equity)
+    go false false true p r hs he hf hp hr = inr (of-kind 34 hf df)
+    go false false false true r hs he hf hp hr = inr (of-kind 36 hp pays)
+    go false false false false true hs he hf hp hr = had-max (Date k (fields a b c d)) (inr (of-kind 35 hr from)) (inr (of-kind 35 hr to))
+    go false false false false false hs he hf hp hr = inl refl
+
+-- the records of a tree, and of several
+abbrev inTree : Tree → ℕ
+inTree t = latestIn (size t) (records t)
+
+abbrev inTrees : Trees → ℕ
+inTrees ts = latestIn (sizes ts) (recordsOf ts)
+
+row-latest : (k n m : ℕ) (f : Fields) → latestIn 1 (row k n m f) ≡ dateIn k f
+unfolding latestIn
+row-latest k n m (fields a b c d) = omega arith
+
+nil-latest : inTrees nil ≡ 0
+unfolding size records latestIn
+nil-latest = refl
+
+node-latest : (k : ℕ) (s : List ℕ) (f : Fields) (ts : Trees) → inTree (node k s f ts) ≡ max (inTrees ts) (dateIn k f)
+unfolding size records
+node-latest k s f ts =
+    let last : List ℕ = row k (suc (sizes ts)) (parts ts) f in
+    ap (λ (n : ℕ). latestIn n (recordsOf ts ++ last)) (sym (add-one (sizes ts)))
+    ∙ latest-append (sizes ts) 1 (recordsOf ts) last (all-length ts) ∙ ap (max (inTrees ts)) (row-latest k (suc (sizes ts)) (parts ts) f)
+
+more-latest : (t : Tree) (ts : Trees) → inTrees (t ▹ ts) ≡ max (inTree t) (inTrees ts)
+unfolding size records
+more-latest t ts = latest-append (size t) (sizes ts) (records t) (recordsOf ts) (records-length t)
+
+mutual
+  -- no date of the tree is later
+  pub latest-greatest : (t : Tree) (x : ℕ) → Has x t → x ≤ latestIn (size t) (records t)
+  latest-greatest (node k s f ts) x (here d) = omega (arith, node-latest k s f ts, date-greatest d)
+  latest-greatest (node k s f ts) x (below p) = omega (arith, node-latest k s f ts, latest-greatest-of ts x p)
+
+  latest-greatest-of : (ts : Trees) (x : ℕ) → HasPart x ts → x ≤ inTrees ts
+  latest-greatest-of (t ▹ ts) x (this h) = omega (arith, more-latest t ts, latest-greatest t x h)
+  latest-greatest-of (t ▹ ts) x (other p) = omega (arith, more-latest t ts, latest-greatest-of ts x p)
+
+mutual
+  -- it is 0, or one of the tree's
+  pub latest-had : (t : Tree) → (latestIn (size t) (records t) ≡ 0) ⊎ Has (latestIn (size t) (records t)) t
+  latest-had (node k s f ts) =
+      subst (Had (λ x. Has x (node k s f ts))) (sym (node-latest k s f ts))
+      (had-max (λ x. Has x (node k s f ts)) (⊎-map (λ z. z) below (latest-had-of ts)) (⊎-map (λ z. z) here (date-had k f)))
+
+  latest-had-of : (ts : Trees) → Had (λ x. HasPart x ts) (inTrees ts)
+  latest-had-of nil = inl nil-latest
+  latest-had-of (t ▹ ts) =
+      subst (Had (λ x. HasPart x (t ▹ ts))) (sym (more-latest t ts))
+      (had-max (λ x. HasPart x (t ▹ ts)) (⊎-map (λ z. z) this (latest-had t)) (⊎-map (λ z. z) other (latest-had-of ts)))
+
 -- ---- over entries
 
 -- each entry's is at most the script's
@@ -54,19 +151,16 @@ unfolding latestOf
 latestOf-each r (s ∷ rs) (List·Memᴰ·head e) = omega (arith, ap (λ (x : Row). x .latest) e)
 latestOf-each r (s ∷ rs) (List·Memᴰ·tail m) = omega (arith, latestOf-each r rs m)
 
--- the script's is 0, or one of theirs
-abbrev pub Had : List Row → Type 0
-Had rs = (latestOf rs ≡ 0) ⊎ ((r : Row) × List·Memᴰ r rs × (r .latest ≡ latestOf rs))
+-- one of them has it
+abbrev pub RowHas : List Row → ℕ → Type 0
+RowHas rs x = (r : Row) × List·Memᴰ r rs × (r .latest ≡ x)
 
-pub latestOf-had : (rs : List Row) → Had rs
+-- the script's is 0, or one of theirs
+pub latestOf-had : (rs : List Row) → Had (RowHas rs) (latestOf rs)
 unfolding latestOf
 latestOf-had [] = inl refl
-latestOf-had (s ∷ rs) = go (latestOf-had rs) (decLe (latestOf rs) (s .latest))
-  where
-    go : Had rs → Dec (latestOf rs ≤ s .latest) → Had (s ∷ rs)
-    go o (yes l) = inr (s, List·Memᴰ·head refl, omega arith)
-    go (inl z) (no g) = inl (omega arith)
-    go (inr (r, m, e)) (no g) = inr (r, List·Memᴰ·tail m, omega arith)
+latestOf-had (s ∷ rs) =
+    had-max (RowHas (s ∷ rs)) (inr (s, List·Memᴰ·head refl, refl)) (⊎-map (λ z. z) (λ h. (h .0, List·Memᴰ·tail (h .1), h .2)) (latestOf-had rs))
 
 -- of rows put together it is the later of both
 pub latestOf-append : (xs ys : List Row) → latestOf (xs ++ ys) ≡ max (latestOf xs) (latestOf ys)

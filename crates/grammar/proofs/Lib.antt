@@ -16,5 +16,6 @@ pub mod SizeLaws
 pub mod Refusals
 pub mod WordLaws
 pub mod LatestLaws
+pub mod DatedLaws
 pub mod Examples
 pub mod KindExamples

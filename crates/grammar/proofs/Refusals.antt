@@ -46,7 +46,7 @@ Right n P (ok a r) = P a × Inside n r
 Right n P (refused f p) = Ground 15 n f p
 
 -- what is one deeper has its law
-data Each {X : Type 0} (P : X → Type 0) : Option X → Type 0 where
+pub data Each {X : Type 0} (P : X → Type 0) : Option X → Type 0 where
   nothing : Each P none
   just : {x : X} → P x → Each P (some x)
 
@@ -440,7 +440,7 @@ ofTokens-judged l bs = go (scan 0 0 bs) refl
     go (faulty f p) e = let r = scan-refused 0 0 bs e in record { least = omega (arith, r .0); most = omega (arith, r .1); inside = omega (arith, r .2) }
 
 -- grounds 1 and 2, and what is read of a script that is short enough
-by-order : (P : Outcome → Type 0) (l : Lists) (bs : List ℕ) → P (wrong 1 0) → P (wrong 2 0)
+pub by-order : (P : Outcome → Type 0) (l : Lists) (bs : List ℕ) → P (wrong 1 0) → P (wrong 2 0)
     → (length (script bs) ≤ mostBytes → P (ofTokens l (length (script bs)) (tokens (script bs)))) → P (readScript l bs)
 unfolding readScript
 by-order P l bs long lists short = go (ltb mostBytes (length (script bs))) refl (not (goodLists l))

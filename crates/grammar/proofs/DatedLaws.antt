@@ -1,0 +1,461 @@
+-- Whatever is read has true dates: each is the count of a day that a text writes, so that none is past the last.
+-- Each form that readers are made of has its law, so that a reader's law follows the reader's own text.
+use mathlib.Core.Path.{_≡_, refl, sym, ap, subst, _∙_}
+use mathlib.Core.Logic.{_⊎_, inl, inr, ⊎-elim}
+use mathlib.Core.Bool.{Bool, true, false, _||_, not}
+use mathlib.Core.List.{List, [], _∷_, map, List·Memᴰ, List·Memᴰ·head, List·Memᴰ·tail}
+use mathlib.Core.Option.{Option, none, some}
+use Prim.Native.Nat.{ℕ, zero, suc, _+_, _-_, _≤_}
+use Prim.Native.String.{String}
+use native.Mathlib.Omega.{arith}
+use lib.Dec.{eqb, ltb}
+use borrow.Author.Tests.{eqb-true}
+use lib.ListN.{length}
+use Rattle.calendar.specs.Calendar.{lastCount}
+use Rattle.tokens.specs.Limits.{mostTokens, mostDepth}
+use Rattle.tokens.specs.Text.{if_then_else_, script, count}
+use Rattle.tokens.specs.Names.{Lists}
+use Rattle.tokens.specs.Dates.{date, isDate}
+use Rattle.tokens.specs.Tokens.{Token, Lexed, lexed, refused as faulty, tokens, counts}
+use Rattle.tokens.proofs.DateLaws.{date-none, date-most}
+use Rattle.grammar.specs.Trees.{Tree, Trees, node, nil, _▹_, Fields, fields, none as unused, snoc, join, size, records}
+use Rattle.grammar.specs.Latest.{latestIn, Date, spot, equity, df, from, to, pays, Has, here, below, HasPart, this, other}
+use Rattle.grammar.specs.Readers.{Out, ok, refused, Reader, bind, _>>=_, _>>_, Turn, again, done, follow, turns, loop, first, is, skip, give, fail, failAt, ask, the}
+use Rattle.grammar.specs.Grammar as G
+use Rattle.grammar.specs.Grammar.{deeper, optional, grouped, sum, comparison, expression, items, arguments, method, postfixes, dateOf, aDate, rateIndex, Words, Inner, deep, nextKind, block, ifOver, ended}
+use Rattle.grammar.specs.Script.{Entry, Outcome, accepted, refused as wrong, front, back, entryOf, onward, turn, upTo, from as fromByte, statements, words, ofTokens, readScript}
+use Rattle.grammar.specs.Words.{rowOf, latestOf}
+use Rattle.grammar.proofs.Refusals.{Each, nothing, just, by-order}
+use Rattle.grammar.proofs.LatestLaws.{latest-had}
+
+-- ---- trees whose dates are counts
+
+-- the count of a text's date, or 0, as of a text that is none
+data Counted : ℕ → Type 0 where
+  counted : (s : List ℕ) → Counted (date s)
+
+none-counted : Counted 0
+unfolding date
+none-counted = counted []
+
+-- so is each field that holds a date, by the kind
+abbrev Dates : ℕ → Fields → Type 0
+Dates k (fields a b c d) =
+    if eqb k 32 || eqb k 33 then Counted c
+    else if eqb k 34 || eqb k 36 then Counted a
+    else if eqb k 35 then Counted c × Counted d else Unit {0}
+
+-- and so for each node of a tree
+mutual
+  data Dated : Tree → Type 0 where
+    node-dated : {k : ℕ} {s : List ℕ} {f : Fields} {ts : Trees} → Dates k f → DatedAll ts → Dated (node k s f ts)
+
+  data DatedAll : Trees → Type 0 where
+    nil-dated : DatedAll nil
+    more-dated : {t : Tree} {ts : Trees} → Dated t → DatedAll ts → DatedAll (t ▹ ts)
+
+-- a node whose fields are unused, whatever its kind
+unused-dated : {k : ℕ} {s : List ℕ} {ts : Trees} → DatedAll ts → Dated (node k s unused ts)
+unused-dated {k} h = node-dated (go (eqb k 32 || eqb k 33) (eqb k 34 || eqb k 36) (eqb k 35)) h
+  where
+    go : (p q r : Bool) → if p then Counted 0 else if q then Counted 0 else if r then Counted 0 × Counted 0 else Unit {0}
+    go true q r = none-counted
+    go false true r = none-counted
+    go false false true = (none-counted, none-counted)
+    go false false false = tt
+
+snoc-dated : {ts : Trees} {t : Tree} → DatedAll ts → Dated t → DatedAll (snoc ts t)
+snoc-dated nil-dated h = more-dated h nil-dated
+snoc-dated (more-dated g gs) h = more-dated g (snoc-dated gs h)
+
+join-dated : {ts us : Trees} → DatedAll ts → DatedAll us → DatedAll (join ts us)
+join-dated nil-dated h = h
+join-dated (more-dated g gs) h = more-dated g (join-dated gs h)
+
+-- each date that the tree has is a count
+date-counted : {k x : ℕ} {f : Fields} → Date k f x → Dates k f → Counted x
+date-counted spot h = h
+date-counted equity h = h
+date-counted df h = h
+date-counted from h = h .0
+date-counted to h = h .1
+date-counted pays h = h
+
+mutual
+  has-counted : {x : ℕ} {t : Tree} → Has x t → Dated t → Counted x
+  has-counted (here d) (node-dated h hs) = date-counted d h
+  has-counted (below p) (node-dated h hs) = part-counted p hs
+
+  part-counted : {x : ℕ} {ts : Trees} → HasPart x ts → DatedAll ts → Counted x
+  part-counted (this p) (more-dated h hs) = has-counted p h
+  part-counted (other p) (more-dated h hs) = part-counted p hs
+
+-- ---- readers that give what passes a test
+
+abbrev Passing : {A : Type 0} → (A → Type 0) → Out A → Type 0
+Passing P (ok a r) = P a
+Passing P (refused f p) = Unit {0}
+
+record Gives {A : Type 0} (P : A → Type 0) (m : Reader A) : Type 0 where
+  goes : (ts : List Token) → Passing P (m ts)
+
+-- what a turn ends with passes it
+abbrev Turned : {A : Type 0} → (A → Type 0) → Turn A A → Type 0
+Turned P (again a) = P a
+Turned P (done a) = P a
+
+-- ---- the forms that readers are made of
+
+module _ {A B : Type 0} {Q : B → Type 0} {f : A → Reader B} where
+  bind-gives : {m : Reader A} (P : A → Type 0) → Gives P m → ((a : A) → P a → Gives Q (f a)) → Gives Q (m >>= f)
+  unfolding _>>=_
+  bind-gives {m} P hm hf = record { goes = λ ts. go (m ts) (hm .goes ts) }
+    where
+      go : (o : Out A) → Passing P o → Passing Q (bind f o)
+      go (ok a r) h = hf a h .goes r
+      go (refused x p) h = tt
+
+  -- whatever is read first
+  then-gives : (m : Reader A) → ((a : A) → Gives Q (f a)) → Gives Q (m >>= f)
+  then-gives m hf = bind-gives (λ a. Unit {0}) (record { goes = λ ts. go (m ts) }) (λ a h. hf a)
+    where
+      go : (o : Out A) → Passing (λ a. Unit {0}) o
+      go (ok a r) = tt
+      go (refused x p) = tt
+
+module _ {A B : Type 0} {Q : B → Type 0} {k : Reader B} where
+  next-gives : (m : Reader A) → Gives Q k → Gives Q (m >> k)
+  unfolding _>>_
+  next-gives m hk = then-gives m (λ a. hk)
+
+module _ {B : Type 0} {Q : B → Type 0} where
+  then-tree : {m : Reader Tree} {f : Tree → Reader B} → Gives Dated m → ((t : Tree) → Dated t → Gives Q (f t)) → Gives Q (m >>= f)
+  then-tree hm hf = bind-gives Dated hm hf
+
+  then-trees : {m : Reader Trees} {f : Trees → Reader B} → Gives DatedAll m → ((ts : Trees) → DatedAll ts → Gives Q (f ts)) → Gives Q (m >>= f)
+  then-trees hm hf = bind-gives DatedAll hm hf
+
+  then-date : {m : Reader ℕ} {f : ℕ → Reader B} → Gives Counted m → ((d : ℕ) → Counted d → Gives Q (f d)) → Gives Q (m >>= f)
+  then-date hm hf = bind-gives Counted hm hf
+
+module _ {A : Type 0} {P : A → Type 0} where
+  give-gives : (a : A) → P a → Gives P (give a)
+  unfolding give
+  give-gives a h = record { goes = λ ts. h }
+
+  fail-gives : (n : ℕ) → Gives P (fail n)
+  unfolding fail
+  fail-gives n = record { goes = λ ts. tt }
+
+  failAt-gives : (t : Token) (n : ℕ) → Gives P (failAt t n)
+  unfolding failAt
+  failAt-gives t n = record { goes = λ ts. tt }
+
+  if-gives : (b : Bool) {m k : Reader A} → Gives P m → Gives P k → Gives P (if b then m else k)
+  if-gives true hm hk = hm
+  if-gives false hm hk = hk
+
+  ask-gives : (test : Token → Bool) {m k : Reader A} → Gives P m → Gives P k → Gives P (ask test m k)
+  unfolding ask
+  ask-gives test hm hk = record { goes = λ ts. if-gives (test (first ts)) hm hk .goes ts }
+
+  optional-gives : (s : String) (a : A) {m : Reader A} → P a → Gives P m → Gives P (optional s a m)
+  unfolding optional
+  optional-gives s a h hm = ask-gives (is s) (next-gives (the s) hm) (give-gives a h)
+
+  module _ {step : A → Reader (Turn A A)} (steps : (a : A) → P a → Gives (Turned P) (step a)) where
+    turns-gives : (n : ℕ) (a : A) → P a → (ts : List Token) → Passing P (turns n step a ts)
+    unfolding turns
+    turns-gives zero a h ts = tt
+    turns-gives (suc n) a h ts = go (turns-gives n) (step a ts) (steps a h .goes ts)
+      where
+        go : ((b : A) → P b → (r : List Token) → Passing P (turns n step b r)) → (o : Out (Turn A A)) → Passing (Turned P) o
+            → Passing P (follow (λ b ts′. turns n step b ts′) o)
+        go ih (ok (again b) r) g = ih b g r
+        go ih (ok (done b) r) g = g
+        go ih (refused x p) g = tt
+
+    loop-gives : (a : A) → P a → Gives P (loop step a)
+    unfolding loop
+    loop-gives a h = record { goes = λ ts. turns-gives (suc (length ts)) a h ts }
+
+  module _ {X : Type 0} {R : X → Type 0} {k : X → Reader A} where
+    deeper-gives : (t : Token) {o : Option X} → Each R o → ((x : X) → R x → Gives P (k x)) → Gives P (deeper t o k)
+    unfolding deeper
+    deeper-gives t nothing g = failAt-gives t 15
+    deeper-gives t (just h) g = g _ h
+
+ruleset laws = (then-tree, then-trees, then-date, then-gives, next-gives, give-gives, fail-gives, failAt-gives, if-gives, ask-gives, optional-gives, loop-gives, deeper-gives, unused-dated, node-dated, nil-dated, more-dated, snoc-dated, join-dated, none-counted)
+
+-- ---- the readers of the grammar
+
+-- a reader of a tree
+abbrev Reads : Reader Tree → Type 0
+Reads m = Gives Dated m
+
+groupTurn-dated : (op : Token → Bool) (operand : Reader Tree) → Reads operand → (l : Tree) → Dated l → Gives (Turned Dated) (G.groupTurn op operand l)
+unfolding G.groupTurn
+groupTurn-dated op operand h l g = search laws depth 9
+
+grouped-dated : (op : Token → Bool) (operand : Reader Tree) → Reads operand → Reads (grouped op operand)
+unfolding grouped
+grouped-dated op operand h = then-tree h (loop-gives (groupTurn-dated op operand h))
+
+sum-dated : (p : Reader Tree) → Reads p → Reads (sum p)
+unfolding sum
+sum-dated p h = search grouped-dated
+
+comparison-dated : (p : Reader Tree) → Reads p → Reads (comparison p)
+unfolding comparison
+comparison-dated p h = search (laws, sum-dated) depth 12
+
+expression-dated : (p : Reader Tree) → Reads p → Reads (expression p)
+unfolding expression
+expression-dated p h = search (grouped-dated, comparison-dated)
+
+itemTurn-dated : (s : String) (p : Reader Tree) → Reads p → (es : Trees) → DatedAll es → Gives (Turned DatedAll) (G.itemTurn s p es)
+unfolding G.itemTurn
+itemTurn-dated s p h es g = search (laws, expression-dated) depth 12
+
+items-dated : (s : String) (p : Reader Tree) → Reads p → Gives DatedAll (items s p)
+unfolding items
+items-dated s p h = loop-gives (itemTurn-dated s p h) nil nil-dated
+
+arguments-dated : (o : Option (Reader Tree)) → Each Reads o → Gives DatedAll (arguments o)
+unfolding arguments
+arguments-dated o h = search (laws, items-dated) depth 12
+
+method-dated : (x : Tree) → Dated x → (m : Token) (es : Trees) → DatedAll es → Reads (method x m es)
+unfolding method
+method-dated x h m es hs = search laws depth 12
+
+postfixTurn-dated : (o : Option (Reader Tree)) → Each Reads o → (x : Tree) → Dated x → Gives (Turned Dated) (G.postfixTurn o x)
+unfolding G.postfixTurn
+postfixTurn-dated o h x g = search (laws, arguments-dated, method-dated, expression-dated) depth 12
+
+postfixes-dated : (o : Option (Reader Tree)) → Each Reads o → (x : Tree) → Dated x → Reads (postfixes o x)
+unfolding postfixes
+postfixes-dated o h = loop-gives (postfixTurn-dated o h)
+
+dateOf-counted : (t : Token) → Gives Counted (dateOf t)
+unfolding dateOf
+dateOf-counted t = search (laws, counted)
+
+aDate-counted : Gives Counted aDate
+unfolding aDate
+aDate-counted = search (laws, dateOf-counted)
+
+df-dated : Reads G.df
+unfolding G.df
+df-dated = search (laws, aDate-counted) depth 16
+
+rateIndex-dated : Reads rateIndex
+unfolding rateIndex
+rateIndex-dated = search (laws, dateOf-counted) depth 20
+
+blockTurn-dated : (s : Reader Tree) → Reads s → (ss : Trees) → DatedAll ss → Gives (Turned DatedAll) (G.blockTurn s ss)
+unfolding G.blockTurn
+blockTurn-dated s h ss g = search laws depth 9
+
+block-dated : (s : Reader Tree) → Reads s → Gives DatedAll (block s)
+unfolding block
+block-dated s h = search (laws, blockTurn-dated) depth 9
+
+record InnerReads (i : Inner) : Type 0 where
+  statement : Reads (i .statement)
+  primary : Reads (i .primary)
+
+ifOver-dated : (i : Inner) → InnerReads i → Reads (ifOver i)
+unfolding ifOver
+ifOver-dated i h = search (laws, expression-dated, block-dated) depth 16
+
+ended-dated : (p : Reader Tree) → Reads p → Reads (ended p)
+unfolding ended
+ended-dated p h = search (laws, expression-dated) depth 9
+
+each-deep : (o : Option Inner) → Each InnerReads o → Each Reads (deep o)
+each-deep none nothing = nothing
+each-deep (some i) (just h) = just (h .primary)
+
+module _ (W : Words) where
+  equity-dated : (t : Token) → Reads (G.equity W t)
+  unfolding G.equity
+  equity-dated t = search (laws, aDate-counted) depth 8
+
+  pair-dated : (c : ℕ) → Reads (G.pair W c)
+  unfolding G.pair
+  pair-dated c = search (laws, aDate-counted) depth 12
+
+  spot-dated : Reads (G.spot W)
+  unfolding G.spot
+  spot-dated = search (laws, equity-dated, pair-dated) depth 14
+
+  cvg-dated : (t : Token) (es : Trees) → DatedAll es → Reads (G.cvg W t es)
+  unfolding G.cvg
+  cvg-dated t es h = search laws depth 8
+
+  call-dated : (o : Option (Reader Tree)) → Each Reads o → (t : Token) (c : ℕ × ℕ × ℕ) → Reads (G.call W o t c)
+  unfolding G.call
+  call-dated o h t c = search (laws, arguments-dated, cvg-dated) depth 8
+
+  named-dated : (t : Token) → Reads (G.named W t)
+  unfolding G.named
+  named-dated t = search laws depth 6
+
+  name-dated : (o : Option (Reader Tree)) → Each Reads o → (t : Token) → Reads (G.name W o t)
+  unfolding G.name
+  name-dated o h t = search (laws, call-dated, spot-dated, df-dated, rateIndex-dated, named-dated, postfixes-dated) depth 10
+
+  payTurn-dated : (p : Reader Tree) → Reads p → (es : Trees) → DatedAll es → Gives (Turned DatedAll) (G.payTurn W p es)
+  unfolding G.payTurn
+  payTurn-dated p h es g = search (laws, expression-dated) depth 8
+
+  payments-dated : (p : Reader Tree) → Reads p → Gives DatedAll (G.payments W p)
+  unfolding G.payments
+  payments-dated p h = loop-gives (payTurn-dated p h) nil nil-dated
+
+  pays-dated : (o : Option (Reader Tree)) → Each Reads o → Reads (G.pays W o)
+  unfolding G.pays
+  pays-dated o h = search (laws, payments-dated, aDate-counted) depth 14
+
+  minus-dated : (o : Option (Reader Tree)) → Each Reads o → (t : Token) → Reads (G.minus W o t)
+  unfolding G.minus G.constant
+  minus-dated o h t = search laws depth 9
+
+  primaryOver-dated : (o : Option (Reader Tree)) → Each Reads o → Reads (G.primaryOver W o)
+  unfolding G.primaryOver G.constant
+  primaryOver-dated o h = search (laws, expression-dated, items-dated, postfixes-dated, minus-dated, pays-dated, name-dated) depth 24
+
+  primary-dated : (d : ℕ) → Reads (G.primary W d)
+  unfolding G.primary
+  primary-dated zero = primaryOver-dated none nothing
+  primary-dated (suc d) = primaryOver-dated (some (G.primary W d)) (just (primary-dated d))
+
+  target-dated : Reads (G.target W)
+  unfolding G.target
+  target-dated = search (laws, named-dated) depth 9
+
+  forOver-dated : (i : Inner) → InnerReads i → Reads (G.forOver W i)
+  unfolding G.forOver
+  forOver-dated i h = search (laws, expression-dated, block-dated) depth 16
+
+  paid-dated : (o : Option (Reader Tree)) → Each Reads o → Reads (G.paid W o)
+  unfolding G.paid
+  paid-dated o h = search (laws, pays-dated) depth 9
+
+  assign-dated : (p : Reader Tree) → Reads p → Reads (G.assign W p)
+  unfolding G.assign
+  assign-dated p h = search (laws, target-dated, ended-dated) depth 12
+
+  compound-dated : (p : Reader Tree) → Reads p → Reads (G.compound W p)
+  unfolding G.compound
+  compound-dated p h = search (laws, target-dated, ended-dated) depth 12
+
+  assignPaid-dated : (o : Option (Reader Tree)) → Each Reads o → Reads (G.assignPaid W o)
+  unfolding G.assignPaid
+  assignPaid-dated o h = search (laws, target-dated, paid-dated) depth 12
+
+  nameFirst-dated : (p : Reader Tree) (o : Option (Reader Tree)) → Reads p → Each Reads o → (k : ℕ) → Reads (G.nameFirst W p o k)
+  unfolding G.nameFirst
+  nameFirst-dated p o h g k = search (if-gives, assign-dated, compound-dated, assignPaid-dated, ended-dated)
+
+  plain-dated : (p : Reader Tree) (o : Option Inner) → Reads p → Each InnerReads o → Reads (G.plain W p o)
+  unfolding G.plain
+  plain-dated p o h g = search (laws, ifOver-dated, forOver-dated, paid-dated, each-deep, ended-dated) depth 9
+
+  statementOver-dated : (p : Reader Tree) (o : Option Inner) → Reads p → Each InnerReads o → Reads (G.statementOver W p o)
+  unfolding G.statementOver
+  statementOver-dated p o h g = record { goes = λ ts. if-gives (is "name" (first ts)) (nameFirst-dated p (deep o) h (each-deep o g) (nextKind ts)) (plain-dated p o h g) .goes ts }
+
+  statement-dated : (d : ℕ) → Reads (G.statement W d)
+  unfolding G.statement
+  statement-dated zero = statementOver-dated (G.primary W zero) none (primary-dated zero) nothing
+  statement-dated (suc d) =
+      statementOver-dated (G.primary W (suc d)) (some (record { statement = G.statement W d; primary = G.primary W d })) (primary-dated (suc d))
+      (just (record { statement = statement-dated d; primary = primary-dated d }))
+
+-- ---- scripts
+
+-- the trees of all statements
+abbrev AllDated : List Entry → Type 0
+AllDated [] = Unit {0}
+AllDated (e ∷ es) = Dated (e .tree) × AllDated es
+
+-- those of a script that is accepted
+abbrev Sound : Outcome → Type 0
+Sound (accepted es) = AllDated es
+Sound (wrong f p) = Unit {0}
+
+front-sound : (e : Entry) → Dated (e .tree) → (o : Outcome) → Sound o → Sound (front e o)
+front-sound e h (accepted es) hs = (h, hs)
+front-sound e h (wrong f p) hs = tt
+
+module _ (W : Words) where
+  turn-sound : (k : ℕ → List Token → Outcome) → ((b : ℕ) (ts : List Token) → Sound (k b ts)) → (b : ℕ) (ts : List Token) → Sound (turn W k b ts)
+  unfolding turn onward entryOf
+  turn-sound k h b ts = go (is "End" (first ts)) (G.statement W mostDepth vs) (statement-dated W mostDepth .goes vs)
+    where
+      s : ℕ
+      s = first ts .from
+
+      vs : List Token
+      vs = map (back s) ts
+
+      read-on : (o : Out Tree) → Passing Dated o → Sound (onward k (b + s) vs o)
+      read-on (ok t r) g = front-sound (entryOf (b + s) vs t r) g (k (b + s) r) (h (b + s) r)
+      read-on (refused f p) g = tt
+
+      go : (e : Bool) (o : Out Tree) → Passing Dated o → Sound (if e then accepted [] else onward k (b + s) vs o)
+      go true o g = tt
+      go false o g = read-on o g
+
+  upTo-sound : (n b : ℕ) (ts : List Token) → Sound (upTo W n b ts)
+  unfolding upTo
+  upTo-sound zero b ts = tt
+  upTo-sound (suc n) b ts = turn-sound (λ b′ ts′. upTo W n b′ ts′) (upTo-sound n) b (skip ts)
+
+ofTokens-sound : (l : Lists) (n : ℕ) (o : Lexed) → Sound (ofTokens l n o)
+unfolding ofTokens statements fromByte
+ofTokens-sound l n (lexed ts) = go (ltb mostTokens (count counts ts - 1))
+  where
+    go : (b : Bool) → Sound (if b then wrong 7 n else statements (words l) ts)
+    go true = tt
+    go false = upTo-sound (words l) (suc (length ts)) 0 ts
+ofTokens-sound l n (faulty f p) = tt
+
+read-sound : (l : Lists) (bs : List ℕ) → Sound (readScript l bs)
+read-sound l bs = by-order Sound l bs tt tt λ h. ofTokens-sound l (length (script bs)) (tokens (script bs))
+
+-- ---- what is read has true dates
+
+-- a true day's count
+counted-day : {x : ℕ} → Counted x → (x ≡ 0) ⊎ ((s : List ℕ) × (isDate s ≡ true) × (x ≡ date s))
+counted-day (counted s) = go (isDate s) refl
+  where
+    go : (b : Bool) → isDate s ≡ b → (date s ≡ 0) ⊎ ((r : List ℕ) × (isDate r ≡ true) × (date s ≡ date r))
+    go true e = inr (s, e, refl)
+    go false e = inl (eqb-true (date s) 0 (date-none s ∙ ap not e))
+
+counted-most : {x : ℕ} → Counted x → x ≤ lastCount
+counted-most (counted s) = date-most s
+
+entry-dated : {e : Entry} {es : List Entry} → List·Memᴰ e es → AllDated es → Dated (e .tree)
+entry-dated (List·Memᴰ·head e) h = subst Dated (ap (λ (x : Entry). x .tree) (sym e)) (h .0)
+entry-dated (List·Memᴰ·tail m) h = entry-dated m (h .1)
+
+tree-most : (t : Tree) → Dated t → latestIn (size t) (records t) ≤ lastCount
+tree-most t h = ⊎-elim (λ z. omega arith) (λ m. counted-most (has-counted m h)) (latest-had t)
+
+latest-most : (es : List Entry) → AllDated es → latestOf (map rowOf es) ≤ lastCount
+unfolding latestOf
+latest-most [] h = omega arith
+latest-most (e ∷ es) h = omega (arith, tree-most (e .tree) (h .0), latest-most es (h .1))
+
+module _ (l : Lists) (bs : List ℕ) {es : List Entry} (e : readScript l bs ≡ accepted es) where
+  -- each date of a statement is 0, where none is written, or the count of a true day that a text writes
+  pub read-dates : (t : Entry) → List·Memᴰ t es → (x : ℕ) → Has x (t .tree) → (x ≡ 0) ⊎ ((s : List ℕ) × (isDate s ≡ true) × (x ≡ date s))
+  read-dates t m x h = counted-day (has-counted h (entry-dated m (subst Sound e (read-sound l bs))))
+
+  -- so that no script's latest date is past the last day
+  pub read-latest : latestOf (map rowOf es) ≤ lastCount
+  read-latest = latest-most es (subst Sound e (read-sound l bs))
