@@ -19,3 +19,4 @@ pub mod LatestLaws
 pub mod DatedLaws
 pub mod Examples
 pub mod KindExamples
+pub mod LatestExamples
