@@ -3,15 +3,15 @@ use mathlib.Core.Path.{_≡_, refl, sym, ap, ap₂, subst, _∙_}
 use mathlib.Core.Bool.{Bool, true, false, _||_}
 use mathlib.Core.Logic.{_⊎_, inl, inr, ⊎-map}
 use mathlib.Core.List.{List, [], _∷_, _++_, map, List·Memᴰ, List·Memᴰ·head, List·Memᴰ·tail}
-use Prim.Native.Nat.{ℕ, zero, suc, _+_, _*_, _≤_, _<_, max}
-use native.Mathlib.Nat.{zero-add, suc-add, max-eq-left, max-eq-right}
+use Prim.Native.Nat.{ℕ, zero, suc, _+_, _-_, _*_, _≤_, _<_, max}
+use native.Mathlib.Nat.{zero-add, add-zero, suc-add, max-eq-left, max-eq-right}
 use native.Mathlib.Numerals.{add-one}
 use native.Mathlib.Decide.{decLe}
 use native.Mathlib.Omega.{arith}
 use lib.Dec.{eqb}
 use borrow.Author.Tests.{eqb-true}
 use lib.ListN.{length, length-drop, drop, getD, List·getD-append}
-use lib.Seq.{drop-drop, drop-append-le, drop-at}
+use lib.Seq.{drop-drop, drop-append-le, drop-at, getD-drop}
 use Rattle.tokens.specs.Text.{if_then_else_}
 use Rattle.grammar.specs.Sizes.{recordWidth}
 use Rattle.grammar.specs.Trees.{Tree, Trees, node, nil, _▹_, Fields, fields, row, parts, size, sizes, records, recordsOf}
@@ -47,6 +47,24 @@ latest-first (suc n) ws vs h =
     let behind : latestIn n (drop recordWidth ws ++ vs) ≡ latestIn n (drop recordWidth ws) =
     latest-first n (drop recordWidth ws) vs (omega (arith, length-drop recordWidth ws)) in
     cc (dateAt-append ws vs whole, drop-append-le recordWidth ws vs whole)
+
+-- of no record
+pub latest-none : (n : ℕ) (ws : List ℕ) → n ≡ 0 → latestIn n ws ≡ 0
+unfolding latestIn
+latest-none n ws h = rw h
+
+-- the record i, then those behind it
+pub latest-turn : (ws : List ℕ) (i m : ℕ) → i < m
+    → latestIn (m - i) (drop (recordWidth * i) ws)
+    ≡ max (dateOf (getD ws (recordWidth * i) 0) (getD ws (recordWidth * i + 3) 0) (getD ws (recordWidth * i + 5) 0) (getD ws (recordWidth * i + 6) 0)) (latestIn (m - (i + 1)) (drop (recordWidth * (i + 1)) ws))
+unfolding latestIn
+latest-turn ws i m h =
+    let one-less : m - i ≡ suc (m - (i + 1)) = omega arith in
+    let next : recordWidth * i + recordWidth ≡ recordWidth * (i + 1) = omega arith in
+    let behind : drop recordWidth (drop (recordWidth * i) ws) ≡ drop (recordWidth * (i + 1)) ws =
+    drop-drop recordWidth (recordWidth * i) ws ∙ ap (λ (k : ℕ). drop k ws) next in
+    let word : (j : ℕ) → getD (drop (recordWidth * i) ws) j 0 ≡ getD ws (recordWidth * i + j) 0 = λ j. getD-drop (recordWidth * i) ws j 0 in
+    rw one-less (cc (behind, word 0, word 3, word 5, word 6, add-zero (recordWidth * i)))
 
 -- the later of those of both
 pub latest-append : (n m : ℕ) (ws vs : List ℕ) → length ws ≡ recordWidth * n → latestIn (n + m) (ws ++ vs) ≡ max (latestIn n ws) (latestIn m vs)

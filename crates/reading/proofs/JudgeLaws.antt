@@ -168,7 +168,7 @@ module _ (l : Lists) (s : List ℕ) where
     unfolding textJudgement
     text-not h = ap (judgedOf (length s) (lastEnd s)) (passed-is ∙ h)
 
-    pub text-good : {o d o′ d′ : List ℕ} {k n : ℕ} → ReadsAll (statements (words l) (toksAt s 0)) o d k n o′ d′
+    pub text-good : {o d o′ d′ : List ℕ} {k n x : ℕ} → ReadsAll (statements (words l) (toksAt s 0)) o d k n x o′ d′
         → textJudgement l s ≡ judged.Good (record { bytes = length s; statements = k; records = n; tokens = c; last = e })
     unfolding textJudgement statements
     text-good {k = k} {n = n} R =
@@ -181,8 +181,8 @@ module _ (l : Lists) (s : List ℕ) where
 -- ---- what the reader of all statements answers
 
 module _ (R : Outcome) (o d : List ℕ) (r : All) (o′ d′ : List ℕ) where
-  pub all-done : (k n : ℕ) → r ≡ all.Done k n → MeetsAll R o d r o′ d′ → ReadsAll R o d k n o′ d′
-  all-done k n e h = rw e at h
+  pub all-done : (k n x : ℕ) → r ≡ all.Done k n x → MeetsAll R o d r o′ d′ → ReadsAll R o d k n x o′ d′
+  all-done k n x e h = rw e at h
 
   pub all-not : (k b : ℕ) → r ≡ all.Refused k b → MeetsAll R o d r o′ d′ → R ≡ refused k b
   all-not k b e h = rw e at h

@@ -13,12 +13,12 @@ use Rattle.grammar.specs.Script.{Entry, Outcome, accepted, refused}
 use Rattle.grammar.specs.Words.{wordsOf, directoryOf}
 use Rattle.grammar.proofs.Refusals.{Ground, reading-refused, reading-small}
 use Rattle.reading.specs.Judging.{judgedOf, lastEnd}
-use Rattle.reading.specs.Reading.{answerOf, leftBy, readInto, Leaves}
+use Rattle.reading.specs.Reading.{answerOf, latestBy, leftBy, readInto, Leaves}
 use Rattle.reading.specs.declared.reading.Answer.{Answer}
 
 module _ {l : Lists} {bs o d o′ d′ : List ℕ} {r : Answer} (X : Leaves l bs o d r o′ d′) where
-  is : (x : Outcome) → readInto l bs o d ≡ x → r ≡ answerOf bs (judgedOf (length (script bs)) (lastEnd (script bs)) x)
-  is x e = X .answer ∙ ap (λ (y : Outcome). answerOf bs (judgedOf (length (script bs)) (lastEnd (script bs)) y)) e
+  is : (x : Outcome) → readInto l bs o d ≡ x → r ≡ answerOf bs (latestBy x) (judgedOf (length (script bs)) (lastEnd (script bs)) x)
+  is x e = X .answer ∙ ap (λ (y : Outcome). answerOf bs (latestBy y) (judgedOf (length (script bs)) (lastEnd (script bs)) y)) e
 
   ground : {f p : ℕ} → readInto l bs o d ≡ refused f p → Ground 16 (length (script bs)) f p
   ground e = reading-refused l bs (recordRoom (length o)) (statementRoom (length d)) e
@@ -62,15 +62,15 @@ module _ {l : Lists} {bs o d o′ d′ : List ℕ} {r : Answer} (X : Leaves l bs
             omega (arith, ap (λ (a : Answer). a .column) a, column-within bs p),
           )
 
-  -- a refusal changes no lent memory, every word of it, and its counts are 0
-  pub refused-keeps : (r .number ≡ 0 → ⊥) → (o′ ≡ o) × (d′ ≡ d) × ((r .bytes ≡ 0) × (r .statements ≡ 0) × (r .records ≡ 0) × (r .tokens ≡ 0))
+  -- a refusal changes no lent memory, every word of it, and its counts and its latest date are 0
+  pub refused-keeps : (r .number ≡ 0 → ⊥) → (o′ ≡ o) × (d′ ≡ d) × ((r .bytes ≡ 0) × (r .statements ≡ 0) × (r .records ≡ 0) × (r .tokens ≡ 0) × (r .latest ≡ 0))
   refused-keeps n = go (readInto l bs o d) refl
     where
-      go : (x : Outcome) → readInto l bs o d ≡ x → (o′ ≡ o) × (d′ ≡ d) × ((r .bytes ≡ 0) × (r .statements ≡ 0) × (r .records ≡ 0) × (r .tokens ≡ 0))
+      go : (x : Outcome) → readInto l bs o d ≡ x → (o′ ≡ o) × (d′ ≡ d) × ((r .bytes ≡ 0) × (r .statements ≡ 0) × (r .records ≡ 0) × (r .tokens ≡ 0) × (r .latest ≡ 0))
       go (accepted es) e = absurd (n (ap (λ (a : Answer). a .number) (is (accepted es) e)))
       go (refused f p) e =
           let a = is (refused f p) e in (
             X .records ∙ ap (leftBy wordsOf o) e,
             X .directory ∙ ap (leftBy directoryOf d) e,
-            (ap (λ (a : Answer). a .bytes) a, ap (λ (a : Answer). a .statements) a, ap (λ (a : Answer). a .records) a, ap (λ (a : Answer). a .tokens) a),
+            (ap (λ (a : Answer). a .bytes) a, ap (λ (a : Answer). a .statements) a, ap (λ (a : Answer). a .records) a, ap (λ (a : Answer). a .tokens) a, ap (λ (a : Answer). a .latest) a),
           )

@@ -1,7 +1,7 @@
 -- Laws of reading into lent memory: what a judgement, the room and the reader of all statements leave there.
 use mathlib.Core.Path.{_≡_, refl, sym, ap, _∙_, subst}
 use mathlib.Core.Bool.{Bool, true, false}
-use mathlib.Core.List.{List, [], _∷_, _++_}
+use mathlib.Core.List.{List, [], _∷_, _++_, map}
 use Prim.Native.Nat.{ℕ, _*_, _/_, _≤_, _<_}
 use native.Mathlib.Omega.{arith}
 use lib.Dec.{ltb}
@@ -12,7 +12,7 @@ use Rattle.tokens.specs.Names.{Lists}
 use Rattle.tokens.proofs.Outcomes.{one-outcome}
 use Rattle.grammar.specs.Sizes.{recordWidth, entryWidth, mostRecords, mostStatements, recordRoom, statementRoom}
 use Rattle.grammar.specs.Script.{Entry, Outcome, accepted, refused, fitting, readScript, reading, statements, words, nodes, tokensOf}
-use Rattle.grammar.specs.Words.{wordsOf, rowOf, rowWords, directoryOf}
+use Rattle.grammar.specs.Words.{wordsOf, rowOf, rowWords, directoryOf, latestOf}
 use Rattle.reading.specs.Rows.{rows, putRows, putEntries}
 use Rattle.reading.specs.Meets.{toksAt, Few}
 use Rattle.reading.specs.Scripts.{Clean, rowsIn, entriesIn, MeetsAll}
@@ -22,7 +22,7 @@ use Rattle.reading.specs.declared.judging.Counts.{Counts}
 use Rattle.reading.specs.declared.judging.Judged.the-variants as judged
 use Rattle.reading.specs.declared.reading.Answer.{Answer}
 use Rattle.reading.specs.Judging.{judgedOf, lastEnd, judgement}
-use Rattle.reading.specs.Reading.{acceptedWith, refusedAt, answerOf, over, leftBy, readInto, Leaves}
+use Rattle.reading.specs.Reading.{acceptedWith, refusedAt, answerOf, latestBy, latestRead, over, leftBy, readInto, Leaves}
 use Rattle.grammar.proofs.AmendBytes.{Accepted, read-accepted, script-noZero, read-script}
 use Rattle.grammar.proofs.WordLaws.{words-length, directory-length}
 use Rattle.reading.proofs.RowLaws.{flat, flat-append, rows-flat, rows-wide, Wide, none, more, wide-append, put-first}
@@ -85,12 +85,16 @@ room-most most n = go (ltb most n) refl
 
 -- ---- what the reader of all statements wrote, where they can be read
 
-all-wrote : {R : Outcome} (o d : List ℕ) (r : All) {o′ d′ : List ℕ} (es : List Entry) → R ≡ accepted es → MeetsAll R o d r o′ d′
-    → (o′ ≡ putRows o 0 (rowsIn es)) × (d′ ≡ putEntries d 0 (entriesIn es))
-all-wrote o d (all.Done k n) es e X =
+all-wrote : {R : Outcome} (o d : List ℕ) (r : All) {o′ d′ : List ℕ} (es : List Entry) → R ≡ accepted es → recordWidth * nodes es ≤ length o → MeetsAll R o d r o′ d′
+    → (o′ ≡ putRows o 0 (rowsIn es)) × (d′ ≡ putEntries d 0 (entriesIn es)) × (latestRead r ≡ latestOf (map rowOf es))
+all-wrote o d (all.Done k n x) es e h X =
     let same : X .entries ≡ es = cc in
-    (X .records ∙ ap (λ fs. putRows o 0 (rowsIn fs)) same, X .directory ∙ ap (λ fs. putEntries d 0 (entriesIn fs)) same)
-all-wrote o d (all.Refused k b) es e X = absurd (let z : _≡_ {A = ℕ} 0 1 = cc in omega arith)
+    let fits : recordWidth * n ≤ length o = omega (arith, X .records-are, ap nodes same) in (
+      X .records ∙ ap (λ fs. putRows o 0 (rowsIn fs)) same,
+      X .directory fits ∙ ap (λ fs. putEntries d 0 (entriesIn fs)) same,
+      X .latest fits ∙ ap (λ fs. latestOf (map rowOf fs)) same,
+    )
+all-wrote o d (all.Refused k b) es e h X = absurd (let z : _≡_ {A = ℕ} 0 1 = cc in omega arith)
 
 module _ (l : Lists) (bs : List ℕ) where
   -- ---- what a judgement says of the script
@@ -147,7 +151,7 @@ module _ (l : Lists) (bs : List ℕ) where
   module _ (o d : List ℕ) where
     leaves-refused : {r : Answer} {k p : ℕ} → r ≡ refusedAt bs k p → readInto l bs o d ≡ refused k p → Leaves l bs o d r o d
     leaves-refused e h = record {
-      answer = e ∙ sym (ap (λ (x : Outcome). answerOf bs (judgedOf (length (script bs)) (lastEnd (script bs)) x)) h);
+      answer = e ∙ sym (ap (λ (x : Outcome). answerOf bs (latestBy x) (judgedOf (length (script bs)) (lastEnd (script bs)) x)) h);
       records = sym (ap (leftBy wordsOf o) h);
       directory = sym (ap (leftBy directoryOf d) h);
     }
@@ -176,17 +180,19 @@ module _ (l : Lists) (bs : List ℕ) where
           leaves-refused e (into ∙ rw (fits, full))
 
       -- accepted
-      pub leaves-read : {r : Answer} {m n : ℕ} → r ≡ acceptedWith c → m ≡ recordRoom (length o) → c .records ≤ m → n ≡ statementRoom (length d) → c .statements ≤ n
-          → (a : All) {o′ d′ : List ℕ} → MeetsAll (statements (words l) (toksAt (take (c .bytes) bs) 0)) o d a o′ d′ → Leaves l bs o d r o′ d′
-      leaves-read e p h q g a M =
+      pub leaves-read : {r : Answer} {m n x : ℕ} → r ≡ acceptedWith c x → m ≡ recordRoom (length o) → c .records ≤ m → n ≡ statementRoom (length d) → c .statements ≤ n
+          → (a : All) {o′ d′ : List ℕ} → x ≡ latestRead a → MeetsAll (statements (words l) (toksAt (take (c .bytes) bs) 0)) o d a o′ d′ → Leaves l bs o d r o′ d′
+      leaves-read e p h q g a y M =
           let fits : ltb (recordRoom (length o)) (nodes (G .entries)) ≡ false = le-ltb (recordRoom (length o)) (nodes (G .entries)) (omega (arith, p, h, G .records-are)) in
           let few : ltb (statementRoom (length d)) (length (G .entries)) ≡ false = le-ltb (statementRoom (length d)) (length (G .entries)) (omega (arith, q, g, G .statements-are)) in
           let is : readInto l bs o d ≡ accepted (G .entries) = into ∙ rw (fits, few) in
-          let W = all-wrote o d a (G .entries) (reads-are G) M in
           let record-fits : recordWidth * nodes (G .entries) ≤ length o = omega (arith, room-in mostRecords (length o / recordWidth), p, h, G .records-are) in
+          let W = all-wrote o d a (G .entries) (reads-are G) record-fits M in
           let entry-fits : entryWidth * length (G .entries) ≤ length d = omega (arith, room-in mostStatements (length d / entryWidth), q, g, G .statements-are) in
           record {
-            answer = e ∙ ap (answerOf bs) (G .counts-are) ∙ sym (ap (λ (x : Outcome). answerOf bs (judgedOf (length (script bs)) (lastEnd (script bs)) x)) is);
+            answer =
+                e ∙ ap (acceptedWith c) (y ∙ W .2) ∙ ap (answerOf bs (latestOf (map rowOf (G .entries)))) (G .counts-are)
+                ∙ sym (ap (λ (x : Outcome). answerOf bs (latestBy x) (judgedOf (length (script bs)) (lastEnd (script bs)) x)) is);
             records = W .0 ∙ put-records o (G .entries) record-fits ∙ sym (ap (leftBy wordsOf o) is);
             directory = W .1 ∙ put-directory d (G .entries) entry-fits ∙ sym (ap (leftBy directoryOf d) is);
           }

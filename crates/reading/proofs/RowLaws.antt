@@ -8,7 +8,7 @@ use native.Mathlib.Numerals.{add-one}
 use native.Mathlib.Omega.{arith}
 use lib.Dec.{ltb}
 use lib.ListN.{length, length-append, length-set, set, take, drop, take-append-drop}
-use lib.Seq.{sets, sets-eq, length-take-le, take-at, drop-append-add, drop-drop}
+use lib.Seq.{sets, sets-eq, length-take-le, take-at, drop-at, drop-append-add, drop-drop}
 use borrow.Author.Tests.{lt-ltb, le-ltb}
 use Rattle.tokens.specs.Text.{if_then_else_}
 use Rattle.grammar.specs.Sizes.{recordWidth}
@@ -95,6 +95,11 @@ module _ (w : ℕ) where
   pub putAt-length : (o : List ℕ) (n : ℕ) (r : List ℕ) → length (putAt w o n r) ≡ length o
   unfolding putAt
   putAt-length o n r = either-length (ltb n (length o / w)) o (putWords o (w * n) r) (putWords-length o (w * n) r)
+
+  pub putAll-length : (o : List ℕ) (n : ℕ) (rs : List (List ℕ)) → length (putAll w o n rs) ≡ length o
+  unfolding putAll
+  putAll-length o n [] = refl
+  putAll-length o n (r ∷ rs) = putAll-length (putAt w o n r) (n + 1) rs ∙ putAt-length o n r
 
   -- ---- the memory, by the rows
 
@@ -293,6 +298,13 @@ module _ (w : ℕ) (some : 0 < w) where
       put-all (putAt w o n r) (n + 1) rs more-room v
       ∙ rw (before, behind) (append-assoc (take (w * n) o) r _ ∙ ap (λ l. take (w * n) o ++ l) (sym (append-assoc r _ _)))
 
+  -- from where they stand on
+  pub put-behind : (o : List ℕ) (n : ℕ) (rs : List (List ℕ)) → w * n + w * length rs ≤ length o → Wide w rs
+      → drop (w * n) (putAll w o n rs) ≡ flat rs ++ drop (w * n + w * length rs) o
+  put-behind o n rs h v =
+      ap (drop (w * n)) (put-all o n rs h v)
+      ∙ drop-at (take (w * n) o) (flat rs ++ drop (w * n + w * length rs) o) (w * n) (length-take-le (w * n) o (omega arith))
+
   -- from the front of the memory
   pub put-first : (o : List ℕ) (rs : List (List ℕ)) → w * length rs ≤ length o → Wide w rs → putAll w o 0 rs ≡ flat rs ++ drop (w * length rs) o
   put-first o rs h v = put-all o 0 rs (omega arith) v ∙ rw (mul-zero, zero-add)
@@ -309,10 +321,12 @@ put-seven o i a b c d e f g =
     let i₆ : i + 5 + 1 ≡ i + 6 = omega arith in
     rw (i₂, i₃, i₄, i₅, i₆)
 
--- the four words of an entry
-pub put-four : (o : List ℕ) (i a b c d : ℕ) → putWords o i (a ∷ b ∷ c ∷ d ∷ []) ≡ set (set (set (set o i a) (i + 1) b) (i + 2) c) (i + 3) d
+-- the five words of an entry
+pub put-five : (o : List ℕ) (i a b c d e : ℕ)
+    → putWords o i (a ∷ b ∷ c ∷ d ∷ e ∷ []) ≡ set (set (set (set (set o i a) (i + 1) b) (i + 2) c) (i + 3) d) (i + 4) e
 unfolding putWords
-put-four o i a b c d =
+put-five o i a b c d e =
     let i₂ : i + 1 + 1 ≡ i + 2 = omega arith in
     let i₃ : i + 2 + 1 ≡ i + 3 = omega arith in
-    rw (i₂, i₃)
+    let i₄ : i + 3 + 1 ≡ i + 4 = omega arith in
+    rw (i₂, i₃, i₄)

@@ -1,26 +1,27 @@
 -- Laws of the loop over a script's statements: what was read so far, and what is left.
 use mathlib.Core.Path.{_≡_, refl, sym, ap, _∙_, subst}
 use mathlib.Core.Bool.{false}
-use mathlib.Core.List.{List, [], _∷_, _++_, append-nil, append-assoc, map-append}
-use Prim.Native.Nat.{ℕ, _+_, _-_, _*_, _≤_, _<_}
+use mathlib.Core.List.{List, [], _∷_, _++_, append-nil, append-assoc, map, map-append}
+use Prim.Native.Nat.{ℕ, _+_, _-_, _*_, _≤_, _<_, max}
 use Prim.Native.String.{String}
 use native.Mathlib.Omega.{arith}
 use native.Mathlib.Nat.{zero-add}
 use lib.ListN.{length, take, drop, length-append, length-map, length-drop}
 use lib.Seq.{drop-drop, take-append-seam, take-all}
-use borrow.Author.Tests.{ne-eqb}
+use borrow.Author.Tests.{ne-eqb, le-leb}
 use Rattle.tokens.specs.Limits.{mostBytes, mostDepth}
 use Rattle.tokens.specs.Text.{count}
 use Rattle.tokens.specs.Tokens.{Token, Lexed, final, code, counts, endOf}
 use Rattle.tokens.specs.Lexing.{cursorAt}
 use Rattle.tokens.specs.declared.cursor.Cursor.{Cursor}
 use Rattle.grammar.specs.Sizes.{recordWidth, entryWidth}
-use Rattle.grammar.specs.Trees.{Tree, size}
+use Rattle.grammar.specs.Trees.{Tree, size, records}
 use Rattle.grammar.specs.Readers.{Out, refused as wrong, first, is, skip}
 use Rattle.grammar.specs.Grammar.{Words, statement}
 use Rattle.grammar.specs.Script.{Entry, Outcome, accepted, refused, front, back, entryOf, onward, turn, from, statements, nodes}
-use Rattle.grammar.specs.Words.{rowOf, rowWords}
-use Rattle.reading.specs.Rows.{rows, putAll, putRows, putEntry, putEntries}
+use Rattle.grammar.specs.Latest.{latestIn}
+use Rattle.grammar.specs.Words.{rowOf, rowWords, latestOf}
+use Rattle.reading.specs.Rows.{rows, putAll, putRows, putEntry, putEntries, latestBetween}
 use Rattle.reading.specs.Meets.{listed, toksAt, Holds, Room, Ready, Reads, Meets}
 use Rattle.reading.specs.Scripts.{Clean, rebase, refusedAt, rowsIn, entriesIn, ReadsAll, MeetsAll}
 use Rattle.reading.specs.declared.answers.Read.{Read}
@@ -30,8 +31,10 @@ use Rattle.reading.specs.declared.answers.All.the-variants as all
 use Rattle.grammar.proofs.Laws.{skip-clear}
 use Rattle.grammar.proofs.ScriptLaws.{prepend, prepend-accepted, from-eq}
 use Rattle.grammar.proofs.SizeLaws.{statement-size, statement-less}
+use Rattle.grammar.proofs.WordLaws.{records-length}
+use Rattle.grammar.proofs.LatestLaws.{latest-first, latestOf-append}
 use Rattle.reading.proofs.HoldLaws.{toks-few, toks-are, first-kind, first-from, at-end, start-holds, rebased-holds, rebased-toks}
-use Rattle.reading.proofs.RowLaws.{size-some, rows-size, putAll-one, putAll-append, put-rows-same}
+use Rattle.reading.proofs.RowLaws.{size-some, rows-size, putAll-length, putAll-one, putAll-append, put-rows-same, rows-flat, rows-wide, put-behind}
 
 -- ---- what the tokens at a cursor are read as
 
@@ -85,8 +88,8 @@ putEntries-snoc d k es e =
 
 -- ---- the loop
 
--- the statements read so far make n records and k entries, and the cursor stands behind them
-pub record Chain (W : Words) (t o d : List ℕ) (b : ℕ) (c : Cursor) (n k : ℕ) (o₁ d₁ : List ℕ) : Type 0 where
+-- the statements read so far make n records and k entries, and the cursor stands behind them; x is their latest date, where the records have room
+pub record Chain (W : Words) (t o d : List ℕ) (b : ℕ) (c : Cursor) (n k x : ℕ) (o₁ d₁ : List ℕ) : Type 0 where
   pub entries : List Entry
   pub goes : statements W (toksAt t 0) ≡ prepend entries (from W b (toksAt (drop b t) (c .start)))
   pub short : length t ≤ mostBytes
@@ -97,11 +100,12 @@ pub record Chain (W : Words) (t o d : List ℕ) (b : ℕ) (c : Cursor) (n k : �
   pub statements-are : k ≡ length entries
   pub records-are : n ≡ nodes entries
   pub records : o₁ ≡ putRows o 0 (rowsIn entries)
-  pub directory : d₁ ≡ putEntries d 0 (entriesIn entries)
+  pub directory : recordWidth * n ≤ length o → d₁ ≡ putEntries d 0 (entriesIn entries)
+  pub latest : recordWidth * n ≤ length o → x ≡ latestOf (map rowOf entries)
 
 module _ (W : Words) (t o d : List ℕ) where
-  pub chain-start : Clean t → (c : Cursor) → c ≡ cursorAt (take mostBytes t) 0 0 0 → Chain W t o d 0 c 0 0 o d
-  unfolding statements putAll
+  pub chain-start : Clean t → (c : Cursor) → c ≡ cursorAt (take mostBytes t) 0 0 0 → Chain W t o d 0 c 0 0 0 o d
+  unfolding statements putAll latestOf
   chain-start C c e =
       let S : Holds t c × (toksAt t (c .start) ≡ skip (toksAt t 0)) = start-holds t (C .tokens) c (C .short) (C .scanned) e in
       record {
@@ -115,11 +119,12 @@ module _ (W : Words) (t o d : List ℕ) where
         statements-are = refl;
         records-are = refl;
         records = refl;
-        directory = refl;
+        directory = λ h. refl;
+        latest = λ h. refl;
       }
 
-  module _ {b : ℕ} {c : Cursor} {n k : ℕ} {o₁ d₁ : List ℕ} (C : Chain W t o d b c n k o₁ d₁) where
-    pub chain-exit : c .code ≡ 0 → ReadsAll (statements W (toksAt t 0)) o d k n o₁ d₁
+  module _ {b : ℕ} {c : Cursor} {n k x : ℕ} {o₁ d₁ : List ℕ} (C : Chain W t o d b c n k x o₁ d₁) where
+    pub chain-exit : c .code ≡ 0 → ReadsAll (statements W (toksAt t 0)) o d k n x o₁ d₁
     chain-exit z = record {
       entries = C .entries;
       is = C .goes ∙ ap (prepend (C .entries)) (from-end (C .holds) W b z) ∙ prepend-accepted (C .entries) [] ∙ ap accepted (append-nil (C .entries));
@@ -127,6 +132,7 @@ module _ (W : Words) (t o d : List ℕ) where
       records-are = C .records-are;
       records = C .records;
       directory = C .directory;
+      latest = C .latest;
     }
 
     abbrev P : List ℕ
@@ -196,13 +202,20 @@ module _ (W : Words) (t o d : List ℕ) where
       unfolding entryOf
       entry-tree = refl
 
-      entry-row : rowWords (rowOf E) ≡ (b + c .start) ∷ (b + c .start + e .last) ∷ (m - n) ∷ e .taken ∷ []
+      abbrev own : ℕ
+      own = latestIn (size (R .tree)) (records (R .tree))
+
+      entry-row : rowWords (rowOf E) ≡ (b + c .start) ∷ (b + c .start + e .last) ∷ (m - n) ∷ e .taken ∷ own ∷ []
       unfolding entryOf
       entry-row =
           let w : size (R .tree) ≡ m - n = omega (arith, R .counts) in
           let l : endOf 0 (take (length (toksAt P 0) - length (toksAt P (e .start))) (toksAt P 0)) ≡ e .last = ap (endOf 0) used ∙ sym (R .holds .last-is) in
           let v : count counts (take (length (toksAt P 0) - length (toksAt P (e .start))) (toksAt P 0)) ≡ e .taken = ap (count counts) used ∙ sym (R .holds .taken-is) in
-          λ i. (b + c .start) ∷ (b + c .start + l i) ∷ w i ∷ v i ∷ []
+          λ i. (b + c .start) ∷ (b + c .start + l i) ∷ w i ∷ v i ∷ own ∷ []
+
+      last-row : latestOf (rowOf E ∷ []) ≡ own
+      unfolding latestOf entryOf
+      last-row = omega arith
 
       pub chain-numbers : (m + 3 * length (toksAt P (e .start)) ≤ 50000) × (n < m)
       chain-numbers = (omega (arith, part-ready .1, R .counts, statement-size W mostDepth (toksAt P 0) (R .tree) (toksAt P (e .start)) (R .is)), omega (arith, R .counts, size-some (R .tree)))
@@ -211,9 +224,25 @@ module _ (W : Words) (t o d : List ℕ) where
       chain-less =
           omega (arith, statement-less W mostDepth (toksAt P 0) (R .tree) (toksAt P (e .start)) (R .is), ap length (sym (ap (λ (x : List ℕ). toksAt x 0) part-is) ∙ rebased-toks (C .holds)), length-map (toksAt (drop b t) (c .start)) (back (c .start)))
 
-      pub chain-next : {d₂ : List ℕ} → d₂ ≡ putEntry d₁ k ((b + c .start) ∷ (b + c .start + e .last) ∷ (m - n) ∷ e .taken ∷ []) → Chain W t o d (b + c .start) e m (k + 1) o₂ d₂
-      unfolding onward
-      chain-next q = record {
+      -- what the code finds in the records that the statement wrote, y, is the date of its entry
+      own-is : {y : ℕ} → length o₁ ≡ length o → recordWidth * m ≤ length o
+          → y ≡ latestBetween o₂ n m → y ≡ own
+      own-is same fits q =
+          let w : m - n ≡ size (R .tree) = omega (arith, R .counts) in
+          let v : length o₂ ≡ length o = ap length (R .writes) ∙ putAll-length recordWidth o₁ n (rows (R .tree)) ∙ same in
+          let room : recordWidth * n + recordWidth * length (rows (R .tree)) ≤ length o₁ = omega (arith, R .counts, rows-size (R .tree), same) in
+          let stands : drop (recordWidth * n) o₂ ≡ records (R .tree) ++ drop (recordWidth * n + recordWidth * length (rows (R .tree))) o₁ =
+          ap (drop (recordWidth * n)) (R .writes) ∙ put-behind recordWidth (omega arith) o₁ n (rows (R .tree)) room (rows-wide (R .tree))
+          ∙ ap (λ (ws : List ℕ). ws ++ drop (recordWidth * n + recordWidth * length (rows (R .tree))) o₁) (rows-flat (R .tree)) in
+          q ∙ rw (le-leb (recordWidth * m) (length o₂) (omega arith), w, stands)
+          (latest-first (size (R .tree)) (records (R .tree)) _ (omega (arith, records-length (R .tree))))
+
+      pub chain-next : {d₂ : List ℕ} {y x′ : ℕ} → length o₁ ≡ length o
+          → y ≡ latestBetween o₂ n m
+          → d₂ ≡ putEntry d₁ k ((b + c .start) ∷ (b + c .start + e .last) ∷ (m - n) ∷ e .taken ∷ y ∷ []) → x′ ≡ max x y
+          → Chain W t o d (b + c .start) e m (k + 1) x′ o₂ d₂
+      unfolding onward latestOf
+      chain-next same p q g = record {
         entries = C .entries ++ (E ∷ []);
         goes =
             onward-is z ∙ ap (λ (x : Out Tree). prepend (C .entries) (onward (from W) (b + c .start) (toksAt P 0) x)) (R .is)
@@ -229,6 +258,10 @@ module _ (W : Words) (t o d : List ℕ) where
             R .writes
             ∙ put-rows-same (C .records) (C .records-are ∙ sym (rowsIn-size (C .entries)) ∙ sym (zero-add (length (rowsIn (C .entries))))) (ap rows (sym entry-tree))
             ∙ sym (putAll-append recordWidth o 0 (rowsIn (C .entries)) (rows (E .tree))) ∙ ap (putRows o 0) (sym (rowsIn-snoc (C .entries) E));
-        directory =
-            q ∙ rw (C .directory, C .statements-are, sym entry-row) (sym (rw zero-add at (putEntries-snoc d 0 (C .entries) E)));
+        directory = λ h.
+            let before : d₁ ≡ putEntries d 0 (entriesIn (C .entries)) = C .directory (omega (arith, chain-numbers .1)) in
+            q ∙ rw (own-is same h p, before, C .statements-are, sym entry-row) (sym (rw zero-add at (putEntries-snoc d 0 (C .entries) E)));
+        latest = λ h.
+            g ∙ rw (own-is same h p, C .latest (omega (arith, chain-numbers .1)))
+            (sym (ap latestOf (map-append rowOf (C .entries) (E ∷ [])) ∙ latestOf-append (map rowOf (C .entries)) (rowOf E ∷ []) ∙ ap (max (latestOf (map rowOf (C .entries)))) last-row));
       }

@@ -1,11 +1,12 @@
 -- Records and entries one after the other in lent memory: each is written where it fits whole.
 use mathlib.Core.List.{List, [], _∷_, _++_}
-use Prim.Native.Nat.{ℕ, suc, _+_, _*_, _/_}
-use lib.Dec.{ltb}
-use lib.ListN.{length, set}
+use Prim.Native.Nat.{ℕ, suc, _+_, _-_, _*_, _/_}
+use lib.Dec.{leb, ltb}
+use lib.ListN.{length, set, drop}
 use Rattle.tokens.specs.Text.{if_then_else_}
 use Rattle.grammar.specs.Sizes.{recordWidth, entryWidth}
 use Rattle.grammar.specs.Trees.{Tree, Trees, node, nil, _▹_, fields, parts, sizes, row}
+use Rattle.grammar.specs.Latest.{latestIn}
 use Rattle.reading.specs.declared.records.Node.{Node}
 use Rattle.reading.specs.declared.records.Entry.{Entry}
 
@@ -52,3 +53,7 @@ putEntry o k r = putAt entryWidth o k r
 
 abbrev pub putEntries : List ℕ → ℕ → List (List ℕ) → List ℕ
 putEntries o k rs = putAll entryWidth o k rs
+
+-- the latest date of the records from number n up to, not including, number m, where the memory holds them all
+abbrev pub latestBetween : List ℕ → ℕ → ℕ → ℕ
+latestBetween o n m = if leb (recordWidth * m) (length o) then latestIn (m - n) (drop (recordWidth * n) o) else 0

@@ -1,12 +1,9 @@
 // The latest date of records in lent memory: a day count, or 0 where they have none.
 use crate::records::Node;
 ghost use mathlib.Core.Path.{_≡_};
-ghost use Prim.Native.Nat.{_-_, _*_, max};
-ghost use lib.Dec.{leb};
-ghost use lib.ListN.{length, drop};
-ghost use Rattle.tokens.specs.Text.{if_then_else_};
-ghost use Rattle.grammar.specs.Sizes.{recordWidth};
-ghost use Rattle.grammar.specs.Latest.{dateOf, latestIn};
+ghost use Prim.Native.Nat.{max};
+ghost use Rattle.grammar.specs.Latest.{dateOf};
+ghost use Rattle.reading.specs.Rows.{latestBetween};
 
 pub fn later(a: u32, b: u32) -> u32
     ensures { λ r. ⌜ r ≡ max a b ⌝ }
@@ -19,16 +16,18 @@ fn date_of(kind: u32, f1: u32, f3: u32, f4: u32) -> u32
     ensures { λ r. ⌜ r ≡ dateOf kind f1 f3 f4 ⌝ }
 {
     match kind {
-        32 | 33 => f3,
-        34 | 36 => f1,
+        32 => f3,
+        33 => f3,
+        34 => f1,
         35 => later(f3, f4),
+        36 => f1,
         _ => 0,
     }
 }
 
 // The latest date of the records from number n up to, not including, number m; 0 where the memory has not so many.
 pub fn latest_of(records: &[u32], n: u32, m: u32) -> u32
-    ensures { λ r. ⌜ r ≡ (if leb (recordWidth * m) (length (now (records .entry))) then latestIn (m - n) (drop (recordWidth * n) (now (records .entry))) else 0) ⌝ }
+    ensures { λ r. ⌜ r ≡ latestBetween (now (records .entry)) n m ⌝ }
 {
     if records.len() / Node::WIDTH < m as usize {
         return 0;

@@ -49,7 +49,7 @@ returns-2 : tie.Need-returns-2
 returns-2 c = sym (text-not (listsIn (c .before .before .before .before .before .before .before .before .before .before .before .before .before .before .before .before .args .reserved .now) (c .before .before .before .before .before .before .before .before .before .before .before .before .before .before .before .before .args .currencies .now) (c .before .before .before .before .before .before .before .before .before .before .before .before .before .before .before .before .args .counters .now)) (c .before .before .before .before .before .before .before .before .before .before .before .before .before .before .before .before .args .s .now) (passed (c .before .before .before .before .before .before .before .before .before .before .before .before .before .before .before .before .args .s .now) (sym (c .before .before .before .before .before .before .before .before .before .before .before .scan .ensures) ∙ c .before .before .before .before .before .before .before .before .before .tokens .given .1)) (all-not _ _ _ _ _ _ _ _ (c .before .k2 .given .1) (c .before .before .before .before .before .all .ensures)))
 
 returns-3 : tie.Need-returns-3
-returns-3 c = sym (text-good (listsIn (c .before .before .before .before .before .before .before .before .before .before .before .before .before .before .before .before .args .reserved .now) (c .before .before .before .before .before .before .before .before .before .before .before .before .before .before .before .before .args .currencies .now) (c .before .before .before .before .before .before .before .before .before .before .before .before .before .before .before .before .args .counters .now)) (c .before .before .before .before .before .before .before .before .before .before .before .before .before .before .before .before .args .s .now) (passed (c .before .before .before .before .before .before .before .before .before .before .before .before .before .before .before .before .args .s .now) (sym (c .before .before .before .before .before .before .before .before .before .before .before .scan .ensures) ∙ c .before .before .before .before .before .before .before .before .before .tokens .given .1)) (all-done _ _ _ _ _ _ _ _ (c .before .k3 .given .1) (c .before .before .before .before .before .all .ensures)))
+returns-3 c = sym (text-good (listsIn (c .before .before .before .before .before .before .before .before .before .before .before .before .before .before .before .before .args .reserved .now) (c .before .before .before .before .before .before .before .before .before .before .before .before .before .before .before .before .args .currencies .now) (c .before .before .before .before .before .before .before .before .before .before .before .before .before .before .before .before .args .counters .now)) (c .before .before .before .before .before .before .before .before .before .before .before .before .before .before .before .before .args .s .now) (passed (c .before .before .before .before .before .before .before .before .before .before .before .before .before .before .before .before .args .s .now) (sym (c .before .before .before .before .before .before .before .before .before .before .before .scan .ensures) ∙ c .before .before .before .before .before .before .before .before .before .tokens .given .1)) (all-done _ _ _ _ _ _ _ _ _ (c .before .k3 .given .1) (c .before .before .before .before .before .all .ensures)))
 
 pub judge-text-spec : {M : Type 1} → statement M
 judge-text-spec =

@@ -66,6 +66,9 @@ all-requires c κs =
     let lists = listsIn (args .reserved .now) (args .currencies .now) (args .counters .now) in
     text-ready lists (args .script .now) (judged-good lists (args .script .now) (sym (at-judge .judge .ensures) ∙ at-c .c .given .1))
 
+latest-in-requires : tie.Need-latest-in-requires
+latest-in-requires c κs = search needs
+
 acceptance-requires : tie.Need-acceptance-requires
 acceptance-requires c κs = search needs
 
@@ -84,7 +87,7 @@ same-length-2 c = search needs
 
 returns-4 : tie.Need-returns-4
 returns-4 c =
-    let at-all = c .before .before .before .before .before in
+    let at-all = c .before .before .before .before .before .before in
     let at-if2 = at-all .before .before .before .before in
     let at-statement-room = at-if2 .before .before in
     let at-record-room = at-statement-room .before .before .before in
@@ -92,7 +95,7 @@ returns-4 c =
     let at-judge = at-c .before .before in
     let args = at-judge .before .before .before .before .before .before .before .args in
     let lists = listsIn (args .reserved .now) (args .currencies .now) (args .counters .now) in
-    leaves-read lists (args .script .now) _ _ (judged-good lists (args .script .now) (sym (at-judge .judge .ensures) ∙ at-c .c .given .1)) (c .acceptance .ensures) (at-record-room .record-room .ensures) (at-statement-room .before .if1 .left) (at-statement-room .statement-room .ensures) (at-if2 .if2 .left) (at-all .all .result) (at-all .all .ensures)
+    leaves-read lists (args .script .now) _ _ (judged-good lists (args .script .now) (sym (at-judge .judge .ensures) ∙ at-c .c .given .1)) (c .acceptance .ensures) (at-record-room .record-room .ensures) (at-statement-room .before .if1 .left) (at-statement-room .statement-room .ensures) (at-if2 .if2 .left) (at-all .all .result) (c .before .latest-in .ensures) (at-all .all .ensures)
 
 pub read-spec : {M : Type 1} → statement M
 read-spec =
@@ -110,6 +113,7 @@ read-spec =
     returns-2
     slice-aggregate-all
     all-requires
+    latest-in-requires
     acceptance-requires
     returns-3
     same-length

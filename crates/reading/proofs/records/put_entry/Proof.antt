@@ -3,7 +3,7 @@ use lib.ListN.{length-set}
 use borrow.Author.Tests.{lt-ltb, le-ltb}
 use mathlib.Core.Path.{sym}
 use Rattle.reading.specs.Rows.{putAt}
-use Rattle.reading.proofs.RowLaws.{put-four}
+use Rattle.reading.proofs.RowLaws.{put-five}
 use borrow.Author.Needs.{needs}
 use Rattle.reading.proofs.records.put_entry.Statement.{statement}
 use Rattle.reading.proofs.records.put_entry.Tie as tie
@@ -46,12 +46,21 @@ mul-directory-4 c = search needs
 slice-write-directory-4 : tie.Need-slice-write-directory-4
 slice-write-directory-4 c = simp length-set (omega arith)
 
+add-directory-4 : tie.Need-add-directory-4
+add-directory-4 c = search needs
+
+mul-directory-5 : tie.Need-mul-directory-5
+mul-directory-5 c = search needs
+
+slice-write-directory-5 : tie.Need-slice-write-directory-5
+slice-write-directory-5 c = simp length-set (omega arith)
+
 same-length : tie.Need-same-length
 same-length c = search needs
 
 returns : tie.Need-returns
 unfolding putAt
-returns c = rw (lt-ltb _ _ (c .if1 .taken)) (sym (put-four _ _ _ _ _ _))
+returns c = rw (lt-ltb _ _ (c .if1 .taken)) (sym (put-five _ _ _ _ _ _ _))
 
 returns-2 : tie.Need-returns-2
 unfolding putAt
@@ -73,6 +82,9 @@ put-entry-spec =
     add-directory-3
     mul-directory-4
     slice-write-directory-4
+    add-directory-4
+    mul-directory-5
+    slice-write-directory-5
     same-length
     returns
     returns-2)

@@ -11,10 +11,10 @@ use Rattle.reading.proofs.WholeLaws.{Chain, chain-start, chain-exit, pa
 use Rattle.reading.proofs.StepLaws.{done-reads}
 
 abbrev Inv-loop : tie.InvT-loop
-Inv-loop s reserved currencies counters records₀ directory₀ base₀ at₀ n₀ k₀ records directory base at n k = (length records ≡ length records₀) × (length directory ≡ length directory₀) × Chain (wordsIn reserved currencies counters) s records₀ directory₀ base at n k records directory
+Inv-loop s reserved currencies counters records₀ directory₀ base₀ at₀ n₀ k₀ latest₀ records directory base at n k latest = (length records ≡ length records₀) × (length directory ≡ length directory₀) × Chain (wordsIn reserved currencies counters) s records₀ directory₀ base at n k latest records directory
 
 abbrev μ-loop : tie.MeasureT-loop
-μ-loop s reserved currencies counters records₀ directory₀ base₀ at₀ n₀ k₀ records directory base at n k = length (toksAt (drop base s) (at .start))
+μ-loop s reserved currencies counters records₀ directory₀ base₀ at₀ n₀ k₀ latest₀ records directory base at n k latest = length (toksAt (drop base s) (at .start))
 
 start-requires : tie.Need-start-requires Inv-loop μ-loop
 start-requires c κs = search needs
@@ -106,27 +106,33 @@ returns-2 c =
     let words = wordsIn (args .reserved .now) (args .currencies .now) (args .counters .now) in
     all-refused words (args .s .now) _ _ (at-loop .loop .inv .2) (at-if1 .if1 .left) (statement .result) (c .refused-at .result) (statement .last .1 .1 .1 .1 .1 .1 .0) _ _ _ _ (c .before .enum-told .given .1) (meets-at words (args .s .now) _ _ (at-loop .loop .inv .2) (at-rebased .rebased .ensures) (statement .result) (statement .last .1 .1 .1 .1 .1 .1 .0) (statement .ensures)) (c .refused-at .ensures)
 
-cast-t25 : tie.Need-cast-t25 Inv-loop μ-loop
-cast-t25 c = search needs
+latest-of-requires : tie.Need-latest-of-requires Inv-loop μ-loop
+latest-of-requires c κs = search needs
 
-cast-t16 : tie.Need-cast-t16 Inv-loop μ-loop
-cast-t16 c = search needs
-
-add-t26 : tie.Need-add-t26 Inv-loop μ-loop
-add-t26 c =
-    let at-loop = c .before .before .before .before .before .before .before .before .before .before .before .before .before .before in
+cast-t29 : tie.Need-cast-t29 Inv-loop μ-loop
+cast-t29 c =
+    let at-loop = c .before .before .before .before .before .before .before .before .before .before .before .before .before .before .before in
     let args = at-loop .before .before .before .before .before .before .before .before .args in
     omega (arith, part-in (wordsIn (args .reserved .now) (args .currencies .now) (args .counters .now)) (args .s .now) _ _ (at-loop .loop .inv .2), at-loop .loop .inv .2 .short)
 
-cast-t27 : tie.Need-cast-t27 Inv-loop μ-loop
-cast-t27 c =
-    let at-loop = c .before .before .before .before .before .before .before .before .before .before .before .before .before .before in
+cast-t18 : tie.Need-cast-t18 Inv-loop μ-loop
+cast-t18 c = search needs
+
+add-t30 : tie.Need-add-t30 Inv-loop μ-loop
+add-t30 c =
+    let at-loop = c .before .before .before .before .before .before .before .before .before .before .before .before .before .before .before .before in
     let args = at-loop .before .before .before .before .before .before .before .before .args in
     omega (arith, part-in (wordsIn (args .reserved .now) (args .currencies .now) (args .counters .now)) (args .s .now) _ _ (at-loop .loop .inv .2), at-loop .loop .inv .2 .short)
 
-sub-t28 : tie.Need-sub-t28 Inv-loop μ-loop
-sub-t28 c =
-    let at-r = c .before .before .before in
+cast-t31 : tie.Need-cast-t31 Inv-loop μ-loop
+cast-t31 c =
+    let at-loop = c .before .before .before .before .before .before .before .before .before .before .before .before .before .before .before .before in
+    let args = at-loop .before .before .before .before .before .before .before .before .args in
+    omega (arith, part-in (wordsIn (args .reserved .now) (args .currencies .now) (args .counters .now)) (args .s .now) _ _ (at-loop .loop .inv .2), at-loop .loop .inv .2 .short)
+
+sub-t32 : tie.Need-sub-t32 Inv-loop μ-loop
+sub-t32 c =
+    let at-r = c .before .before .before .before .before in
     let at-statement = at-r .before .before .before .before in
     let at-rebased = at-statement .before .before .before in
     let at-if1 = at-rebased .before .before in
@@ -136,20 +142,23 @@ sub-t28 c =
     let words = wordsIn (args .reserved .now) (args .currencies .now) (args .counters .now) in
     omega (arith, chain-numbers words (args .s .now) _ _ (at-loop .loop .inv .2) (at-if1 .if1 .left) (done-reads _ _ _ _ _ _ _ _ _ (at-r .r .given .1) (meets-at words (args .s .now) _ _ (at-loop .loop .inv .2) (at-rebased .rebased .ensures) (statement .result) (statement .last .1 .1 .1 .1 .1 .1 .0) (statement .ensures))))
 
-cast-t29 : tie.Need-cast-t29 Inv-loop μ-loop
-cast-t29 c = search needs
+cast-t33 : tie.Need-cast-t33 Inv-loop μ-loop
+cast-t33 c = search needs
 
 put-entry-requires : tie.Need-put-entry-requires Inv-loop μ-loop
 put-entry-requires c κs = search needs
 
+later-requires : tie.Need-later-requires Inv-loop μ-loop
+later-requires c κs = search needs
+
 add-k : tie.Need-add-k Inv-loop μ-loop
 add-k c =
-    let at-loop = c .before .before .before .before .before .before .before .before .before .before .before .before .before .before .before .before .before .before in
+    let at-loop = c .before .before .before .before .before .before .before .before .before .before .before .before .before .before .before .before .before .before .before .before .before in
     omega (arith, at-loop .loop .inv .2 .fewer, at-loop .loop .inv .2 .room)
 
 loop-less : tie.Need-loop-less Inv-loop μ-loop
 loop-less c =
-    let at-r = c .before .before .before .before .before .before .before in
+    let at-r = c .before .before .before .before .before .before .before .before .before .before in
     let at-statement = at-r .before .before .before .before in
     let at-rebased = at-statement .before .before .before in
     let at-if1 = at-rebased .before .before in
@@ -161,8 +170,9 @@ loop-less c =
 
 loop-again : tie.Need-loop-again Inv-loop μ-loop
 loop-again c =
-    let at-put-entry = c .before .before in
-    let at-r = at-put-entry .before .before .before .before .before in
+    let at-put-entry = c .before .before .before in
+    let at-latest-of = at-put-entry .before .before .before .before in
+    let at-r = at-latest-of .before .before .before in
     let at-statement = at-r .before .before .before .before in
     let at-rebased = at-statement .before .before .before in
     let at-if1 = at-rebased .before .before in
@@ -171,7 +181,7 @@ loop-again c =
     let loop = at-loop .loop in
     let args = at-loop .before .before .before .before .before .before .before .before .args in
     let words = wordsIn (args .reserved .now) (args .currencies .now) (args .counters .now) in
-    (statement .kept .1 .1 .1 .1 .1 .1 .0 ∙ loop .inv .0, at-put-entry .put-entry .kept .0 ∙ loop .inv .1, chain-next words (args .s .now) _ _ (loop .inv .2) (at-if1 .if1 .left) (done-reads _ _ _ _ _ _ _ _ _ (at-r .r .given .1) (meets-at words (args .s .now) _ _ (loop .inv .2) (at-rebased .rebased .ensures) (statement .result) (statement .last .1 .1 .1 .1 .1 .1 .0) (statement .ensures))) (at-put-entry .put-entry .ensures))
+    (statement .kept .1 .1 .1 .1 .1 .1 .0 ∙ loop .inv .0, at-put-entry .put-entry .kept .0 ∙ loop .inv .1, chain-next words (args .s .now) _ _ (loop .inv .2) (at-if1 .if1 .left) (done-reads _ _ _ _ _ _ _ _ _ (at-r .r .given .1) (meets-at words (args .s .now) _ _ (loop .inv .2) (at-rebased .rebased .ensures) (statement .result) (statement .last .1 .1 .1 .1 .1 .1 .0) (statement .ensures))) (loop .inv .0) (at-latest-of .latest-of .ensures) (at-put-entry .put-entry .ensures) (c .later .ensures))
 
 pub all-spec : {M : Type 1} → statement M
 all-spec =
@@ -197,13 +207,15 @@ all-spec =
     same-length-3
     same-length-4
     returns-2
-    cast-t25
-    cast-t16
-    add-t26
-    cast-t27
-    sub-t28
+    latest-of-requires
     cast-t29
+    cast-t18
+    add-t30
+    cast-t31
+    sub-t32
+    cast-t33
     put-entry-requires
+    later-requires
     add-k
     loop-less
     loop-again)
