@@ -2,13 +2,13 @@
 use mathlib.Core.Path.{_≡_, refl, ap, _∙_}
 use mathlib.Core.List.{List, [], _∷_, _++_}
 use mathlib.Core.Option.{none, some}
-use Prim.Native.Nat.{ℕ, zero, suc, _+_, _-_, _*_, _≤_, _<_}
+use Prim.Native.Nat.{ℕ, zero, suc, _+_, _-_, _*_, _≤_, _<_, max}
 use native.Mathlib.Nat.{add-zero, add-assoc}
 use native.Mathlib.Omega.{arith}
 use lib.ListN.{length, take, drop, getD}
 use lib.Seq.{getD-drop, drop-drop}
 use Rattle.grammar.specs.Sizes.{entryWidth}
-use Rattle.grammar.specs.Words.{Row, rowsWords}
+use Rattle.grammar.specs.Words.{Row, rowsWords, latestOf}
 use Rattle.amending.specs.Amending.{Pick, onto, pick}
 use Rattle.amending.specs.Lent.{sumRecords}
 use Rattle.amending.specs.Entries.{rowAt, rowsFrom, pickAt}
@@ -30,9 +30,10 @@ words-of-rows (suc k) [] h = absurd (omega arith)
 words-of-rows (suc k) (a ∷ []) h = absurd (omega arith)
 words-of-rows (suc k) (a ∷ b ∷ []) h = absurd (omega arith)
 words-of-rows (suc k) (a ∷ b ∷ r ∷ []) h = absurd (omega arith)
-words-of-rows (suc k) (a ∷ b ∷ r ∷ t ∷ d) h =
-    let e : entryWidth * suc k ≡ suc (suc (suc (suc (entryWidth * k)))) = omega arith in
-    rw e (ap (λ (l : List ℕ). a ∷ b ∷ r ∷ t ∷ l) (words-of-rows k d (omega arith)))
+words-of-rows (suc k) (a ∷ b ∷ r ∷ t ∷ []) h = absurd (omega arith)
+words-of-rows (suc k) (a ∷ b ∷ r ∷ t ∷ x ∷ d) h =
+    let e : entryWidth * suc k ≡ suc (suc (suc (suc (suc (entryWidth * k))))) = omega arith in
+    rw e (ap (λ (l : List ℕ). a ∷ b ∷ r ∷ t ∷ x ∷ l) (words-of-rows k d (omega arith)))
 
 pub rows-count : (k : ℕ) (d : List ℕ) → length (rowsFrom k d) ≡ k
 unfolding rowsFrom
@@ -41,7 +42,7 @@ rows-count (suc k) d = ap suc (rows-count k (drop entryWidth d))
 
 -- ---- one entry after the other
 
--- the entries from the index `at` on: the first stands there, the rest four words on
+-- the entries from the index `at` on: the first stands there, the rest an entry's words on
 pub rows-turn : (d : List ℕ) (at left : ℕ) → 0 < left → rowsFrom left (drop at d) ≡ rowAt d at ∷ rowsFrom (left - 1) (drop (at + entryWidth) d)
 unfolding rowsFrom
 rows-turn d at left h =
@@ -58,6 +59,15 @@ records-turn d at left h = ap sumRecords (rows-turn d at left h)
 
 pub records-none : (d : List ℕ) (left : ℕ) → left ≡ 0 → sumRecords (rowsFrom left d) ≡ 0
 records-none d left h = ap sumRecords (rows-none d left h)
+
+pub latest-turn : (d : List ℕ) (at left : ℕ) → 0 < left
+    → latestOf (rowsFrom left (drop at d)) ≡ max (getD d (at + 4) 0) (latestOf (rowsFrom (left - 1) (drop (at + entryWidth) d)))
+unfolding latestOf
+latest-turn d at left h = ap latestOf (rows-turn d at left h)
+
+pub latest-none : (d : List ℕ) (left : ℕ) → left ≡ 0 → latestOf (rowsFrom left d) ≡ 0
+unfolding latestOf
+latest-none d left h = ap latestOf (rows-none d left h)
 
 -- ---- the entry that is picked
 

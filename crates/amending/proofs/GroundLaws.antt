@@ -26,10 +26,10 @@ use Rattle.grammar.proofs.Endings.{Snoc, nil, snoc, snoc-of, LastToken, last-to
 use Rattle.reading.proofs.ReadLaws.{room-in, room-most, Good}
 use Rattle.amending.specs.Amend.{endsWell, lastEnd}
 use Rattle.amending.specs.Amending.{Rooms, Pick, pick}
-use Rattle.amending.specs.Lent.{Lent, unchanged, ascending, sumRecords, sumTokens, overRows, inOrder, swapped, fittingLent, putLent, lentAt, amendLent}
+use Rattle.amending.specs.Lent.{Lent, handed, unchanged, ascending, sumRecords, sumTokens, overRows, inOrder, swapped, fittingLent, putLent, lentAt, amendLent}
 use Rattle.amending.specs.Entries.{rowsFrom, pickAt}
 use Rattle.amending.specs.Memory.{Memory, roomsOf, roomsIn, usedIn, within, amendIn}
-use Rattle.amending.specs.Grounds.{endsWhole, endsShut, endsAt, Ends, Few, wordsAt, Stands, alone, totals, fittingBy, Fits, MeetsVerdict}
+use Rattle.amending.specs.Grounds.{endsWhole, endsShut, endsAt, Ends, Few, wordsAt, Stands, alone, totals, fittingBy, Fits, latestThen, MeetsVerdict}
 use Rattle.amending.specs.declared.held.Held.{Held}
 use Rattle.amending.specs.declared.grounds.Row.{Row as Line}
 use Rattle.amending.specs.declared.grounds.Verdict.the-variants as verdict
@@ -127,26 +127,27 @@ module _ (M : Memory) (h : Held) (w : Within (roomsIn M) h) where
   )
 
   -- 20: the code's test is the definition's
-  pub order-is : inOrder (roomsIn M) (usedIn M h) ≡ (leb (entryWidth * h .statements) (length (M .directory)) && counted 0 (h .bytes) (h .records) (h .tokens) rows)
+  pub order-is : inOrder (roomsIn M) (usedIn M h) ≡ (leb (entryWidth * h .statements) (length (M .directory)) && counted 0 (h .bytes) (h .records) (h .tokens) (h .latest) 0 rows)
   unfolding inOrder
   order-is = same _ _ to from
     where
-      to : inOrder (roomsIn M) (usedIn M h) ≡ true → (leb (entryWidth * h .statements) (length (M .directory)) && counted 0 (h .bytes) (h .records) (h .tokens) rows) ≡ true
+      to : inOrder (roomsIn M) (usedIn M h) ≡ true → (leb (entryWidth * h .statements) (length (M .directory)) && counted 0 (h .bytes) (h .records) (h .tokens) (h .latest) 0 rows) ≡ true
       to b =
           let b₁ = right (ascending 0 (length (take (h .bytes) (M .script))) rows) _ b in
           let b₂ = right (eqb (length (take (recordWidth * h .records) (M .records))) (recordWidth * sumRecords rows)) _ b₁ in
           let a : ascending 0 (h .bytes) rows ≡ true = ap (λ (n : ℕ). ascending 0 n rows) (sym bytes-used) ∙ left _ _ b in
           let e : length (take (recordWidth * h .records) (M .records)) ≡ recordWidth * sumRecords rows = eqb-true _ _ (left _ _ b₁) in
           let r : h .records ≡ sumRecords rows = omega (arith, words-used, e) in
-          yes (le-leb _ _ entries-fit) (yes a (yes (eq-eqb _ _ r) (left _ _ b₂)))
+          let b₃ = right (eqb (h .tokens) (sumTokens rows)) _ b₂ in
+          yes (le-leb _ _ entries-fit) (yes a (yes (eq-eqb _ _ r) (yes (left _ _ b₂) (left _ _ b₃))))
 
-      from : (leb (entryWidth * h .statements) (length (M .directory)) && counted 0 (h .bytes) (h .records) (h .tokens) rows) ≡ true → inOrder (roomsIn M) (usedIn M h) ≡ true
+      from : (leb (entryWidth * h .statements) (length (M .directory)) && counted 0 (h .bytes) (h .records) (h .tokens) (h .latest) 0 rows) ≡ true → inOrder (roomsIn M) (usedIn M h) ≡ true
       from b =
-          let O : Ordered (M .directory) (h .statements) (h .bytes) (h .records) (h .tokens) = ordered (M .directory) (h .statements) (h .bytes) (h .records) (h .tokens) b in
+          let O : Ordered (M .directory) (h .statements) (h .bytes) (h .records) (h .tokens) (h .latest) = ordered (M .directory) (h .statements) (h .bytes) (h .records) (h .tokens) (h .latest) b in
           let e : length (take (recordWidth * h .records) (M .records)) ≡ recordWidth * sumRecords rows = omega (arith, words-used, O .recordSum) in
           let o : overRows (roomsIn M) (length (take (h .bytes) (M .script))) rows ≡ false =
           over-no (roomsIn M) (length (take (h .bytes) (M .script))) rows h (sym bytes-used) (O .tokenSum) (O .recordSum) (sym (rows-count (h .statements) (M .directory))) w in
-          yes (ap (λ (n : ℕ). ascending 0 n rows) bytes-used ∙ O .order) (yes (eq-eqb _ _ e) (yes (eq-eqb _ _ (O .tokenSum)) (ap not o)))
+          yes (ap (λ (n : ℕ). ascending 0 n rows) bytes-used ∙ O .order) (yes (eq-eqb _ _ e) (yes (eq-eqb _ _ (O .tokenSum)) (yes (eq-eqb _ _ (O .latestIs)) (ap not o))))
 
 -- ---- 18
 
@@ -260,11 +261,11 @@ module _ (l : Lists) (M : Memory) (h : Held) (k : ℕ) (n : List ℕ) where
     unfolding amendIn
     asked = rw (within-yes (roomsIn M) h w)
 
-    pub not-ordered : (leb (entryWidth * h .statements) (length d) && counted 0 (h .bytes) (h .records) (h .tokens) (rowsFrom (h .statements) d)) ≡ false → amendIn l M h k n ≡ unchanged 20 0
+    pub not-ordered : (leb (entryWidth * h .statements) (length d) && counted 0 (h .bytes) (h .records) (h .tokens) (h .latest) 0 (rowsFrom (h .statements) d)) ≡ false → amendIn l M h k n ≡ unchanged 20 0
     unfolding amendLent
     not-ordered f = asked ∙ rw (order-is M h w ∙ f)
 
-    module _ (o : (leb (entryWidth * h .statements) (length d) && counted 0 (h .bytes) (h .records) (h .tokens) (rowsFrom (h .statements) d)) ≡ true) where
+    module _ (o : (leb (entryWidth * h .statements) (length d) && counted 0 (h .bytes) (h .records) (h .tokens) (h .latest) 0 (rowsFrom (h .statements) d)) ≡ true) where
       at : amendIn l M h k n ≡ lentAt l (roomsIn M) (usedIn M h) n (pick k (rowsFrom (h .statements) d))
       unfolding amendLent
       at = asked ∙ rw (order-is M h w ∙ o)
@@ -278,8 +279,8 @@ module _ (l : Lists) (M : Memory) (h : Held) (k : ℕ) (n : List ℕ) where
         abbrev p : Pick Row
         p = pickAt k (h .statements) d
 
-        O : Ordered d (h .statements) (h .bytes) (h .records) (h .tokens)
-        O = ordered d (h .statements) (h .bytes) (h .records) (h .tokens) o
+        O : Ordered d (h .statements) (h .bytes) (h .records) (h .tokens) (h .latest)
+        O = ordered d (h .statements) (h .bytes) (h .records) (h .tokens) (h .latest) o
 
         split : rowsFrom (h .statements) d ≡ p .before ++ (p .one ∷ p .behind)
         split = rows-split k (h .statements) d t
@@ -298,7 +299,7 @@ module _ (l : Lists) (M : Memory) (h : Held) (k : ℕ) (n : List ℕ) where
           bounded = bounded M h w;
         }
 
-        pub entry-in : entryWidth * k + 4 ≤ length d
+        pub entry-in : entryWidth * k + entryWidth ≤ length d
         entry-in = omega (arith, entries-fit M h w)
 
         -- 19
@@ -405,7 +406,10 @@ module _ (l : Lists) (M : Memory) (h : Held) (k : ℕ) (n : List ℕ) where
                 not-ended e = put ∙ rw (G .reads, ends-is ∙ e, size-is)
 
                 made : endsAt n (c .last) (c .tokens) ≡ true → within (roomsIn M) whole ≡ true → Fits l M h k n c whole
-                made e f = record {
+                made e f =
+                    let made-is : amendIn l M h k n ≡ handed L =
+                    fits-there e ∙ rw (over-no (roomsIn M) (length (L .script)) (L .rows) whole bytes-whole tokens-whole records-whole statements-whole (within-are (roomsIn M) whole f)) in
+                    record {
                   entries = ns;
                   there = t;
                   clear = clear;
@@ -417,8 +421,9 @@ module _ (l : Lists) (M : Memory) (h : Held) (k : ℕ) (n : List ℕ) where
                   ordered = O .order;
                   records-sum = O .recordSum;
                   tokens-sum = O .tokenSum;
+                  latest-is = O .latestIs;
                   whole = refl;
-                  held-then = λ i. record { bytes = bytes-whole i; statements = statements-whole i; records = records-whole i; tokens = tokens-whole i };
+                  held-then = λ i. record { bytes = bytes-whole i; statements = statements-whole i; records = records-whole i; tokens = tokens-whole i; latest = latestThen (made-is i) };
                   fits = f;
-                  is = fits-there e ∙ rw (over-no (roomsIn M) (length (L .script)) (L .rows) whole bytes-whole tokens-whole records-whole statements-whole (within-are (roomsIn M) whole f));
+                  is = made-is;
                 }

@@ -14,7 +14,7 @@ use Rattle.tokens.specs.Names.{Lists}
 use Rattle.grammar.specs.Sizes.{recordWidth}
 use Rattle.grammar.specs.Trees.{size, records}
 use Rattle.grammar.specs.Script.{Entry, Outcome, accepted, refused, nodes, readScript, movedEntry, tokensOf, noZero}
-use Rattle.grammar.specs.Words.{wordsOf, Row, rowOf}
+use Rattle.grammar.specs.Words.{wordsOf, Row, rowOf, latestOf}
 use Rattle.grammar.proofs.WordLaws.{words-length as all-words, words-before, records-length}
 use Rattle.amending.specs.Amend.{endsWell, replaced, between, amendedList}
 use Rattle.amending.specs.Amending.{State, Rooms, Pick, onto, pick, over, fitting, done, refusal, put, amendAt, amend, Good}
@@ -92,7 +92,8 @@ module _ (l : Lists) (R : Rooms) where
   good-inOrder st G =
       λ i. ascending-true 0 (length (st .script)) (st .entries) (good-order l R st G) i
       && (eq-eqb (length (wordsOf (st .entries))) (recordWidth * sumRecords (map rowOf (st .entries))) (words-length (st .entries)) i
-      && (eq-eqb (tokensOf (st .entries)) (sumTokens (map rowOf (st .entries))) (sym (sum-tokens (st .entries))) i && not ((over-rows R (st .script) (st .entries) ∙ G .room) i)))
+      && (eq-eqb (tokensOf (st .entries)) (sumTokens (map rowOf (st .entries))) (sym (sum-tokens (st .entries))) i
+      && (eq-eqb (latestOf (map rowOf (st .entries))) (latestOf (map rowOf (st .entries))) refl i && not ((over-rows R (st .script) (st .entries) ∙ G .room) i))))
 
   -- ---- the words of an amended state
 
@@ -100,7 +101,7 @@ module _ (l : Lists) (R : Rooms) where
       → swapped (lentOf st) (rowPick p) n ns ≡ lentOf (record { script = replaced (st .script) (p .one) n; entries = amendedList (p .before) (p .one) (p .behind) (length n) ns })
   unfolding swapped
   swapped-is st p at n ns =
-      λ i. record { script = replaced (st .script) (p .one) n; rows = sym (rows-amended p (length n) ns) i; words = w i; tokens = t i }
+      λ i. record { script = replaced (st .script) (p .one) n; rows = sym (rows-amended p (length n) ns) i; words = w i; tokens = t i; latest = latestOf (sym (rows-amended p (length n) ns) i) }
     where
       old : wordsOf (st .entries) ≡ wordsOf (p .before) ++ (records (p .one .tree) ++ wordsOf (p .behind))
       old = ap wordsOf at ∙ words-before (p .before) (p .one) (p .behind)

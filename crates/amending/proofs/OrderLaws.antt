@@ -2,13 +2,13 @@
 use mathlib.Core.Path.{_≡_, refl, sym, ap, _∙_}
 use mathlib.Core.Bool.{Bool, true, false, _&&_, false≢true}
 use mathlib.Core.List.{List, [], _∷_, _++_, map}
-use Prim.Native.Nat.{ℕ, _+_, _-_, _*_, _≤_, _<_}
+use Prim.Native.Nat.{ℕ, _+_, _-_, _*_, _≤_, _<_, max}
 use native.Mathlib.Omega.{arith}
 use lib.Dec.{leb, ltb, eqb}
 use lib.ListN.{length}
 use borrow.Author.Tests.{ltb-true, leb-true, eqb-true, lt-ltb, le-leb, eq-eqb}
 use Rattle.grammar.specs.Sizes.{entryWidth}
-use Rattle.grammar.specs.Words.{Row}
+use Rattle.grammar.specs.Words.{Row, latestOf}
 use Rattle.amending.specs.Amending.{Pick}
 use Rattle.amending.specs.Lent.{ascending, sumRecords, sumTokens}
 use Rattle.amending.specs.Entries.{rowsFrom, rowFits}
@@ -96,9 +96,9 @@ module _ (i m t : ℕ) (r : Row) where
 
 -- ---- one entry after the other
 
--- entries in order from the byte i to the byte j, with as many records and tokens as m and t say
-abbrev pub counted : ℕ → ℕ → ℕ → ℕ → List Row → Bool
-counted i j m t rs = ascending i j rs && (eqb m (sumRecords rs) && eqb t (sumTokens rs))
+-- entries in order from the byte i to the byte j, with as many records and tokens as m and t say; x is the latest date, theirs or y
+abbrev pub counted : ℕ → ℕ → ℕ → ℕ → ℕ → ℕ → List Row → Bool
+counted i j m t x y rs = ascending i j rs && (eqb m (sumRecords rs) && (eqb t (sumTokens rs) && eqb x (max y (latestOf rs))))
 
 -- a sum of which a is known
 eqb-less : (a s m : ℕ) → a ≤ m → eqb m (a + s) ≡ eqb (m - a) s
@@ -108,19 +108,20 @@ eqb-less a s m h =
     (λ b. let q : m - a ≡ s = eqb-true (m - a) s b in eq-eqb m (a + s) (omega arith))
 
 -- the first fits, and the rest are in order for what it leaves
-pub counted-turn : (i j m t : ℕ) (r : Row) (rs : List Row)
-    → counted i j m t (r ∷ rs) ≡ (rowFits i m t r && counted (r .end) j (m - r .records) (t - r .tokens) rs)
-unfolding ascending
-counted-turn i j m t r rs =
+pub counted-turn : (i j m t x y : ℕ) (r : Row) (rs : List Row)
+    → counted i j m t x y (r ∷ rs) ≡ (rowFits i m t r && counted (r .end) j (m - r .records) (t - r .tokens) x (max y (r .latest)) rs)
+unfolding ascending latestOf
+counted-turn i j m t x y r rs =
     cases (rowFits i m t r)
     (λ b.
     let f : Fits i m t r = fits-are i m t r b in
-    rw (b, le-leb _ _ (f .after), lt-ltb _ _ (f .filled), le-leb _ _ (f .hasRecord), le-leb _ _ (f .hasToken), eqb-less _ (sumRecords rs) m (f .recordsLeft), eqb-less _ (sumTokens rs) t (f .tokensLeft)))
+    let late : max y (max (r .latest) (latestOf rs)) ≡ max (max y (r .latest)) (latestOf rs) = omega arith in
+    rw (b, le-leb _ _ (f .after), lt-ltb _ _ (f .filled), le-leb _ _ (f .hasRecord), le-leb _ _ (f .hasToken), eqb-less _ (sumRecords rs) m (f .recordsLeft), eqb-less _ (sumTokens rs) t (f .tokensLeft), late))
     (λ b. rw b (no _ (λ o.
     let f : Ascends i j r rs = ascends i j r rs (left (ascending i j (r ∷ rs)) _ o) in
     let s = right (ascending i j (r ∷ rs)) _ o in
     let sm : m ≡ r .records + sumRecords rs = eqb-true m (r .records + sumRecords rs) (left _ _ s) in
-    let st : t ≡ r .tokens + sumTokens rs = eqb-true t (r .tokens + sumTokens rs) (right (eqb m (r .records + sumRecords rs)) _ s) in
+    let st : t ≡ r .tokens + sumTokens rs = eqb-true t (r .tokens + sumTokens rs) (left _ _ (right (eqb m (r .records + sumRecords rs)) _ s)) in
     false≢true (sym b ∙ fits-yes i m t r (record {
       after = f .after;
       filled = f .filled;
@@ -131,30 +132,33 @@ counted-turn i j m t r rs =
     })))))
 
 -- no entry is left
-pub counted-none : (d : List ℕ) (i j m t k : ℕ) → k ≡ 0 → counted i j m t (rowsFrom k d) ≡ (leb i j && (eqb m 0 && eqb t 0))
-unfolding ascending
-counted-none d i j m t k h = rw (rows-none d k h)
+pub counted-none : (d : List ℕ) (i j m t x y k : ℕ) → k ≡ 0 → counted i j m t x y (rowsFrom k d) ≡ (leb i j && (eqb m 0 && (eqb t 0 && eqb x y)))
+unfolding ascending latestOf
+counted-none d i j m t x y k h = let own : max y 0 ≡ y = omega arith in rw (rows-none d k h, own)
 
 -- ---- what the test of a directory tells
 
-pub record Ordered (d : List ℕ) (statements bytes records tokens : ℕ) : Type 0 where
+pub record Ordered (d : List ℕ) (statements bytes records tokens latest : ℕ) : Type 0 where
   pub room : entryWidth * statements ≤ length d
   pub order : ascending 0 bytes (rowsFrom statements d) ≡ true
   pub recordSum : records ≡ sumRecords (rowsFrom statements d)
   pub tokenSum : tokens ≡ sumTokens (rowsFrom statements d)
+  pub latestIs : latest ≡ latestOf (rowsFrom statements d)
 
-pub ordered : (d : List ℕ) (statements bytes records tokens : ℕ)
-    → (leb (entryWidth * statements) (length d) && counted 0 bytes records tokens (rowsFrom statements d)) ≡ true
-    → Ordered d statements bytes records tokens
-ordered d statements bytes records tokens b =
+pub ordered : (d : List ℕ) (statements bytes records tokens latest : ℕ)
+    → (leb (entryWidth * statements) (length d) && counted 0 bytes records tokens latest 0 (rowsFrom statements d)) ≡ true
+    → Ordered d statements bytes records tokens latest
+ordered d statements bytes records tokens latest b =
     let rs : List Row = rowsFrom statements d in
     let b₁ = right (leb (entryWidth * statements) (length d)) _ b in
     let b₂ = right (ascending 0 bytes rs) _ b₁ in
+    let b₃ = right (eqb records (sumRecords rs)) _ b₂ in
     record {
       room = leb-true (entryWidth * statements) (length d) (left _ _ b);
       order = left _ _ b₁;
       recordSum = eqb-true records (sumRecords rs) (left _ _ b₂);
-      tokenSum = eqb-true tokens (sumTokens rs) (right (eqb records (sumRecords rs)) _ b₂);
+      tokenSum = eqb-true tokens (sumTokens rs) (left _ _ b₃);
+      latestIs = eqb-true latest (latestOf rs) (right (eqb tokens (sumTokens rs)) _ b₃);
     }
 
 -- a sum over rows, of their records or of their tokens

@@ -8,11 +8,13 @@ use lib.Dec.{ltb}
 use lib.ListN.{length, take, drop, getD, length-drop, length-map}
 use lib.Seq.{length-take-le}
 use borrow.Author.Tests.{le-ltb}
+use Rattle.tokens.specs.Text.{if_then_else_, script}
 use Rattle.tokens.specs.Names.{Lists}
 use Rattle.grammar.specs.Sizes.{recordWidth, entryWidth, mostRecords, mostStatements}
-use Rattle.grammar.specs.Script.{Entry, accepted, reading, nodes}
-use Rattle.grammar.specs.Words.{wordsOf, Row, rowOf, rowsWords, directoryOf}
-use Rattle.reading.specs.Reading.{leftBy, readInto, Leaves}
+use Rattle.grammar.specs.Script.{Entry, Outcome, accepted, reading, nodes}
+use Rattle.grammar.specs.Words.{wordsOf, Row, rowOf, rowsWords, directoryOf, latestOf}
+use Rattle.reading.specs.Judging.{judgedOf, lastEnd}
+use Rattle.reading.specs.Reading.{answerOf, latestBy, leftBy, readInto, Leaves}
 use Rattle.reading.specs.declared.judging.Counts.{Counts}
 use Rattle.reading.specs.declared.reading.Answer.{Answer}
 use Rattle.grammar.proofs.WordLaws.{words-length, directory-length}
@@ -21,8 +23,8 @@ use Rattle.amending.specs.Amending.{Pick}
 use Rattle.amending.specs.Lent.{Lent, unchanged, ascending, sumRecords, swapped}
 use Rattle.amending.specs.Moves.{resized, spliced, leave}
 use Rattle.amending.specs.Entries.{rowsFrom, pickAt, shifted}
-use Rattle.amending.specs.Memory.{Memory, memory, roomsIn, usedIn, amendIn, leftIn, answered, acceptedWith, refusedAt, Amends}
-use Rattle.amending.specs.Grounds.{wordsAt, totals, Fits, Ready, answerBy, MeetsVerdict}
+use Rattle.amending.specs.Memory.{Memory, memory, roomsIn, usedIn, amendIn, leftIn, answered, dated, acceptedWith, refusedAt, Amends}
+use Rattle.amending.specs.Grounds.{wordsAt, totals, latestThen, Fits, Ready, Left, MeetsVerdict}
 use Rattle.amending.specs.declared.held.Held.{Held}
 use Rattle.amending.specs.declared.grounds.Row.{Row as Line}
 use Rattle.amending.specs.declared.grounds.Verdict.{Verdict}
@@ -100,12 +102,16 @@ module _ (l : Lists) (M : Memory) (h : Held) (k : ℕ) (n : List ℕ) {c : Count
 
   -- the words of the new text, which fill the room
   pub read-words : {r : Answer} {o e o′ e′ : List ℕ} → length o ≡ recordWidth * c .records → length e ≡ entryWidth * c .statements → Leaves l n o e r o′ e′
-      → (o′ ≡ wordsOf ns) × (e′ ≡ rowsWords (map rowOf ns))
+      → (o′ ≡ wordsOf ns) × (e′ ≡ rowsWords (map rowOf ns)) × (r .latest ≡ latestOf (map rowOf ns))
   read-words {o = o} {e = e} x y R =
       let A : readInto l n o e ≡ accepted ns = reads-in o e x y in
       let lo : length (wordsOf ns) ≡ length o = omega (arith, words-length ns, F .records-are, x) in
       let le : length (directoryOf ns) ≡ length e = omega (arith, directory-length ns, F .statements-are, y) in
-      (R .records ∙ ap (leftBy wordsOf o) A ∙ over-full (wordsOf ns) o lo, R .directory ∙ ap (leftBy directoryOf e) A ∙ over-full (directoryOf ns) e le)
+      (
+        R .records ∙ ap (leftBy wordsOf o) A ∙ over-full (wordsOf ns) o lo,
+        R .directory ∙ ap (leftBy directoryOf e) A ∙ over-full (directoryOf ns) e le,
+        ap (λ (a : Answer). a .latest) (R .answer ∙ ap (λ (x : Outcome). answerOf n (latestBy x) (judgedOf (length (script n)) (lastEnd (script n)) x)) A),
+      )
 
   -- ---- the three slices
 
@@ -183,13 +189,11 @@ module _ (l : Lists) (M : Memory) (h : Held) (k : ℕ) (n : List ℕ) where
   pub verdict-fits : {v : Verdict} (c : Counts) (w : Held) → v ≡ verdict.Fits c w → MeetsVerdict l M h k n v → Fits l M h k n c w
   verdict-fits c w e m = rw e at m
 
-  -- the answer of the call is the one that the verdict stands for
-  pub verdict-answers : (v : Verdict) → MeetsVerdict l M h k n v → answered h n (amendIn l M h k n) ≡ answerBy h n v
-  verdict-answers (verdict.Fits c w) m = ap (answered h n) (m .is) ∙ sym (ap acceptedWith (m .held-then))
-  verdict-answers (verdict.Refused f b) m = ap (answered h n) m
-
   pub refuses : {r : Answer} {f b : ℕ} → r ≡ refusedAt h n f b → amendIn l M h k n ≡ unchanged f b → Amends l M h k n r M
-  refuses {f = f} {b = b} e u = record { answer = e ∙ sym (verdict-answers (verdict.Refused f b) u); memory = sym (ap (leftIn M h) u) }
+  refuses e u = record { answer = e ∙ sym (ap (answered h n) u); memory = sym (ap (leftIn M h) u) }
 
-  pub makes : {r : Answer} {c : Counts} {w : Held} {M′ : Memory} → Fits l M h k n c w → r ≡ acceptedWith w → M′ ≡ leftIn M h (amendIn l M h k n) → Amends l M h k n r M′
-  makes {c = c} {w = w} F e m = record { answer = e ∙ sym (verdict-answers (verdict.Fits c w) F); memory = m }
+  pub makes : {r : Answer} {x : ℕ} {c : Counts} {w : Held} {M′ : Memory} → Fits l M h k n c w → r ≡ acceptedWith (dated x w) → Left h (amendIn l M h k n) M x M′ → Amends l M h k n r M′
+  makes {w = w} F e m = record {
+    answer = e ∙ ap (λ (x : ℕ). acceptedWith (dated x w)) (m .latest) ∙ ap acceptedWith (F .held-then) ∙ sym (ap (answered h n) (F .is));
+    memory = m .memory;
+  }

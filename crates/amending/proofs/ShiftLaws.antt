@@ -30,34 +30,35 @@ moved-yes old new w h k = rw (le-leb _ _ h, lt-ltb _ _ k)
 
 -- ---- one turn of the loop
 
--- the four words of an entry
-four : (s : List ℕ) (at : ℕ) → at + 4 ≤ length s
-    → drop at s ≡ getD s at 0 ∷ getD s (at + 1) 0 ∷ getD s (at + 2) 0 ∷ getD s (at + 3) 0 ∷ drop (at + 4) s
-four s at h =
+-- the five words of an entry
+five : (s : List ℕ) (at : ℕ) → at + 5 ≤ length s
+    → drop at s ≡ getD s at 0 ∷ getD s (at + 1) 0 ∷ getD s (at + 2) 0 ∷ getD s (at + 3) 0 ∷ getD s (at + 4) 0 ∷ drop (at + 5) s
+five s at h =
     let h₁ : suc at ≤ length s = omega arith in
     let h₂ : suc (suc at) ≤ length s = omega arith in
     let h₃ : suc (suc (suc at)) ≤ length s = omega arith in
     let h₄ : suc (suc (suc (suc at))) ≤ length s = omega arith in
-    simp towards-suc (rw (drop-cons s at 0 h₁, drop-cons s (suc at) 0 h₂, drop-cons s (suc (suc at)) 0 h₃, drop-cons s (suc (suc (suc at))) 0 h₄))
+    let h₅ : suc (suc (suc (suc (suc at)))) ≤ length s = omega arith in
+    simp towards-suc (rw (drop-cons s at 0 h₁, drop-cons s (suc at) 0 h₂, drop-cons s (suc (suc at)) 0 h₃, drop-cons s (suc (suc (suc at))) 0 h₄, drop-cons s (suc (suc (suc (suc at)))) 0 h₅))
 
 -- two stores, one after the other
 put-two : (p rest : List ℕ) (a b x y : ℕ) → set (set (p ++ a ∷ b ∷ rest) (length p) x) (length p + 1) y ≡ p ++ x ∷ y ∷ rest
 put-two [] rest a b x y = refl
 put-two (q ∷ p) rest a b x y = rw suc-add (ap (λ (l : List ℕ). q ∷ l) (put-two p rest a b x y))
 
-shift-at : (p rest : List ℕ) (a b r t old new n : ℕ)
-    → let s : List ℕ = p ++ (movedPlace old new a ∷ movedPlace old new b ∷ r ∷ t ∷ rest) in
-    take (length p + 4) s ++ movedWords old new n (drop (length p + 4) s) ≡ p ++ movedWords old new (suc n) (a ∷ b ∷ r ∷ t ∷ rest)
+shift-at : (p rest : List ℕ) (a b r t x old new n : ℕ)
+    → let s : List ℕ = p ++ (movedPlace old new a ∷ movedPlace old new b ∷ r ∷ t ∷ x ∷ rest) in
+    take (length p + 5) s ++ movedWords old new n (drop (length p + 5) s) ≡ p ++ movedWords old new (suc n) (a ∷ b ∷ r ∷ t ∷ x ∷ rest)
 unfolding movedWords
-shift-at p rest a b r t old new n =
-    let ys : List ℕ = movedPlace old new a ∷ movedPlace old new b ∷ r ∷ t ∷ rest in
-    rw (take-append-add p ys 4, drop-append-add p ys 4) (append-assoc p (take 4 ys) (movedWords old new n rest))
+shift-at p rest a b r t x old new n =
+    let ys : List ℕ = movedPlace old new a ∷ movedPlace old new b ∷ r ∷ t ∷ x ∷ rest in
+    rw (take-append-add p ys 5, drop-append-add p ys 5) (append-assoc p (take 5 ys) (movedWords old new n rest))
 
 -- what is still to be moved, moved in what is there, comes to the same before and after
-pub shift-turn : (s : List ℕ) (at n old new x y : ℕ) → 0 < n → at + 4 ≤ length s → x ≡ movedPlace old new (getD s at 0) → y ≡ movedPlace old new (getD (set s at x) (at + 1) 0)
-    → let s′ : List ℕ = set (set s at x) (at + 1) y in
-    take at s ++ movedWords old new n (drop at s) ≡ take (at + 4) s′ ++ movedWords old new (n - 1) (drop (at + 4) s′)
-shift-turn s at n old new x y some room ex ey =
+pub shift-turn : (s : List ℕ) (at n old new u v : ℕ) → 0 < n → at + 5 ≤ length s → u ≡ movedPlace old new (getD s at 0) → v ≡ movedPlace old new (getD (set s at u) (at + 1) 0)
+    → let s′ : List ℕ = set (set s at u) (at + 1) v in
+    take at s ++ movedWords old new n (drop at s) ≡ take (at + 5) s′ ++ movedWords old new (n - 1) (drop (at + 5) s′)
+shift-turn s at n old new u v some room eu ev =
     let p : List ℕ = take at s in
     let lp : length p ≡ at = length-take-le at s (omega arith) in
     let k : n ≡ suc (n - 1) = omega arith in
@@ -65,21 +66,22 @@ shift-turn s at n old new x y some room ex ey =
     let b : ℕ = getD s (at + 1) 0 in
     let r : ℕ = getD s (at + 2) 0 in
     let t : ℕ = getD s (at + 3) 0 in
-    let rest : List ℕ = drop (at + 4) s in
-    let f : drop at s ≡ a ∷ b ∷ r ∷ t ∷ rest = four s at room in
-    let split : s ≡ p ++ a ∷ b ∷ r ∷ t ∷ rest = sym (take-append-drop at s) ∙ ap (λ (l : List ℕ). p ++ l) f in
-    let eb : getD (set s at x) (at + 1) 0 ≡ b = getD-set-other s at (at + 1) x 0 (λ e. omega arith) in
-    let stored : set (set s at x) (at + 1) y ≡ p ++ (movedPlace old new a ∷ movedPlace old new b ∷ r ∷ t ∷ rest) =
-    ap (λ (l : List ℕ). set (set l at x) (at + 1) y) split
-    ∙ ap (λ (i : ℕ). set (set (p ++ a ∷ b ∷ r ∷ t ∷ rest) i x) (i + 1) y) (sym lp)
-    ∙ put-two p (r ∷ t ∷ rest) a b x y
-    ∙ ap (λ (v : ℕ). p ++ v ∷ y ∷ r ∷ t ∷ rest) ex
-    ∙ ap (λ (v : ℕ). p ++ movedPlace old new a ∷ v ∷ r ∷ t ∷ rest) (ey ∙ ap (movedPlace old new) eb) in
+    let x : ℕ = getD s (at + 4) 0 in
+    let rest : List ℕ = drop (at + 5) s in
+    let f : drop at s ≡ a ∷ b ∷ r ∷ t ∷ x ∷ rest = five s at room in
+    let split : s ≡ p ++ a ∷ b ∷ r ∷ t ∷ x ∷ rest = sym (take-append-drop at s) ∙ ap (λ (l : List ℕ). p ++ l) f in
+    let eb : getD (set s at u) (at + 1) 0 ≡ b = getD-set-other s at (at + 1) u 0 (λ e. omega arith) in
+    let stored : set (set s at u) (at + 1) v ≡ p ++ (movedPlace old new a ∷ movedPlace old new b ∷ r ∷ t ∷ x ∷ rest) =
+    ap (λ (l : List ℕ). set (set l at u) (at + 1) v) split
+    ∙ ap (λ (i : ℕ). set (set (p ++ a ∷ b ∷ r ∷ t ∷ x ∷ rest) i u) (i + 1) v) (sym lp)
+    ∙ put-two p (r ∷ t ∷ x ∷ rest) a b u v
+    ∙ ap (λ (w : ℕ). p ++ w ∷ v ∷ r ∷ t ∷ x ∷ rest) eu
+    ∙ ap (λ (w : ℕ). p ++ movedPlace old new a ∷ w ∷ r ∷ t ∷ x ∷ rest) (ev ∙ ap (movedPlace old new) eb) in
     ap (λ (l : List ℕ). p ++ movedWords old new n l) f
-    ∙ ap (λ (m : ℕ). p ++ movedWords old new m (a ∷ b ∷ r ∷ t ∷ rest)) k
-    ∙ sym (shift-at p rest a b r t old new (n - 1))
-    ∙ ap (λ (i : ℕ). take (i + 4) (p ++ (movedPlace old new a ∷ movedPlace old new b ∷ r ∷ t ∷ rest)) ++ movedWords old new (n - 1) (drop (i + 4) (p ++ (movedPlace old new a ∷ movedPlace old new b ∷ r ∷ t ∷ rest)))) lp
-    ∙ sym (ap (λ (l : List ℕ). take (at + 4) l ++ movedWords old new (n - 1) (drop (at + 4) l)) stored)
+    ∙ ap (λ (m : ℕ). p ++ movedWords old new m (a ∷ b ∷ r ∷ t ∷ x ∷ rest)) k
+    ∙ sym (shift-at p rest a b r t x old new (n - 1))
+    ∙ ap (λ (i : ℕ). take (i + 5) (p ++ (movedPlace old new a ∷ movedPlace old new b ∷ r ∷ t ∷ x ∷ rest)) ++ movedWords old new (n - 1) (drop (i + 5) (p ++ (movedPlace old new a ∷ movedPlace old new b ∷ r ∷ t ∷ x ∷ rest)))) lp
+    ∙ sym (ap (λ (l : List ℕ). take (at + 5) l ++ movedWords old new (n - 1) (drop (at + 5) l)) stored)
 
 pub shift-none : (s : List ℕ) (old new n at : ℕ) → n ≡ 0 → take at s ++ movedWords old new n (drop at s) ≡ s
 unfolding movedWords
@@ -91,7 +93,7 @@ module _ (old new : ℕ) where
   moved-rows : (rs : List Row) (t : List ℕ) → movedWords old new (length rs) (rowsWords rs ++ t) ≡ rowsWords (map (shiftedRow old new) rs) ++ t
   unfolding movedWords
   moved-rows [] t = refl
-  moved-rows (r ∷ rs) t = ap (λ (l : List ℕ). movedPlace old new (r .start) ∷ movedPlace old new (r .end) ∷ r .records ∷ r .tokens ∷ l) (moved-rows rs t)
+  moved-rows (r ∷ rs) t = ap (λ (l : List ℕ). movedPlace old new (r .start) ∷ movedPlace old new (r .end) ∷ r .records ∷ r .tokens ∷ r .latest ∷ l) (moved-rows rs t)
 
   -- the words of the rows xs and ys, of which those of ys are moved
   pub shifted-words : (xs ys : List Row) (t : List ℕ) (from to : ℕ) → length xs ≡ from → from + length ys ≡ to
@@ -108,7 +110,7 @@ module _ (old new : ℕ) where
 
 -- a row with both places by g
 abbrev placed : (ℕ → ℕ) → Row → Row
-placed g r = record { start = g (r .start); end = g (r .end); records = r .records; tokens = r .tokens }
+placed g r = record { start = g (r .start); end = g (r .end); records = r .records; tokens = r .tokens; latest = r .latest }
 
 -- entries in order between the bytes i and j, none before `old`, and none past the words
 plainly : (old new i j : ℕ) (g : ℕ → ℕ) → ((w : ℕ) → old ≤ w → w - old + new ≡ g w) → old ≤ i → j - old + new < 2 ^ 32
@@ -120,7 +122,7 @@ plainly old new i j g same h k (r ∷ rs) b =
     let s : movedPlace old new (r .start) ≡ g (r .start) = moved-yes old new (r .start) (omega arith) (omega arith) ∙ same (r .start) (omega arith) in
     let t : movedPlace old new (r .end) ≡ g (r .end) = moved-yes old new (r .end) (omega arith) (omega arith) ∙ same (r .end) (omega arith) in
     let z : map (shiftedRow old new) rs ≡ map (placed g) rs = plainly old new (r .end) j g same (omega arith) k rs (f .rest) in
-    λ x. record { start = s x; end = t x; records = r .records; tokens = r .tokens } ∷ z x
+    λ x. record { start = s x; end = t x; records = r .records; tokens = r .tokens; latest = r .latest } ∷ z x
 
 -- from the front: as far as `new`
 pub moved-plainly : (new j : ℕ) (rs : List Row) → ascending 0 j rs ≡ true → j + new < 2 ^ 32 → map (shiftedRow 0 new) rs ≡ map (movedRow new) rs

@@ -77,7 +77,7 @@ module _ {l : Lists} {M N : Memory} {h : Held} {st : State} (H : Holds l M h st)
           });
         };
         used =
-            (λ i. record { script = B .script i; rows = same-rows (h .statements) (N .directory) (M .directory) entries (entries-fit M h w) (B .directory) i; words = B .records i; tokens = h .tokens })
+            (λ i. record { script = B .script i; rows = same-rows (h .statements) (N .directory) (M .directory) entries (entries-fit M h w) (B .directory) i; words = B .records i; tokens = h .tokens; latest = h .latest })
             ∙ H .used;
         counts = counts;
       }

@@ -14,7 +14,7 @@ use Rattle.tokens.specs.Names.{Lists}
 use Rattle.grammar.specs.Sizes.{recordWidth, entryWidth, mostRecords, mostStatements}
 use Rattle.grammar.specs.Script.{Entry, Outcome, accepted, refused, fitting, readScript, reading, noZero, nodes, tokensOf}
 use Rattle.reading.specs.Reading.{over}
-use Rattle.grammar.specs.Words.{rowOf, wordsOf, rowsWords}
+use Rattle.grammar.specs.Words.{rowOf, wordsOf, rowsWords, latestOf}
 use Rattle.reading.specs.declared.reading.Answer.{Answer}
 use Rattle.grammar.proofs.WordLaws.{words-length as record-words, rows-length}
 use Rattle.reading.proofs.ReadLaws.{room-in}
@@ -135,7 +135,7 @@ module _ (M : Memory) (h : Held) (st : State) where
       (omega (arith, record-words (st .entries), sum-nodes (st .entries))) in
       let c : rowsFrom (length (map rowOf (st .entries))) (leave (rowsWords (map rowOf (st .entries))) (entryWidth * h .statements) (M .directory)) ≡ map rowOf (st .entries) =
       rows-of-words (map rowOf (st .entries)) _ in
-      λ i. record { script = a i; rows = c i; words = b i; tokens = tokensOf (st .entries) }
+      λ i. record { script = a i; rows = c i; words = b i; tokens = tokensOf (st .entries); latest = latestOf (map rowOf (st .entries)) }
 
   -- the slices are as long as they were, where there is room
   pub same-rooms : Within (roomsIn M) h → Within (roomsIn M) (heldBy L) → roomsIn (leftIn M h (handed L)) ≡ roomsIn M

@@ -10,11 +10,11 @@ use Rattle.tokens.specs.Text.{if_then_else_}
 use Rattle.tokens.specs.Names.{Lists}
 use Rattle.grammar.specs.Sizes.{recordWidth, entryWidth, mostRecords, mostStatements}
 use Rattle.grammar.specs.Script.{Entry, accepted, readScript, noZero, nodes}
+use Rattle.grammar.specs.Words.{latestOf}
 use Rattle.reading.specs.declared.judging.Counts.{Counts}
-use Rattle.reading.specs.declared.reading.Answer.{Answer}
 use Rattle.amending.specs.Amending.{Rooms}
-use Rattle.amending.specs.Lent.{handed, unchanged, ascending, sumRecords, sumTokens, swapped}
-use Rattle.amending.specs.Memory.{Memory, roomsIn, usedIn, within, amendIn, heldBy, dated, refusedAt}
+use Rattle.amending.specs.Lent.{Handed, handed, unchanged, ascending, sumRecords, sumTokens, swapped}
+use Rattle.amending.specs.Memory.{Memory, roomsIn, usedIn, within, amendIn, heldBy, dated, leftIn}
 use Rattle.amending.specs.Entries.{rowsFrom, pickAt}
 use Rattle.amending.specs.declared.held.Held.{Held}
 use Rattle.amending.specs.declared.grounds.Row.{Row}
@@ -33,7 +33,8 @@ endsAt n e c = endsWhole n e && endsShut n e c
 
 -- the entry at an index, as the code has it
 abbrev pub wordsAt : List ℕ → ℕ → Row
-wordsAt d i = record { start = getD d i 0; end = getD d (i + 1) 0; records = getD d (i + 2) 0; tokens = getD d (i + 3) 0 }
+wordsAt d i =
+    record { start = getD d i 0; end = getD d (i + 1) 0; records = getD d (i + 2) 0; tokens = getD d (i + 3) 0; latest = getD d (i + 4) 0 }
 
 -- an entry of what is used: it lies inside, and its records and tokens are among those that are counted
 pub record Stands (h : Held) (e : Row) : Type 0 where
@@ -74,6 +75,11 @@ fittingBy R h e n c =
     else if not (within R (totals h e c)) then verdict.Refused 16 (c .bytes)
     else verdict.Fits c (totals h e c)
 
+-- the latest date of what a call hands back
+abbrev pub latestThen : Handed → ℕ
+latestThen (handed L) = L .latest
+latestThen (unchanged f p) = 0
+
 -- an amendment that is made: w is used then, with the latest date of the entries
 pub record Fits (l : Lists) (M : Memory) (h : Held) (k : ℕ) (n : List ℕ) (c : Counts) (w : Held) : Type 0 where
   pub entries : List Entry
@@ -87,8 +93,9 @@ pub record Fits (l : Lists) (M : Memory) (h : Held) (k : ℕ) (n : List ℕ) (c 
   pub ordered : ascending 0 (h .bytes) (rowsFrom (h .statements) (M .directory)) ≡ true
   pub records-sum : h .records ≡ sumRecords (rowsFrom (h .statements) (M .directory))
   pub tokens-sum : h .tokens ≡ sumTokens (rowsFrom (h .statements) (M .directory))
+  pub latest-is : h .latest ≡ latestOf (rowsFrom (h .statements) (M .directory))
   pub whole : w ≡ totals h (wordsAt (M .directory) (entryWidth * k)) c
-  pub held-then : dated (swapped (usedIn M h) (pickAt k (h .statements) (M .directory)) n entries .latest) w ≡ heldBy (swapped (usedIn M h) (pickAt k (h .statements) (M .directory)) n entries)
+  pub held-then : dated (latestThen (amendIn l M h k n)) w ≡ heldBy (swapped (usedIn M h) (pickAt k (h .statements) (M .directory)) n entries)
   pub fits : within (roomsIn M) w ≡ true
   pub is : amendIn l M h k n ≡ handed (swapped (usedIn M h) (pickAt k (h .statements) (M .directory)) n entries)
 
@@ -106,6 +113,11 @@ pub record Ready (s o d : List ℕ) (h : Held) (k : ℕ) (n : List ℕ) (c : Cou
   pub script-room : getD d (entryWidth * k) 0 + length n + (h .bytes - getD d (entryWidth * k + 1) 0) ≤ length s
   pub record-room : recordWidth * (sumRecords (rowsFrom k d) + c .records + (h .records - (sumRecords (rowsFrom k d) + getD d (entryWidth * k + 2) 0))) ≤ length o
   pub entry-room : entryWidth * (k + c .statements + (h .statements - (k + 1))) ≤ length d
+
+-- an amendment x that was made: its latest date r, and the memory M′ that it left of M
+pub record Left (h : Held) (x : Handed) (M : Memory) (r : ℕ) (M′ : Memory) : Type 0 where
+  pub latest : r ≡ latestThen x
+  pub memory : M′ ≡ leftIn M h x
 
 -- what each case says of the call
 abbrev pub MeetsVerdict : Lists → Memory → Held → ℕ → List ℕ → Verdict → Type 0

@@ -5,7 +5,7 @@ use crate::grounds::verdict_on;
 use crate::held::Held;
 use crate::moves::replace_bytes;
 use crate::moves::resize_words;
-use crate::orders::latest_entry;
+use crate::orders::latest_then;
 use crate::orders::records_before;
 use crate::shifts::shift_entries;
 use reading::judging::Counts;
@@ -16,8 +16,8 @@ use reading::rooms::ENTRY_WIDTH;
 use reading::rooms::RECORD_WIDTH;
 ghost use mathlib.Core.Path.{_≡_};
 ghost use Rattle.reading.specs.Judging.{listsIn};
-ghost use Rattle.amending.specs.Memory.{memory, amendIn, leftIn, dated, acceptedWith, refusedAt, Amends};
-ghost use Rattle.amending.specs.Grounds.{Ready, Fits};
+ghost use Rattle.amending.specs.Memory.{memory, amendIn, dated, acceptedWith, refusedAt, Amends};
+ghost use Rattle.amending.specs.Grounds.{Ready, Fits, Left};
 
 // Replaces the text of a statement: 20, 17, 19, then the new text read alone (1 to 15), 18, 16 over the totals; or the whole
 // is as if it had been read anew.
@@ -47,7 +47,7 @@ pub fn amend(
     ) {
         Verdict::Refused(k, b) => unchanged(held, text, k, b),
         Verdict::Fits(c, whole) => {
-            replace(
+            let latest = replace(
                 script,
                 held,
                 statement,
@@ -59,13 +59,13 @@ pub fn amend(
                 directory,
                 c,
             );
-            let statements = whole.statements;
-            acceptance(whole, latest_entry(directory, statements))
+            acceptance(whole, latest)
         }
     }
 }
 
-// Makes the room, and reads the new text into it. What stands behind is moved, and its places with it.
+// Makes the room, and reads the new text into it. What stands behind is moved, and its places with it. Returns the latest date
+// of the whole.
 fn replace(
     script: &mut [u8],
     held: Held,
@@ -77,14 +77,15 @@ fn replace(
     records: &mut [u32],
     directory: &mut [u32],
     c: Counts,
-)
+) -> usize
     requires { ⌜ Ready (now script) (now records) (now directory) held statement (now text) c × ((w : Held) × Fits (listsIn (now reserved) (now currencies) (now counters)) (memory (now script) (now records) (now directory)) held statement (now text) c w) ⌝ }
-    ensures { λ _. ⌜ memory (now (script .exit)) (now (records .exit)) (now (directory .exit)) ≡ leftIn (memory (now (script .entry)) (now (records .entry)) (now (directory .entry))) held (amendIn (listsIn (now (reserved .entry)) (now (currencies .entry)) (now (counters .entry))) (memory (now (script .entry)) (now (records .entry)) (now (directory .entry))) held statement (now (text .entry))) ⌝ }
+    ensures { λ r. ⌜ Left held (amendIn (listsIn (now (reserved .entry)) (now (currencies .entry)) (now (counters .entry))) (memory (now (script .entry)) (now (records .entry)) (now (directory .entry))) held statement (now (text .entry))) (memory (now (script .entry)) (now (records .entry)) (now (directory .entry))) r (memory (now (script .exit)) (now (records .exit)) (now (directory .exit))) ⌝ }
 {
     let at = ENTRY_WIDTH * statement;
     let row = row_at(directory, at);
     let from = RECORD_WIDTH * records_before(directory, statement);
     let later = statement + c.statements;
+    let statements = held.statements - 1 + c.statements;
     replace_bytes(script, held.bytes, row.start, row.end, text);
     resize_words(
         records,
@@ -102,7 +103,7 @@ fn replace(
     );
     let records_end = from + RECORD_WIDTH * c.records;
     let entries_end = at + ENTRY_WIDTH * c.statements;
-    read(
+    let own = read(
         text,
         reserved,
         currencies,
@@ -116,10 +117,11 @@ fn replace(
     shift_entries(
         directory,
         later,
-        held.statements - 1 + c.statements,
+        statements,
         end,
         start + text.len() as u32,
     );
+    latest_then(directory, statements, held.latest, row.latest, own.latest)
 }
 
 fn acceptance(whole: Held, latest: usize) -> Answer

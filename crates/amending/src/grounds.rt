@@ -1,7 +1,6 @@
 // On what grounds an amendment is refused: 20, 17, 19, then the new text read alone (1 to 15), 18, 16 over the totals.
 use crate::held::Held;
 use crate::orders::in_order;
-use crate::orders::latest_entry;
 use crate::orders::wide;
 use reading::judging::Counts;
 use reading::judging::Judged;
@@ -13,8 +12,9 @@ use reading::rooms::byte_room;
 use reading::rooms::record_room;
 use reading::rooms::statement_room;
 ghost use mathlib.Core.Path.{_≡_};
-ghost use Prim.Native.Nat.{_+_, _*_, _≤_};
+ghost use Prim.Native.Nat.{_+_, _≤_};
 ghost use lib.ListN.{length};
+ghost use Rattle.grammar.specs.Sizes.{entryWidth};
 ghost use Rattle.reading.specs.Judging.{listsIn};
 ghost use Rattle.amending.specs.Memory.{memory, roomsOf, within};
 ghost use Rattle.amending.specs.Grounds.{endsWhole, endsShut, Ends, wordsAt, Stands, Few, alone, totals, fittingBy, MeetsVerdict};
@@ -24,12 +24,13 @@ const SEMICOLON: u8 = 59;
 
 const BRACE: u8 = 125;
 
-// The words of a directory entry that say where its text lies, and how many records and tokens it has.
+// The words of a directory entry.
 pub struct Row {
     pub start: usize,
     pub end: usize,
     pub records: usize,
     pub tokens: usize,
+    pub latest: usize,
 }
 
 // What the new text holds, and what is used with it in place, but for the latest date, which its entries tell once they are
@@ -61,10 +62,8 @@ pub fn verdict_on(
         held.bytes,
         held.records,
         held.tokens,
+        held.latest,
     ) {
-        return Verdict::Refused(20, 0);
-    }
-    if latest_entry(directory, held.statements) != held.latest {
         return Verdict::Refused(20, 0);
     }
     if held.statements <= statement {
@@ -186,7 +185,7 @@ fn is_shut(text: &[u8], last: usize, tokens: usize) -> bool
 
 // The entry whose words stand at an index.
 pub fn row_at(directory: &[u32], i: usize) -> Row
-    requires { ⌜ i + 4 ≤ length (now directory) ⌝ }
+    requires { ⌜ i + entryWidth ≤ length (now directory) ⌝ }
     ensures { λ r. ⌜ r ≡ wordsAt (now (directory .entry)) i ⌝ }
 {
     Row {
@@ -194,6 +193,7 @@ pub fn row_at(directory: &[u32], i: usize) -> Row
         end: wide(directory[i + 1]),
         records: wide(directory[i + 2]),
         tokens: wide(directory[i + 3]),
+        latest: wide(directory[i + 4]),
     }
 }
 

@@ -3,8 +3,9 @@ use reading::rooms::ENTRY_WIDTH;
 ghost use mathlib.Core.Path.{_≡_};
 ghost use mathlib.Core.Bool.{_&&_};
 ghost use Prim.Native.Nat.{_*_, _^_, _≤_, _<_, max};
-ghost use lib.Dec.{leb, eqb};
+ghost use lib.Dec.{leb, ltb, eqb};
 ghost use lib.ListN.{length};
+ghost use Rattle.tokens.specs.Text.{if_then_else_};
 ghost use Rattle.grammar.specs.Sizes.{entryWidth};
 ghost use Rattle.grammar.specs.Words.{latestOf};
 ghost use Rattle.amending.specs.Lent.{ascending, sumRecords, sumTokens};
@@ -49,9 +50,16 @@ fn row_fits(
     true
 }
 
-// Whether the last entry ends inside the script, and no records and tokens are left.
-fn nothing_left(after: usize, bytes: usize, records: usize, tokens: usize) -> bool
-    ensures { λ ok. ⌜ ok ≡ (leb after bytes && (eqb records 0 && eqb tokens 0)) ⌝ }
+// Whether the last entry ends inside the script, no records and tokens are left, and the latest date is the one that was seen.
+fn all_told(
+    after: usize,
+    bytes: usize,
+    records: usize,
+    tokens: usize,
+    latest: usize,
+    seen: usize,
+) -> bool
+    ensures { λ ok. ⌜ ok ≡ (leb after bytes && (eqb records 0 && (eqb tokens 0 && eqb latest seen))) ⌝ }
 {
     if bytes < after {
         return false;
@@ -59,10 +67,13 @@ fn nothing_left(after: usize, bytes: usize, records: usize, tokens: usize) -> bo
     if records != 0 {
         return false;
     }
-    tokens == 0
+    if tokens != 0 {
+        return false;
+    }
+    latest == seen
 }
 
-// Whether the directory has so many entries, in order, for a script of so many bytes, records and tokens.
+// Whether the directory has so many entries, in order, for a script of so many bytes, records and tokens, with this latest date.
 // What an entry counts is taken from what is left, so that no sum can wrap.
 pub fn in_order(
     directory: &[u32],
@@ -70,11 +81,13 @@ pub fn in_order(
     bytes: usize,
     records: usize,
     tokens: usize,
+    latest: usize,
 ) -> bool
     ensures { λ r. ⌜ r ≡ (leb (entryWidth * statements) (length (now (directory .entry)))
         && (ascending 0 bytes (rowsFrom statements (now (directory .entry)))
         && (eqb records (sumRecords (rowsFrom statements (now (directory .entry))))
-        && eqb tokens (sumTokens (rowsFrom statements (now (directory .entry))))))) ⌝ }
+        && (eqb tokens (sumTokens (rowsFrom statements (now (directory .entry))))
+        && eqb latest (latestOf (rowsFrom statements (now (directory .entry)))))))) ⌝ }
 {
     if directory.len() / ENTRY_WIDTH < statements {
         return false;
@@ -84,6 +97,7 @@ pub fn in_order(
     let mut after = 0;
     let mut records_left = records;
     let mut tokens_left = tokens;
+    let mut seen = 0;
     while 0 < left {
         let start = wide(directory[at]);
         let end = wide(directory[at + 1]);
@@ -95,32 +109,11 @@ pub fn in_order(
         after = end;
         records_left -= nodes;
         tokens_left -= count;
+        seen = later(seen, wide(directory[at + 4]));
         at += ENTRY_WIDTH;
         left -= 1;
     }
-    nothing_left(after, bytes, records_left, tokens_left)
-}
-
-// The latest date of the first `number` entries.
-pub fn latest_entry(directory: &[u32], number: usize) -> usize
-    requires { ⌜ entryWidth * number ≤ length (now directory) ⌝ }
-    ensures { λ r. ⌜ r ≡ latestOf (rowsFrom number (now (directory .entry))) ⌝ }
-{
-    let mut left = number;
-    let mut at = 0;
-    let mut latest = 0;
-    while 0 < left {
-        latest = later(latest, wide(directory[at + 4]));
-        at += ENTRY_WIDTH;
-        left -= 1;
-    }
-    latest
-}
-
-fn later(a: usize, b: usize) -> usize
-    ensures { λ r. ⌜ r ≡ max a b ⌝ }
-{
-    if a < b { b } else { a }
+    all_told(after, bytes, records_left, tokens_left, latest, seen)
 }
 
 // How many records the first `number` statements have.
@@ -137,4 +130,38 @@ pub fn records_before(directory: &[u32], number: usize) -> usize
         left -= 1;
     }
     sum
+}
+
+fn later(a: usize, b: usize) -> usize
+    ensures { λ r. ⌜ r ≡ max a b ⌝ }
+{
+    if a < b { b } else { a }
+}
+
+// The latest date of the first `number` entries.
+fn latest_entry(directory: &[u32], number: usize) -> usize
+    requires { ⌜ entryWidth * number ≤ length (now directory) ⌝ }
+    ensures { λ r. ⌜ r ≡ latestOf (rowsFrom number (now (directory .entry))) ⌝ }
+{
+    let mut left = number;
+    let mut at = 0;
+    let mut latest = 0;
+    while 0 < left {
+        latest = later(latest, wide(directory[at + 4]));
+        at += ENTRY_WIDTH;
+        left -= 1;
+    }
+    latest
+}
+
+// The latest date of a directory of `number` entries in which one of the date `gone` was replaced by others, whose latest is
+// `new`; it was `old`. Only where the entry that is gone had it, the others are asked.
+pub fn latest_then(directory: &[u32], number: usize, old: usize, gone: usize, new: usize) -> usize
+    requires { ⌜ entryWidth * number ≤ length (now directory) ⌝ }
+    ensures { λ r. ⌜ r ≡ (if ltb gone old then max old new else latestOf (rowsFrom number (now (directory .entry)))) ⌝ }
+{
+    if gone < old {
+        return later(old, new);
+    }
+    latest_entry(directory, number)
 }
