@@ -1,13 +1,13 @@
--- Laws of an amendment that is made: what the three slices hold after it.
-use mathlib.Core.Path.{_≡_, sym, ap, _∙_, subst}
-use mathlib.Core.Bool.{true, false}
+-- Laws of an amendment that is made: what the three slices hold after it, and their latest date.
+use mathlib.Core.Path.{_≡_, refl, sym, ap, _∙_, subst}
+use mathlib.Core.Bool.{Bool, true, false}
 use mathlib.Core.List.{List, _∷_, _++_, map}
-use Prim.Native.Nat.{ℕ, _+_, _-_, _*_, _/_}
+use Prim.Native.Nat.{ℕ, _+_, _-_, _*_, _/_, max}
 use native.Mathlib.Omega.{arith}
 use lib.Dec.{ltb}
 use lib.ListN.{length, take, drop, getD, length-drop, length-map}
 use lib.Seq.{length-take-le}
-use borrow.Author.Tests.{le-ltb}
+use borrow.Author.Tests.{le-ltb, ltb-true}
 use Rattle.tokens.specs.Text.{if_then_else_, script}
 use Rattle.tokens.specs.Names.{Lists}
 use Rattle.grammar.specs.Sizes.{recordWidth, entryWidth, mostRecords, mostStatements}
@@ -18,6 +18,7 @@ use Rattle.reading.specs.Reading.{answerOf, latestBy, leftBy, readInto, Leaves}
 use Rattle.reading.specs.declared.judging.Counts.{Counts}
 use Rattle.reading.specs.declared.reading.Answer.{Answer}
 use Rattle.grammar.proofs.WordLaws.{words-length, directory-length}
+use Rattle.grammar.proofs.LatestLaws.{latestOf-append}
 use Rattle.reading.proofs.ReadLaws.{room-in, room-most}
 use Rattle.amending.specs.Amending.{Pick}
 use Rattle.amending.specs.Lent.{Lent, unchanged, ascending, sumRecords, swapped}
@@ -30,9 +31,9 @@ use Rattle.amending.specs.declared.grounds.Row.{Row as Line}
 use Rattle.amending.specs.declared.grounds.Verdict.{Verdict}
 use Rattle.amending.specs.declared.grounds.Verdict.the-variants as verdict
 use Rattle.amending.proofs.MoveLaws.{gap-leaves}
-use Rattle.amending.proofs.EntryLaws.{rows-split, rows-count}
+use Rattle.amending.proofs.EntryLaws.{rows-of-words, rows-split, rows-count}
 use Rattle.amending.proofs.OrderLaws.{Stands, stands}
-use Rattle.amending.proofs.SwapLaws.{over-full, swapped-script}
+use Rattle.amending.proofs.SwapLaws.{over-full, swapped-script, swapped-count, swapped-latest}
 use Rattle.amending.proofs.DirectoryWords.{swapped-directory}
 use Rattle.amending.proofs.LentLaws.{ascending-true}
 use Rattle.amending.proofs.Directory.{read-order}
@@ -149,8 +150,34 @@ module _ (l : Lists) (M : Memory) (h : Held) (k : ℕ) (n : List ℕ) {c : Count
       (length-map ns rowOf ∙ sym (F .statements-are)) up (omega (arith, Y .bounded .0, Y .few .0)) (omega (arith, Y .entry-room, Y .there))
       d₁ g d₂ d₃ j made z is one two
 
+  -- ---- the latest date
+
+  -- where the entry that is gone had not the latest, it stays, or the new text has a later one; else the entries are asked
+  pub latest-left : {d₃ : List ℕ} {x old gone new m : ℕ} → d₃ ≡ leave (rowsWords (L .rows)) (entryWidth * h .statements) d
+      → x ≡ (if ltb gone old then max old new else latestOf (rowsFrom m d₃)) → old ≡ h .latest → gone ≡ p .one .latest → new ≡ latestOf (map rowOf ns) → m ≡ h .statements - 1 + c .statements
+      → x ≡ L .latest
+  unfolding swapped
+  latest-left {d₃} {x} {old} {gone} {new} {m} made is o g e count = is ∙ go (ltb gone old) refl
+    where
+      before : h .latest ≡ max (latestOf (p .before)) (max (p .one .latest) (latestOf (p .behind)))
+      unfolding latestOf
+      before = F .latest-is ∙ ap latestOf split ∙ latestOf-append (p .before) (p .one ∷ p .behind)
+
+      then : L .latest ≡ max (latestOf (p .before)) (max (latestOf (map rowOf ns)) (latestOf (p .behind)))
+      unfolding swapped
+      then = swapped-latest p (length n) (map rowOf ns)
+
+      entries : m ≡ length (L .rows)
+      unfolding swapped
+      entries =
+          omega (arith, count, F .there, swapped-count p (length n) (map rowOf ns), length-map ns rowOf, F .statements-are, rows-count k d, rows-count (h .statements - 1 - k) (drop (entryWidth * k + entryWidth) d))
+
+      go : (t : Bool) → ltb gone old ≡ t → (if t then max old new else latestOf (rowsFrom m d₃)) ≡ L .latest
+      go true q = omega (arith, ltb-true gone old q, before, then, o, g, e)
+      go false q = ap latestOf (ap (rowsFrom m) made ∙ ap (λ (i : ℕ). rowsFrom i (leave (rowsWords (L .rows)) (entryWidth * h .statements) d)) entries ∙ rows-of-words (L .rows) _)
+
   -- all three, as the code makes them: row is the entry, b the records before it, and i and j the words of the rooms that are read into
-  pub replaced : {row : Line} {b : ℕ} {s₁ o₁ d₁ g g′ d₂ d₃ : List ℕ} {r : Answer} {i j : ℕ} → row ≡ wordsAt d (entryWidth * k) → b ≡ sumRecords (rowsFrom k d)
+  pub replaced : {row : Line} {b : ℕ} {s₁ o₁ d₁ g g′ d₂ d₃ : List ℕ} {r : Answer} {i j x′ : ℕ} → row ≡ wordsAt d (entryWidth * k) → b ≡ sumRecords (rowsFrom k d)
       → s₁ ≡ spliced (M .script) (h .bytes) (row .start) (row .end) n
       → length o₁ ≡ length (M .records) → o₁ ≡ resized (M .records) (recordWidth * h .records) (recordWidth * b) (recordWidth * b + recordWidth * row .records) (recordWidth * c .records)
       → length d₁ ≡ length d → d₁ ≡ resized d (entryWidth * h .statements) (entryWidth * k) (entryWidth * k + entryWidth) (entryWidth * c .statements)
@@ -158,8 +185,9 @@ module _ (l : Lists) (M : Memory) (h : Held) (k : ℕ) (n : List ℕ) {c : Count
       → Leaves l n (take i (drop (recordWidth * b) o₁)) (take j (drop (entryWidth * k) d₁)) r g g′
       → d₂ ≡ shifted (take (entryWidth * k) d₁ ++ (g′ ++ drop j (drop (entryWidth * k) d₁))) k (k + c .statements) 0 (row .start)
       → d₃ ≡ shifted d₂ (k + c .statements) (h .statements - 1 + c .statements) (row .end) (row .start + length n)
-      → memory s₁ (take (recordWidth * b) o₁ ++ (g ++ drop i (drop (recordWidth * b) o₁))) d₃ ≡ leftIn M h (amendIn l M h k n)
-  replaced {row} {b} {s₁} {o₁} {d₁} {g} {g′} {d₂} {d₃} {r} {i} {j} e f x lo y ld z p′ q′ R u v =
+      → x′ ≡ (if ltb (row .latest) (h .latest) then max (h .latest) (r .latest) else latestOf (rowsFrom (h .statements - 1 + c .statements) d₃))
+      → Left h (amendIn l M h k n) M x′ (memory s₁ (take (recordWidth * b) o₁ ++ (g ++ drop i (drop (recordWidth * b) o₁))) d₃)
+  replaced {row} {b} {s₁} {o₁} {d₁} {g} {g′} {d₂} {d₃} {r} {i} {j} e f x lo y ld z p′ q′ R u v m =
       let Y : Ready (M .script) (M .records) d h k n c = ready in
       let start : row .start ≡ p .one .start = ap (λ (t : Line). t .start) e in
       let end : row .end ≡ p .one .end = ap (λ (t : Line). t .end) e in
@@ -174,7 +202,10 @@ module _ (l : Lists) (M : Memory) (h : Held) (k : ℕ) (n : List ℕ) {c : Count
       let u₁ : d₂ ≡ shifted (take (entryWidth * k) d₁ ++ (g′ ++ drop j (drop (entryWidth * k) d₁))) k (k + c .statements) 0 (p .one .start) = u ∙ rw start in
       let v₁ : d₃ ≡ shifted d₂ (k + c .statements) (h .statements - 1 + c .statements) (p .one .end) (p .one .start + length n) = v ∙ rw (start, end) in
       let z₁ = directory-left {d₁ = d₁} {g = g′} {d₂ = d₂} {d₃ = d₃} j z q′ (G .1) u₁ v₁ in
-      (λ t. memory (script-left x₁ t) (y₁ t) (z₁ t)) ∙ ap (leftIn M h) (sym (F .is))
+      record {
+        latest = latest-left z₁ m refl (ap (λ (t : Line). t .latest) e) (G .2) refl ∙ ap latestThen (sym (F .is));
+        memory = (λ t. memory (script-left x₁ t) (y₁ t) (z₁ t)) ∙ ap (leftIn M h) (sym (F .is));
+      }
 
 -- ---- the call
 

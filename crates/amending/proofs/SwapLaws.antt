@@ -1,11 +1,12 @@
--- The bytes, and the counts, that one statement's replacement leaves.
-use mathlib.Core.Path.{_≡_, refl, sym, ap, _∙_}
+-- The bytes, the counts and the latest date that one statement's replacement leaves.
+use mathlib.Core.Path.{_≡_, refl, sym, ap, ap₂, _∙_}
 use mathlib.Core.List.{List, [], _∷_, _++_, append-assoc, append-nil, map}
-use Prim.Native.Nat.{ℕ, _+_, _-_, _≤_}
+use Prim.Native.Nat.{ℕ, _+_, _-_, _≤_, max}
 use native.Mathlib.Omega.{arith}
 use lib.ListN.{length, take, drop}
 use lib.Seq.{drop-length}
-use Rattle.grammar.specs.Words.{Row}
+use Rattle.grammar.specs.Words.{Row, latestOf}
+use Rattle.grammar.proofs.LatestLaws.{latestOf-append, latestOf-map}
 use Rattle.reading.specs.Reading.{over}
 use Rattle.amending.specs.Amending.{Pick}
 use Rattle.amending.specs.Lent.{sumRecords, sumTokens, movedRow, betweenRow, swappedRows}
@@ -50,3 +51,11 @@ module _ (p : Pick Row) (n : ℕ) (ns : List Row) where
 
   pub swapped-count : length (swappedRows p n ns) ≡ length (p .before) + (length ns + length (p .behind))
   swapped-count = swapped-sum length (λ r. 1) refl (λ r rs. omega arith) (λ d r. refl) (λ a b r. refl)
+
+  pub swapped-latest : latestOf (swappedRows p n ns) ≡ max (latestOf (p .before)) (max (latestOf ns) (latestOf (p .behind)))
+  swapped-latest =
+      let moved : List Row = map (movedRow (p .one .start)) ns in
+      let behind : List Row = map (betweenRow n (p .one .end - p .one .start)) (p .behind) in
+      latestOf-append (p .before) (moved ++ behind)
+      ∙ ap (max (latestOf (p .before))) (latestOf-append moved behind
+      ∙ ap₂ max (latestOf-map (movedRow (p .one .start)) (λ r. refl) ns) (latestOf-map (betweenRow n (p .one .end - p .one .start)) (λ r. refl) (p .behind)))

@@ -38,7 +38,7 @@ of : ℕ → Memory
 of b = memory (b ∷ 59 ∷ []) (1 ∷ 1 ∷ 0 ∷ 0 ∷ 1 ∷ 0 ∷ 0 ∷ []) (0 ∷ 2 ∷ 1 ∷ 2 ∷ [])
 
 one : Held
-one = record { bytes = 2; statements = 1; records = 1; tokens = 2 }
+one = record { bytes = 2; statements = 1; records = 1; tokens = 2; latest = 0 }
 
 module _ (f : Call) (m : Amending f) where
   -- `a;` is amended to `b;`
@@ -96,13 +96,13 @@ keeps-texts f m l M h st k n H z = kept-texts l H (m l M h k n) z
 -- memory that a reading of `a;true;` leaves
 both : Memory
 unfolding computing
-both = memory (bytes "a;true;") (1 ∷ 1 ∷ 0 ∷ 0 ∷ 1 ∷ 0 ∷ 0 ∷ 3 ∷ 1 ∷ 0 ∷ 0 ∷ 0 ∷ 0 ∷ 0 ∷ []) (0 ∷ 2 ∷ 1 ∷ 2 ∷ 2 ∷ 7 ∷ 1 ∷ 2 ∷ [])
+both = memory (bytes "a;true;") (1 ∷ 1 ∷ 0 ∷ 0 ∷ 1 ∷ 0 ∷ 0 ∷ 3 ∷ 1 ∷ 0 ∷ 0 ∷ 0 ∷ 0 ∷ 0 ∷ []) (0 ∷ 2 ∷ 1 ∷ 2 ∷ 0 ∷ 2 ∷ 7 ∷ 1 ∷ 2 ∷ 0 ∷ [])
 
 two : Held
-two = record { bytes = 7; statements = 2; records = 2; tokens = 4 }
+two = record { bytes = 7; statements = 2; records = 2; tokens = 4; latest = 0 }
 
 both-answer : Answer
-both-answer = record { number = 0; byte = 0; line = 1; column = 1; bytes = 7; statements = 2; records = 2; tokens = 4 }
+both-answer = record { number = 0; byte = 0; line = 1; column = 1; bytes = 7; statements = 2; records = 2; tokens = 4; latest = 0 }
 
 both-read : Leaves usd (bytes "a;true;") (both .records) (both .directory) both-answer (both .records) (both .directory)
 unfolding computing usd both both-answer

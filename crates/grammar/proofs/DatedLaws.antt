@@ -1,7 +1,7 @@
 -- Whatever is read has true dates: each is the count of a day that a text writes, so that none is past the last.
 -- Each form that readers are made of has its law, so that a reader's law follows the reader's own text.
 use mathlib.Core.Path.{_≡_, refl, sym, ap, subst, _∙_}
-use mathlib.Core.Logic.{_⊎_, inl, inr, ⊎-elim}
+use mathlib.Core.Logic.{inl, inr, ⊎-elim}
 use mathlib.Core.Bool.{Bool, true, false, _||_, not}
 use mathlib.Core.List.{List, [], _∷_, map, List·Memᴰ, List·Memᴰ·head, List·Memᴰ·tail}
 use mathlib.Core.Option.{Option, none, some}
@@ -26,7 +26,7 @@ use Rattle.grammar.specs.Grammar.{deeper, optional, grouped, sum, compar
 use Rattle.grammar.specs.Script.{Entry, Outcome, accepted, refused as wrong, front, back, entryOf, onward, turn, upTo, from as fromByte, statements, words, ofTokens, readScript}
 use Rattle.grammar.specs.Words.{rowOf, latestOf}
 use Rattle.grammar.proofs.Refusals.{Each, nothing, just, by-order}
-use Rattle.grammar.proofs.LatestLaws.{latest-had}
+use Rattle.grammar.proofs.LatestLaws.{NoneOr, latest-had}
 
 -- ---- trees whose dates are counts
 
@@ -92,6 +92,7 @@ mutual
 
 -- ---- readers that give what passes a test
 
+-- what is read passes it; a refusal does
 abbrev Passing : {A : Type 0} → (A → Type 0) → Out A → Type 0
 Passing P (ok a r) = P a
 Passing P (refused f p) = Unit {0}
@@ -428,11 +429,14 @@ read-sound l bs = by-order Sound l bs tt tt λ h. ofTokens-sound l (length (scri
 
 -- ---- what is read has true dates
 
--- a true day's count
-counted-day : {x : ℕ} → Counted x → (x ≡ 0) ⊎ ((s : List ℕ) × (isDate s ≡ true) × (x ≡ date s))
+-- the count of a true day, as a text writes it
+abbrev pub TrueDay : ℕ → Type 0
+TrueDay x = (s : List ℕ) × (isDate s ≡ true) × (x ≡ date s)
+
+counted-day : {x : ℕ} → Counted x → NoneOr TrueDay x
 counted-day (counted s) = go (isDate s) refl
   where
-    go : (b : Bool) → isDate s ≡ b → (date s ≡ 0) ⊎ ((r : List ℕ) × (isDate r ≡ true) × (date s ≡ date r))
+    go : (b : Bool) → isDate s ≡ b → NoneOr TrueDay (date s)
     go true e = inr (s, e, refl)
     go false e = inl (eqb-true (date s) 0 (date-none s ∙ ap not e))
 
@@ -452,10 +456,10 @@ latest-most [] h = omega arith
 latest-most (e ∷ es) h = omega (arith, tree-most (e .tree) (h .0), latest-most es (h .1))
 
 module _ (l : Lists) (bs : List ℕ) {es : List Entry} (e : readScript l bs ≡ accepted es) where
-  -- each date of a statement is 0, where none is written, or the count of a true day that a text writes
-  pub read-dates : (t : Entry) → List·Memᴰ t es → (x : ℕ) → Has x (t .tree) → (x ≡ 0) ⊎ ((s : List ℕ) × (isDate s ≡ true) × (x ≡ date s))
+  -- each date of a statement is 0, where none is written, or the count of a true day
+  pub read-dates : (t : Entry) → List·Memᴰ t es → (x : ℕ) → Has x (t .tree) → NoneOr TrueDay x
   read-dates t m x h = counted-day (has-counted h (entry-dated m (subst Sound e (read-sound l bs))))
 
-  -- so that no script's latest date is past the last day
+  -- so the script's latest date is not past the last day
   pub read-latest : latestOf (map rowOf es) ≤ lastCount
   read-latest = latest-most es (subst Sound e (read-sound l bs))

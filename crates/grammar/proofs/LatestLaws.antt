@@ -1,4 +1,4 @@
--- The latest date: over records' words put together, over the entries of a directory.
+-- The latest date: over records' words put together, over the nodes of a tree, over the entries of a directory.
 use mathlib.Core.Path.{_≡_, refl, sym, ap, ap₂, subst, _∙_}
 use mathlib.Core.Bool.{Bool, true, false, _||_}
 use mathlib.Core.Logic.{_⊎_, inl, inr, ⊎-map}
@@ -21,7 +21,7 @@ use Rattle.grammar.proofs.WordLaws.{records-length, all-length}
 
 -- ---- over words put together
 
--- n records, then m more
+-- n records, and m more behind them
 pub latest-split : (n m : ℕ) (ws : List ℕ) → latestIn (n + m) ws ≡ max (latestIn n ws) (latestIn m (drop (recordWidth * n) ws))
 unfolding latestIn
 latest-split zero m ws = rw zero-add (omega arith)
@@ -66,26 +66,26 @@ latest-turn ws i m h =
     let word : (j : ℕ) → getD (drop (recordWidth * i) ws) j 0 ≡ getD ws (recordWidth * i + j) 0 = λ j. getD-drop (recordWidth * i) ws j 0 in
     rw one-less (cc (behind, word 0, word 3, word 5, word 6, add-zero (recordWidth * i)))
 
--- the later of those of both
+-- of words put together, the later of those of both
 pub latest-append : (n m : ℕ) (ws vs : List ℕ) → length ws ≡ recordWidth * n → latestIn (n + m) (ws ++ vs) ≡ max (latestIn n ws) (latestIn m vs)
 latest-append n m ws vs h =
     latest-split n m (ws ++ vs) ∙ ap₂ max (latest-first n ws vs (omega arith)) (ap (latestIn m) (drop-at ws vs (recordWidth * n) h))
 
 -- ---- over trees: the greatest of their dates
 
--- a number is none, or passes a test
-abbrev pub Had : (ℕ → Type 0) → ℕ → Type 0
-Had P x = (x ≡ 0) ⊎ P x
+-- 0, which is none, or what passes a test
+abbrev pub NoneOr : (ℕ → Type 0) → ℕ → Type 0
+NoneOr P x = (x ≡ 0) ⊎ P x
 
--- then so does the greater of two
-had-max : (P : ℕ → Type 0) {x y : ℕ} → Had P x → Had P y → Had P (max x y)
-had-max P {x} {y} h g = go (decLe y x)
+-- of two such numbers the greater is one, too
+none-or-max : (P : ℕ → Type 0) {x y : ℕ} → NoneOr P x → NoneOr P y → NoneOr P (max x y)
+none-or-max P {x} {y} h g = go (decLe y x)
   where
-    go : Dec (y ≤ x) → Had P (max x y)
+    go : Dec (y ≤ x) → NoneOr P (max x y)
     go (yes l) = rw max-eq-left h
     go (no n) = let l : x ≤ y = omega arith in rw max-eq-right g
 
--- the date of a node's record
+-- the date of a node's record: no date of the node is later, and it is 0 or one of them
 abbrev dateIn : ℕ → Fields → ℕ
 dateIn k (fields a b c d) = dateOf k a c d
 
@@ -97,28 +97,29 @@ date-greatest from = omega arith
 date-greatest to = omega arith
 date-greatest pays = omega arith
 
-date-had : (k : ℕ) (f : Fields) → Had (Date k f) (dateIn k f)
+date-had : (k : ℕ) (f : Fields) → NoneOr (Date k f) (dateIn k f)
 date-had k (fields a b c d) = go (eqb k 32) (eqb k 33) (eqb k 34) (eqb k 36) (eqb k 35) refl refl refl refl refl
   where
     of-kind : {x : ℕ} (j : ℕ) → eqb k j ≡ true → Date j (fields a b c d) x → Date k (fields a b c d) x
     of-kind {x} j e h = subst (λ i. Date i (fields a b c d) x) (sym (eqb-true k j e)) h
 
     go : (s e f p r : Bool) → eqb k 32 ≡ s → eqb k 33 ≡ e → eqb k 34 ≡ f → eqb k 36 ≡ p → eqb k 35 ≡ r
-        → Had (Date k (fields a b c d)) (if s || e then c else if f || p then a else if r then max c d else 0)
+        → NoneOr (Date k (fields a b c d)) (if s || e then c else if f || p then a else if r then max c d else 0)
     go true e f p r hs he hf hp hr = inr (of-kind 32 hs spot)
     go false true f p r hs he hf hp hr = inr (of-kind 33 he equity)
     go false false true p r hs he hf hp hr = inr (of-kind 34 hf df)
     go false false false true r hs he hf hp hr = inr (of-kind 36 hp pays)
-    go false false false false true hs he hf hp hr = had-max (Date k (fields a b c d)) (inr (of-kind 35 hr from)) (inr (of-kind 35 hr to))
+    go false false false false true hs he hf hp hr = none-or-max (Date k (fields a b c d)) (inr (of-kind 35 hr from)) (inr (of-kind 35 hr to))
     go false false false false false hs he hf hp hr = inl refl
 
--- the records of a tree, and of several
+-- of the records of a tree, and of several
 abbrev inTree : Tree → ℕ
 inTree t = latestIn (size t) (records t)
 
 abbrev inTrees : Trees → ℕ
 inTrees ts = latestIn (sizes ts) (recordsOf ts)
 
+-- a node's record stands behind those of its parts, which stand one after the other
 row-latest : (k n m : ℕ) (f : Fields) → latestIn 1 (row k n m f) ≡ dateIn k f
 unfolding latestIn
 row-latest k n m (fields a b c d) = omega arith
@@ -149,17 +150,17 @@ mutual
   latest-greatest-of (t ▹ ts) x (other p) = omega (arith, more-latest t ts, latest-greatest-of ts x p)
 
 mutual
-  -- it is 0, or one of the tree's
+  -- it is 0, or a date of the tree
   pub latest-had : (t : Tree) → (latestIn (size t) (records t) ≡ 0) ⊎ Has (latestIn (size t) (records t)) t
   latest-had (node k s f ts) =
-      subst (Had (λ x. Has x (node k s f ts))) (sym (node-latest k s f ts))
-      (had-max (λ x. Has x (node k s f ts)) (⊎-map (λ z. z) below (latest-had-of ts)) (⊎-map (λ z. z) here (date-had k f)))
+      subst (NoneOr (λ x. Has x (node k s f ts))) (sym (node-latest k s f ts))
+      (none-or-max (λ x. Has x (node k s f ts)) (⊎-map (λ z. z) below (latest-had-of ts)) (⊎-map (λ z. z) here (date-had k f)))
 
-  latest-had-of : (ts : Trees) → Had (λ x. HasPart x ts) (inTrees ts)
+  latest-had-of : (ts : Trees) → NoneOr (λ x. HasPart x ts) (inTrees ts)
   latest-had-of nil = inl nil-latest
   latest-had-of (t ▹ ts) =
-      subst (Had (λ x. HasPart x (t ▹ ts))) (sym (more-latest t ts))
-      (had-max (λ x. HasPart x (t ▹ ts)) (⊎-map (λ z. z) this (latest-had t)) (⊎-map (λ z. z) other (latest-had-of ts)))
+      subst (NoneOr (λ x. HasPart x (t ▹ ts))) (sym (more-latest t ts))
+      (none-or-max (λ x. HasPart x (t ▹ ts)) (⊎-map (λ z. z) this (latest-had t)) (⊎-map (λ z. z) other (latest-had-of ts)))
 
 -- ---- over entries
 
@@ -169,18 +170,18 @@ unfolding latestOf
 latestOf-each r (s ∷ rs) (List·Memᴰ·head e) = omega (arith, ap (λ (x : Row). x .latest) e)
 latestOf-each r (s ∷ rs) (List·Memᴰ·tail m) = omega (arith, latestOf-each r rs m)
 
--- one of them has it
+-- one of the rows has it
 abbrev pub RowHas : List Row → ℕ → Type 0
 RowHas rs x = (r : Row) × List·Memᴰ r rs × (r .latest ≡ x)
 
 -- the script's is 0, or one of theirs
-pub latestOf-had : (rs : List Row) → Had (RowHas rs) (latestOf rs)
+pub latestOf-had : (rs : List Row) → NoneOr (RowHas rs) (latestOf rs)
 unfolding latestOf
 latestOf-had [] = inl refl
 latestOf-had (s ∷ rs) =
-    had-max (RowHas (s ∷ rs)) (inr (s, List·Memᴰ·head refl, refl)) (⊎-map (λ z. z) (λ h. (h .0, List·Memᴰ·tail (h .1), h .2)) (latestOf-had rs))
+    none-or-max (RowHas (s ∷ rs)) (inr (s, List·Memᴰ·head refl, refl)) (⊎-map (λ z. z) (λ h. (h .0, List·Memᴰ·tail (h .1), h .2)) (latestOf-had rs))
 
--- of rows put together it is the later of both
+-- of rows put together it is the later of those of both
 pub latestOf-append : (xs ys : List Row) → latestOf (xs ++ ys) ≡ max (latestOf xs) (latestOf ys)
 unfolding latestOf
 latestOf-append [] ys = omega arith
