@@ -2,92 +2,117 @@
 -- and it has changed nothing; every number of an answer is small.
 use mathlib.Core.Path.{_≡_, refl, ap, _∙_, subst}
 use mathlib.Core.Bool.{Bool, true, false, not}
-use mathlib.Core.List.{List}
+use mathlib.Core.List.{List, _∷_, map}
 use mathlib.Core.Option.{Option, none, some}
-use Prim.Native.Nat.{ℕ, suc, _≤_, min}
+use Prim.Native.Nat.{ℕ, suc, _*_, _≤_, min, max}
 use native.Mathlib.Omega.{arith}
-use lib.Dec.{T}
+use lib.Dec.{T, eqb}
 use lib.ListN.{length}
+use borrow.Author.Tests.{eqb-true}
+use Rattle.calendar.specs.Calendar.{lastCount}
 use Rattle.tokens.specs.Limits.{mostBytes, mostTokens}
 use Rattle.tokens.specs.Text.{if_then_else_}
 use Rattle.tokens.specs.Names.{Lists}
 use Rattle.tokens.proofs.PlaceLaws.{line-within, column-within}
-use Rattle.grammar.specs.Sizes.{mostRecords, mostStatements}
+use Rattle.grammar.specs.Sizes.{recordWidth, mostRecords, mostStatements}
 use Rattle.grammar.specs.Script.{Outcome, accepted, refused, readScript, noZero}
-use Rattle.grammar.specs.Words.{Row}
+use Rattle.grammar.specs.Words.{Row, rowOf, latestOf}
 use Rattle.grammar.proofs.AmendBytes.{read-accepted, script-all}
 use Rattle.grammar.proofs.Refusals.{Ground, read-refused, read-small}
+use Rattle.grammar.proofs.LatestLaws.{latestOf-append}
+use Rattle.grammar.proofs.DatedLaws.{read-latest}
 use Rattle.reading.specs.declared.reading.Answer.{Answer}
 use Rattle.amending.specs.Amend.{endsWell}
 use Rattle.amending.specs.Amending.{State, Rooms, Pick, pick, Answer as Result, done, refusal, amend}
-use Rattle.amending.specs.Lent.{Lent, Handed, handed, unchanged, overRows, inOrder, swapped, fittingLent, putLent, lentAt, amendLent, given}
+use Rattle.amending.specs.Lent.{Lent, Handed, handed, unchanged, sumRecords, sumTokens, ascending, overRows, inOrder, swapped, fittingLent, putLent, lentAt, amendLent, given}
 use Rattle.amending.specs.Memory.{Memory, roomsIn, usedIn, within, amendIn, heldBy, answered, leftIn, Amends}
 use Rattle.amending.specs.States.{heldOf, Holds}
 use Rattle.amending.specs.declared.held.Held.{Held}
+use Rattle.amending.proofs.Flags.{left, right}
+use Rattle.amending.proofs.AmendingLaws.{pick-is}
+use Rattle.amending.proofs.SwapLaws.{swapped-latest}
 use Rattle.amending.proofs.GroundLaws.{Within, over-are, bounded}
 use Rattle.amending.proofs.StateLaws.{call-is}
 
 -- ---- what a call comes to
 
--- accepted: what is used then is within the rooms; refused: one of 1 to 20, at a byte of the new text n that is one of a script
-abbrev Told : Rooms → List ℕ → Handed → Type 0
-Told R n (handed L) = Within R (heldBy L)
-Told R n (unchanged f p) = Ground 20 (min mostBytes (length n)) f p
+-- accepted: what is used then is within the rooms, and the latest date is no later than x, which was lent, or than the last; refused: one of 1 to 20, at a byte of the
+-- new text n that is one of a script
+abbrev Told : Rooms → ℕ → List ℕ → Handed → Type 0
+Told R x n (handed L) = Within R (heldBy L) × (L .latest ≤ max x lastCount)
+Told R x n (unchanged f p) = Ground 20 (min mostBytes (length n)) f p
 
 module _ (l : Lists) (n : List ℕ) (R : Rooms) where
   -- 17, 19 and 20 are at the text's first byte
-  at-first : (f : ℕ) → 1 ≤ f → f ≤ 20 → Told R n (unchanged f 0)
-  at-first f a b = record { least = a; most = b; inside = omega arith }
+  at-first : (x f : ℕ) → 1 ≤ f → f ≤ 20 → Told R x n (unchanged f 0)
+  at-first x f a b = record { least = a; most = b; inside = omega arith }
 
   module _ (L : Lent) where
-    put-told : (p : Pick Row) → T (noZero n) → (x : Outcome) → readScript l n ≡ x → Told R n (putLent l R L p n x)
+    put-told : (p : Pick Row) → (latestOf (p .before) ≤ L .latest) × (latestOf (p .behind) ≤ L .latest) → T (noZero n) → (x : Outcome) → readScript l n ≡ x → Told R (L .latest) n (putLent l R L p n x)
     unfolding putLent fittingLent swapped
-    put-told p z (refused f q) e =
+    put-told p k z (refused f q) e =
         let G = read-refused l n e in
         record { least = G .least; most = omega (arith, G .most); inside = omega (arith, G .inside, ap length (script-all n z), read-small l n e) }
-    put-told p z (accepted ns) e = go (endsWell n) (overRows R (length (S .script)) (S .rows)) refl
+    put-told p k z (accepted ns) e = go (endsWell n) (overRows R (length (S .script)) (S .rows)) refl
       where
         S : Lent
         S = swapped L p n ns
 
         -- 16 and 18 are at its end
-        at-end : (f : ℕ) → 1 ≤ f → f ≤ 20 → Told R n (unchanged f (length n))
+        at-end : (f : ℕ) → 1 ≤ f → f ≤ 20 → Told R (L .latest) n (unchanged f (length n))
         at-end f a b = record { least = a; most = b; inside = omega (arith, read-accepted l n ns z e .short) }
 
-        go : (s t : Bool) → overRows R (length (S .script)) (S .rows) ≡ t → Told R n (if not s then unchanged 18 (length n) else if t then unchanged 16 (length n) else handed S)
+        late : S .latest ≤ max (L .latest) lastCount
+        late = omega (arith, swapped-latest p (length n) (map rowOf ns), read-latest l n e, k .0, k .1)
+
+        go : (s t : Bool) → overRows R (length (S .script)) (S .rows) ≡ t → Told R (L .latest) n (if not s then unchanged 18 (length n) else if t then unchanged 16 (length n) else handed S)
         go false t o = at-end 18 (omega arith) (omega arith)
         go true true o = at-end 16 (omega arith) (omega arith)
-        go true false o = over-are R (length (S .script)) (S .rows) (heldBy S) refl refl refl refl o
+        go true false o = (over-are R (length (S .script)) (S .rows) (heldBy S) refl refl refl refl o, late)
 
-    lent-told : (k : ℕ) → Told R n (amendLent l R L k n)
-    unfolding amendLent lentAt
-    lent-told k = ordered (inOrder R L)
+    -- 20: the lent date is the greatest of the entries'
+    lent-latest : inOrder R L ≡ true → L .latest ≡ latestOf (L .rows)
+    unfolding inOrder
+    lent-latest o =
+        let a = right (ascending 0 (length (L .script)) (L .rows)) _ o in
+        let b = right (eqb (length (L .words)) (recordWidth * sumRecords (L .rows))) _ a in
+        eqb-true _ _ (left _ _ (right (eqb (L .tokens) (sumTokens (L .rows))) _ b))
+
+    lent-told : (k : ℕ) → Told R (L .latest) n (amendLent l R L k n)
+    unfolding amendLent lentAt latestOf
+    lent-told k = ordered (inOrder R L) refl
       where
-        clear : (p : Pick Row) (t : Bool) → noZero n ≡ t → Told R n (if not t then unchanged 19 0 else putLent l R L p n (readScript l n))
-        clear p false z = at-first 19 (omega arith) (omega arith)
-        clear p true z = put-told p (rw z tt) (readScript l n) refl
+        among : inOrder R L ≡ true → (p : Pick Row) → pick k (L .rows) ≡ some p → (latestOf (p .before) ≤ L .latest) × (latestOf (p .behind) ≤ L .latest)
+        among o p q =
+            let e : L .latest ≡ max (latestOf (p .before)) (max (p .one .latest) (latestOf (p .behind))) =
+            lent-latest o ∙ ap latestOf (pick-is k (L .rows) p q .0) ∙ latestOf-append (p .before) (p .one ∷ p .behind) in
+            (omega arith, omega arith)
 
-        there : (o : Option (Pick Row)) → Told R n (lentAt l R L n o)
-        there none = at-first 17 (omega arith) (omega arith)
-        there (some p) = clear p (noZero n) refl
+        clear : (p : Pick Row) → (latestOf (p .before) ≤ L .latest) × (latestOf (p .behind) ≤ L .latest) → (t : Bool) → noZero n ≡ t → Told R (L .latest) n (if not t then unchanged 19 0 else putLent l R L p n (readScript l n))
+        clear p m false z = at-first (L .latest) 19 (omega arith) (omega arith)
+        clear p m true z = put-told p m (rw z tt) (readScript l n) refl
 
-        ordered : (t : Bool) → Told R n (if not t then unchanged 20 0 else lentAt l R L n (pick k (L .rows)))
-        ordered false = at-first 20 (omega arith) (omega arith)
-        ordered true = there (pick k (L .rows))
+        there : inOrder R L ≡ true → (o : Option (Pick Row)) → pick k (L .rows) ≡ o → Told R (L .latest) n (lentAt l R L n o)
+        there w none q = at-first (L .latest) 17 (omega arith) (omega arith)
+        there w (some p) q = clear p (among w p q) (noZero n) refl
 
-call-told : (l : Lists) (M : Memory) (h : Held) (k : ℕ) (n : List ℕ) → Told (roomsIn M) n (amendIn l M h k n)
+        ordered : (t : Bool) → inOrder R L ≡ t → Told R (L .latest) n (if not t then unchanged 20 0 else lentAt l R L n (pick k (L .rows)))
+        ordered false w = at-first (L .latest) 20 (omega arith) (omega arith)
+        ordered true w = there w (pick k (L .rows)) refl
+
+call-told : (l : Lists) (M : Memory) (h : Held) (k : ℕ) (n : List ℕ) → Told (roomsIn M) (h .latest) n (amendIn l M h k n)
 unfolding amendIn
 call-told l M h k n = go (within (roomsIn M) h)
   where
-    go : (t : Bool) → Told (roomsIn M) n (if not t then unchanged 20 0 else amendLent l (roomsIn M) (usedIn M h) k n)
-    go false = at-first l n (roomsIn M) 20 (omega arith) (omega arith)
+    go : (t : Bool) → Told (roomsIn M) (h .latest) n (if not t then unchanged 20 0 else amendLent l (roomsIn M) (usedIn M h) k n)
+    go false = at-first l n (roomsIn M) (h .latest) 20 (omega arith) (omega arith)
     go true = lent-told l n (roomsIn M) (usedIn M h) k
 
 -- ---- what the answer tells
 
 module _ {l : Lists} {M M′ : Memory} {h : Held} {k : ℕ} {n : List ℕ} {r : Answer} (A : Amends l M h k n r M′) where
-  is : (x : Handed) → amendIn l M h k n ≡ x → (r ≡ answered h n x) × Told (roomsIn M) n x
-  is x e = (A .answer ∙ ap (answered h n) e, subst (Told (roomsIn M) n) e (call-told l M h k n))
+  is : (x : Handed) → amendIn l M h k n ≡ x → (r ≡ answered h n x) × Told (roomsIn M) (h .latest) n x
+  is x e = (A .answer ∙ ap (answered h n) e, subst (Told (roomsIn M) (h .latest) n) e (call-told l M h k n))
 
   -- the number 0 is acceptance, and nothing else
   pub accepted-is : r .number ≡ 0 → (L : Lent) × (amendIn l M h k n ≡ handed L)
@@ -138,17 +163,19 @@ module _ {l : Lists} {M M′ : Memory} {h : Held} {k : ℕ} {n : List ℕ} {r : 
             omega (arith, ap (λ (a : Answer). a .column) a, column-within n p),
           )
 
-  -- the counts of an acceptance are within the capacities
-  pub counts-small : r .number ≡ 0 → (r .bytes ≤ mostBytes) × (r .statements ≤ mostStatements) × (r .records ≤ mostRecords) × (r .tokens ≤ mostTokens)
+  -- the counts of an acceptance are within the capacities, and its latest date is no later than the one that was lent, or than the last
+  pub counts-small : r .number ≡ 0
+      → (r .bytes ≤ mostBytes) × (r .statements ≤ mostStatements) × (r .records ≤ mostRecords) × (r .tokens ≤ mostTokens) × (r .latest ≤ max (h .latest) lastCount)
   counts-small z =
       let L = accepted-is z in
       let T = is (handed (L .0)) (L .1) in
-      let b = bounded M (heldBy (L .0)) (T .1) in
+      let b = bounded M (heldBy (L .0)) (T .1 .0) in
       let c : heldOf r ≡ heldBy (L .0) = ap heldOf (T .0) in (
         omega (arith, b .0, ap (λ (x : Held). x .bytes) c),
         omega (arith, b .1, ap (λ (x : Held). x .statements) c),
         omega (arith, b .2, ap (λ (x : Held). x .records) c),
         omega (arith, b .3, ap (λ (x : Held). x .tokens) c),
+        omega (arith, T .1 .1, ap (λ (x : Held). x .latest) c),
       )
 
   -- a refusal changes no lent memory, every byte and word of it, and its counts are the old ones

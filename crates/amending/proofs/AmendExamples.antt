@@ -84,11 +84,11 @@ halves = (refl, refl, refl, refl, refl, refl, refl, refl, refl, refl)
 -- ---- lent words: 20 is weaker than to be left by a reading
 
 row : ℕ → ℕ → ℕ → ℕ → Row
-row s e r t = record { start = s; end = e; records = r; tokens = t }
+row s e r t = record { start = s; end = e; records = r; tokens = t; latest = 0 }
 
 -- the script `x;` and the words of a record, with any directory and count of tokens
 lent : List Row → List ℕ → ℕ → Lent
-lent rs ws t = record { script = bytes "x;"; rows = rs; words = ws; tokens = t }
+lent rs ws t = record { script = bytes "x;"; rows = rs; words = ws; tokens = t; latest = 0 }
 
 one : List ℕ
 one = 1 ∷ 1 ∷ 0 ∷ 0 ∷ 1 ∷ 0 ∷ 0 ∷ []
@@ -112,13 +112,42 @@ orders : (call (lent (row 0 2 1 2 ∷ []) one 2) ≡ (0, bytes "y;")) × (call (
 unfolding computing usd rooms row lent one handedOf call amendLent lentAt putLent fittingLent swapped inOrder ascending overRows pick endsWell
 orders = (refl, refl, refl, refl, refl, refl, refl, refl, refl, refl, refl, refl)
 
+-- ---- the latest date
+
+-- the same entries with dates, in the words of a script of that latest date; two statements
+dated : ℕ → ℕ → ℕ → Lent
+dated a b x = record {
+  script = bytes "x;";
+  rows = record { start = 0; end = 1; records = 1; tokens = 1; latest = a } ∷ record { start = 1; end = 2; records = 1; tokens = 1; latest = b } ∷ [];
+  words = one ++ one;
+  tokens = 2;
+  latest = x;
+}
+
+-- the number of a call on the first statement, and the latest date then
+latestOf : ℕ → Lent → String → ℕ × ℕ
+latestOf k L n = go (amendLent usd rooms L k (bytes n))
+  where
+    go : Handed → ℕ × ℕ
+    go (handed L′) = (0, L′ .latest)
+    go (unchanged f p) = (f, L .latest)
+
+-- 20 where the script's is not the greatest of the entries', without entries where it is not 0; else it is the greatest of those that are there then:
+-- the one that goes takes its own along, one that stays keeps it, and that of the new text is its own
+latest : (latestOf 0 (dated 5 3 5) "y;" ≡ (0, 3)) × (latestOf 1 (dated 5 3 5) "y;" ≡ (0, 5)) × (latestOf 0 (dated 5 5 5) "y;" ≡ (0, 5)) × (latestOf 0 (dated 0 0 0) "y;" ≡ (0, 0))
+    × (latestOf 0 (dated 5 3 5) "Df(\"0001-01-04\");" ≡ (0, 4)) × (latestOf 1 (dated 5 3 5) "Df(\"0001-01-04\");" ≡ (0, 5)) × (latestOf 0 (dated 5 3 5) "" ≡ (0, 3))
+    × (latestOf 0 (dated 5 3 4) "y;" ≡ (20, 4)) × (latestOf 0 (dated 5 3 6) "y;" ≡ (20, 6)) × (latestOf 0 (dated 3 5 3) "y;" ≡ (20, 3)) × (latestOf 7 (dated 5 3 0) "" ≡ (20, 0))
+    × (latestOf 0 (record { script = []; rows = []; words = []; tokens = 0; latest = 1 }) "y;" ≡ (20, 1))
+unfolding computing usd rooms one dated latestOf amendLent lentAt putLent fittingLent swapped inOrder ascending overRows pick endsWell
+latest = (refl, refl, refl, refl, refl, refl, refl, refl, refl, refl, refl, refl)
+
 -- ---- the place of a refusal
 
 -- number, byte, line and column of a call that puts a text in the place of `x;`
 placed : List ℕ → List ℕ
 placed n =
-    let h : Held = record { bytes = 2; statements = 1; records = 1; tokens = 2 } in
-    let a = answered h n (amendIn usd (memory (bytes "x;") one (0 ∷ 2 ∷ 1 ∷ 2 ∷ [])) h 0 n) in
+    let h : Held = record { bytes = 2; statements = 1; records = 1; tokens = 2; latest = 0 } in
+    let a = answered h n (amendIn usd (memory (bytes "x;") one (0 ∷ 2 ∷ 1 ∷ 2 ∷ 0 ∷ [])) h 0 n) in
     a .number ∷ a .byte ∷ a .line ∷ a .column ∷ []
 
 -- it is a place in the text, and columns count its characters: `"éè"$`; `#é`, a line feed, `"è"; `

@@ -16,7 +16,7 @@ use Rattle.tokens.specs.Tokens.{Lexed, counts, endOf}
 use Rattle.grammar.specs.Sizes.{recordWidth, entryWidth, mostRecords, mostStatements}
 use Rattle.grammar.specs.Grammar.{Words}
 use Rattle.grammar.specs.Script.{Entry, accepted, refused, readScript, noZero, tokensOf, words}
-use Rattle.grammar.specs.Words.{Row, rowOf}
+use Rattle.grammar.specs.Words.{Row, rowOf, latestOf}
 use Rattle.reading.specs.Meets.{listed}
 use Rattle.reading.specs.Judging.{lastEnd as textEnd}
 use Rattle.reading.specs.declared.judging.Counts.{Counts}
@@ -35,7 +35,7 @@ use Rattle.amending.specs.declared.grounds.Row.{Row as Line}
 use Rattle.amending.specs.declared.grounds.Verdict.the-variants as verdict
 use Rattle.amending.proofs.Flags.{no, yes, left, right, cases, same}
 use Rattle.amending.proofs.EntryLaws.{pick-here, pick-past, rows-split, rows-count}
-use Rattle.amending.proofs.OrderLaws.{counted, Ordered, ordered, Stands as Inside, stands as inside, records-joined, tokens-joined}
+use Rattle.amending.proofs.OrderLaws.{told, Ordered, ordered, Stands as Inside, stands as inside, records-joined, tokens-joined}
 use Rattle.amending.proofs.SwapLaws.{swapped-records, swapped-tokens, swapped-count}
 use Rattle.amending.proofs.LentLaws.{sum-nodes, sum-tokens}
 use Rattle.amending.proofs.Directory.{InOrder, text-order}
@@ -127,11 +127,11 @@ module _ (M : Memory) (h : Held) (w : Within (roomsIn M) h) where
   )
 
   -- 20: the code's test is the definition's
-  pub order-is : inOrder (roomsIn M) (usedIn M h) ≡ (leb (entryWidth * h .statements) (length (M .directory)) && counted 0 (h .bytes) (h .records) (h .tokens) (h .latest) 0 rows)
+  pub order-is : inOrder (roomsIn M) (usedIn M h) ≡ (leb (entryWidth * h .statements) (length (M .directory)) && told (h .bytes) (h .records) (h .tokens) (h .latest) rows)
   unfolding inOrder
   order-is = same _ _ to from
     where
-      to : inOrder (roomsIn M) (usedIn M h) ≡ true → (leb (entryWidth * h .statements) (length (M .directory)) && counted 0 (h .bytes) (h .records) (h .tokens) (h .latest) 0 rows) ≡ true
+      to : inOrder (roomsIn M) (usedIn M h) ≡ true → (leb (entryWidth * h .statements) (length (M .directory)) && told (h .bytes) (h .records) (h .tokens) (h .latest) rows) ≡ true
       to b =
           let b₁ = right (ascending 0 (length (take (h .bytes) (M .script))) rows) _ b in
           let b₂ = right (eqb (length (take (recordWidth * h .records) (M .records))) (recordWidth * sumRecords rows)) _ b₁ in
@@ -139,9 +139,11 @@ module _ (M : Memory) (h : Held) (w : Within (roomsIn M) h) where
           let e : length (take (recordWidth * h .records) (M .records)) ≡ recordWidth * sumRecords rows = eqb-true _ _ (left _ _ b₁) in
           let r : h .records ≡ sumRecords rows = omega (arith, words-used, e) in
           let b₃ = right (eqb (h .tokens) (sumTokens rows)) _ b₂ in
-          yes (le-leb _ _ entries-fit) (yes a (yes (eq-eqb _ _ r) (yes (left _ _ b₂) (left _ _ b₃))))
+          let t : eqb (h .tokens) (sumTokens rows) ≡ true = left _ _ b₂ in
+          let x : eqb (h .latest) (latestOf rows) ≡ true = left _ _ b₃ in
+          yes (le-leb _ _ entries-fit) (yes a (yes (eq-eqb _ _ r) (yes t x)))
 
-      from : (leb (entryWidth * h .statements) (length (M .directory)) && counted 0 (h .bytes) (h .records) (h .tokens) (h .latest) 0 rows) ≡ true → inOrder (roomsIn M) (usedIn M h) ≡ true
+      from : (leb (entryWidth * h .statements) (length (M .directory)) && told (h .bytes) (h .records) (h .tokens) (h .latest) rows) ≡ true → inOrder (roomsIn M) (usedIn M h) ≡ true
       from b =
           let O : Ordered (M .directory) (h .statements) (h .bytes) (h .records) (h .tokens) (h .latest) = ordered (M .directory) (h .statements) (h .bytes) (h .records) (h .tokens) (h .latest) b in
           let e : length (take (recordWidth * h .records) (M .records)) ≡ recordWidth * sumRecords rows = omega (arith, words-used, O .recordSum) in
@@ -261,11 +263,11 @@ module _ (l : Lists) (M : Memory) (h : Held) (k : ℕ) (n : List ℕ) where
     unfolding amendIn
     asked = rw (within-yes (roomsIn M) h w)
 
-    pub not-ordered : (leb (entryWidth * h .statements) (length d) && counted 0 (h .bytes) (h .records) (h .tokens) (h .latest) 0 (rowsFrom (h .statements) d)) ≡ false → amendIn l M h k n ≡ unchanged 20 0
+    pub not-ordered : (leb (entryWidth * h .statements) (length d) && told (h .bytes) (h .records) (h .tokens) (h .latest) (rowsFrom (h .statements) d)) ≡ false → amendIn l M h k n ≡ unchanged 20 0
     unfolding amendLent
     not-ordered f = asked ∙ rw (order-is M h w ∙ f)
 
-    module _ (o : (leb (entryWidth * h .statements) (length d) && counted 0 (h .bytes) (h .records) (h .tokens) (h .latest) 0 (rowsFrom (h .statements) d)) ≡ true) where
+    module _ (o : (leb (entryWidth * h .statements) (length d) && told (h .bytes) (h .records) (h .tokens) (h .latest) (rowsFrom (h .statements) d)) ≡ true) where
       at : amendIn l M h k n ≡ lentAt l (roomsIn M) (usedIn M h) n (pick k (rowsFrom (h .statements) d))
       unfolding amendLent
       at = asked ∙ rw (order-is M h w ∙ o)

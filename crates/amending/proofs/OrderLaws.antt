@@ -100,6 +100,13 @@ module _ (i m t : ℕ) (r : Row) where
 abbrev pub counted : ℕ → ℕ → ℕ → ℕ → ℕ → ℕ → List Row → Bool
 counted i j m t x y rs = ascending i j rs && (eqb m (sumRecords rs) && (eqb t (sumTokens rs) && eqb x (max y (latestOf rs))))
 
+-- all entries of a script of j bytes, with the counts m and t and the latest date x
+abbrev pub told : ℕ → ℕ → ℕ → ℕ → List Row → Bool
+told j m t x rs = ascending 0 j rs && (eqb m (sumRecords rs) && (eqb t (sumTokens rs) && eqb x (latestOf rs)))
+
+pub counted-first : (j m t x : ℕ) (rs : List Row) → told j m t x rs ≡ counted 0 j m t x 0 rs
+counted-first j m t x rs = let own : max 0 (latestOf rs) ≡ latestOf rs = omega arith in rw own
+
 -- a sum of which a is known
 eqb-less : (a s m : ℕ) → a ≤ m → eqb m (a + s) ≡ eqb (m - a) s
 eqb-less a s m h =
@@ -146,7 +153,7 @@ pub record Ordered (d : List ℕ) (statements bytes records tokens latest : ℕ)
   pub latestIs : latest ≡ latestOf (rowsFrom statements d)
 
 pub ordered : (d : List ℕ) (statements bytes records tokens latest : ℕ)
-    → (leb (entryWidth * statements) (length d) && counted 0 bytes records tokens latest 0 (rowsFrom statements d)) ≡ true
+    → (leb (entryWidth * statements) (length d) && told bytes records tokens latest (rowsFrom statements d)) ≡ true
     → Ordered d statements bytes records tokens latest
 ordered d statements bytes records tokens latest b =
     let rs : List Row = rowsFrom statements d in

@@ -156,24 +156,21 @@ module _ (l : Lists) (M : Memory) (h : Held) (k : ℕ) (n : List ℕ) {c : Count
   pub latest-left : {d₃ : List ℕ} {x old gone new m : ℕ} → d₃ ≡ leave (rowsWords (L .rows)) (entryWidth * h .statements) d
       → x ≡ (if ltb gone old then max old new else latestOf (rowsFrom m d₃)) → old ≡ h .latest → gone ≡ p .one .latest → new ≡ latestOf (map rowOf ns) → m ≡ h .statements - 1 + c .statements
       → x ≡ L .latest
-  unfolding swapped
+  unfolding swapped latestOf
   latest-left {d₃} {x} {old} {gone} {new} {m} made is o g e count = is ∙ go (ltb gone old) refl
     where
       before : h .latest ≡ max (latestOf (p .before)) (max (p .one .latest) (latestOf (p .behind)))
-      unfolding latestOf
       before = F .latest-is ∙ ap latestOf split ∙ latestOf-append (p .before) (p .one ∷ p .behind)
 
-      then : L .latest ≡ max (latestOf (p .before)) (max (latestOf (map rowOf ns)) (latestOf (p .behind)))
-      unfolding swapped
-      then = swapped-latest p (length n) (map rowOf ns)
+      after : L .latest ≡ max (latestOf (p .before)) (max (latestOf (map rowOf ns)) (latestOf (p .behind)))
+      after = swapped-latest p (length n) (map rowOf ns)
 
       entries : m ≡ length (L .rows)
-      unfolding swapped
       entries =
           omega (arith, count, F .there, swapped-count p (length n) (map rowOf ns), length-map ns rowOf, F .statements-are, rows-count k d, rows-count (h .statements - 1 - k) (drop (entryWidth * k + entryWidth) d))
 
       go : (t : Bool) → ltb gone old ≡ t → (if t then max old new else latestOf (rowsFrom m d₃)) ≡ L .latest
-      go true q = omega (arith, ltb-true gone old q, before, then, o, g, e)
+      go true q = omega (arith, ltb-true gone old q, before, after, o, g, e)
       go false q = ap latestOf (ap (rowsFrom m) made ∙ ap (λ (i : ℕ). rowsFrom i (leave (rowsWords (L .rows)) (entryWidth * h .statements) d)) entries ∙ rows-of-words (L .rows) _)
 
   -- all three, as the code makes them: row is the entry, b the records before it, and i and j the words of the rooms that are read into

@@ -35,7 +35,7 @@ unfolding computing
 usd = record { reserved = []; currencies = bytes "USD\n"; counters = [] }
 
 of : ℕ → Memory
-of b = memory (b ∷ 59 ∷ []) (1 ∷ 1 ∷ 0 ∷ 0 ∷ 1 ∷ 0 ∷ 0 ∷ []) (0 ∷ 2 ∷ 1 ∷ 2 ∷ [])
+of b = memory (b ∷ 59 ∷ []) (1 ∷ 1 ∷ 0 ∷ 0 ∷ 1 ∷ 0 ∷ 0 ∷ []) (0 ∷ 2 ∷ 1 ∷ 2 ∷ 0 ∷ [])
 
 one : Held
 one = record { bytes = 2; statements = 1; records = 1; tokens = 2; latest = 0 }

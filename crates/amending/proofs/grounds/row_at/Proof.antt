@@ -1,9 +1,6 @@
 use borrow.Author.Needs.{needs}
 use Rattle.amending.proofs.grounds.row_at.Statement.{statement}
 use Rattle.amending.proofs.grounds.row_at.Tie as tie
-use Rattle.amending.proofs.grounds.row_at.Reads as reads
-use Rattle.amending.proofs.grounds.row_at.Lts as lts
-use Rattle.amending.proofs.orders.wide.Reads as wide-reads
 
 mul-wide : tie.Need-mul-wide
 mul-wide c = search needs
@@ -50,8 +47,20 @@ shared-slice-read-wide-4 c = search needs
 wide-requires-4 : tie.Need-wide-requires-4
 wide-requires-4 c κs = search needs
 
+add-wide-4 : tie.Need-add-wide-4
+add-wide-4 c = search needs
+
+mul-wide-5 : tie.Need-mul-wide-5
+mul-wide-5 c = search needs
+
+shared-slice-read-wide-5 : tie.Need-shared-slice-read-wide-5
+shared-slice-read-wide-5 c = search needs
+
+wide-requires-5 : tie.Need-wide-requires-5
+wide-requires-5 c κs = search needs
+
 returns : tie.Need-returns
-returns c = rw (c .wide4 .ensures, c .before .before .wide3 .ensures, c .before .before .before .before .wide2 .ensures, c .before .before .before .before .before .before .wide .ensures)
+returns c = rw (c .wide5 .ensures, c .before .before .wide4 .ensures, c .before .before .before .before .wide3 .ensures, c .before .before .before .before .before .before .wide2 .ensures, c .before .before .before .before .before .before .before .before .wide .ensures)
 
 pub row-at-spec : {M : Type 1} → statement M
 row-at-spec =
@@ -72,4 +81,8 @@ row-at-spec =
     mul-wide-4
     shared-slice-read-wide-4
     wide-requires-4
+    add-wide-4
+    mul-wide-5
+    shared-slice-read-wide-5
+    wide-requires-5
     returns)

@@ -4,6 +4,7 @@ use Prim.Native.Nat.{_+_, _*_}
 use native.Mathlib.Nat.{zero-add}
 use native.Mathlib.Omega.{arith}
 use lib.ListN.{drop}
+use Rattle.grammar.specs.Sizes.{entryWidth}
 use Rattle.amending.specs.Lent.{sumRecords}
 use Rattle.amending.specs.Entries.{rowsFrom}
 use Rattle.amending.proofs.EntryLaws.{records-turn, records-none}
@@ -13,7 +14,7 @@ use Rattle.amending.proofs.orders.records_before.Tie as tie
 
 abbrev Inv-loop : tie.InvT-loop
 Inv-loop directory number left₀ at₀ sum₀ left at sum =
-    (4 * left + at ≡ 4 * number) × (sumRecords (rowsFrom number directory) ≡ sum + sumRecords (rowsFrom left (drop at directory)))
+    (entryWidth * left + at ≡ entryWidth * number) × (sumRecords (rowsFrom number directory) ≡ sum + sumRecords (rowsFrom left (drop at directory)))
 
 abbrev μ-loop : tie.MeasureT-loop
 μ-loop directory number left₀ at₀ sum₀ left at sum = left

@@ -5,6 +5,7 @@ use Prim.Native.Nat.{_+_, _-_, _*_}
 use native.Mathlib.Omega.{arith}
 use lib.ListN.{length, take, drop, length-set}
 use borrow.Author.Tests.{le-leb, lt-leb}
+use Rattle.grammar.specs.Sizes.{entryWidth}
 use Rattle.amending.specs.Entries.{movedWords, movedFrom}
 use Rattle.amending.proofs.ShiftLaws.{shift-turn, shift-none}
 use borrow.Author.Needs.{needs}
@@ -13,7 +14,7 @@ use Rattle.amending.proofs.shifts.shift_entries.Tie as tie
 
 abbrev Inv-loop : tie.InvT-loop
 Inv-loop directory₀ from to old new left₀ at₀ directory left at =
-    (4 * left + at ≡ 4 * to) × (length directory ≡ length directory₀) × (movedFrom directory₀ from to old new ≡ take at directory ++ movedWords old new left (drop at directory))
+    (entryWidth * left + at ≡ entryWidth * to) × (length directory ≡ length directory₀) × (movedFrom directory₀ from to old new ≡ take at directory ++ movedWords old new left (drop at directory))
 
 abbrev μ-loop : tie.MeasureT-loop
 μ-loop directory₀ from to old new left₀ at₀ directory left at = left
@@ -21,12 +22,12 @@ abbrev μ-loop : tie.MeasureT-loop
 returns : tie.Need-returns Inv-loop μ-loop
 returns c =
     let a = c .before .before .args in
-    rw (lt-leb (4 * a .to) (length (now (a .directory))) (omega arith))
+    rw (lt-leb (entryWidth * a .to) (length (now (a .directory))) (omega arith))
 
 returns-2 : tie.Need-returns-2 Inv-loop μ-loop
 returns-2 c =
     let a = c .before .before .before .args in
-    rw (le-leb (4 * a .to) (length (now (a .directory))) (omega arith)) (sym (shift-none (now (a .directory)) (a .old) (a .new) (a .to - a .from) (4 * a .from) (omega arith)))
+    rw (le-leb (entryWidth * a .to) (length (now (a .directory))) (omega arith)) (sym (shift-none (now (a .directory)) (a .old) (a .new) (a .to - a .from) (entryWidth * a .from) (omega arith)))
 
 sub-left : tie.Need-sub-left Inv-loop μ-loop
 sub-left c = search needs
@@ -37,7 +38,7 @@ mul-at c = search needs
 loop-holds : tie.Need-loop-holds Inv-loop μ-loop
 loop-holds c =
     let a = c .before .before .before .args in
-    let k : 4 * a .from ≡ a .from * 4 = omega arith in
+    let k : entryWidth * a .from ≡ a .from * entryWidth = omega arith in
     (search needs, search needs, rw k)
 
 mul-moved-place : tie.Need-mul-moved-place Inv-loop μ-loop
@@ -102,7 +103,7 @@ returns-3 : tie.Need-returns-3 Inv-loop μ-loop
 returns-3 c =
     let l = c .before .loop in
     let a = c .before .before .before .before .before .args in
-    rw (le-leb (4 * a .to) (length (now (a .directory))) (omega arith)) (sym (l .inv .2 ∙ shift-none (l .directory) (a .old) (a .new) (l .left) (l .at) (omega arith)))
+    rw (le-leb (entryWidth * a .to) (length (now (a .directory))) (omega arith)) (sym (l .inv .2 ∙ shift-none (l .directory) (a .old) (a .new) (l .left) (l .at) (omega arith)))
 
 pub shift-entries-spec : {M : Type 1} → statement M
 shift-entries-spec =

@@ -1,0 +1,19 @@
+use borrow.Author.Needs.{needs}
+use borrow.Author.Tests.{lt-ltb, le-ltb}
+use Rattle.amending.proofs.orders.latest_then.Statement.{statement}
+use Rattle.amending.proofs.orders.latest_then.Tie as tie
+
+later-requires : tie.Need-later-requires
+later-requires c κs = search needs
+
+returns : tie.Need-returns
+returns c = rw (lt-ltb _ _ (c .before .if1 .taken)) (c .later .ensures)
+
+latest-entry-requires : tie.Need-latest-entry-requires
+latest-entry-requires c κs = search needs
+
+returns-2 : tie.Need-returns-2
+returns-2 c = rw (le-ltb _ _ (c .before .if1 .left)) (c .latest-entry .ensures)
+
+pub latest-then-spec : {M : Type 1} → statement M
+latest-then-spec = tie.close (tie.spec later-requires returns latest-entry-requires returns-2)
