@@ -412,20 +412,20 @@ module _ (l : Lists) (M : Memory) (h : Held) (k : ℕ) (n : List ℕ) where
                     let made-is : amendIn l M h k n ≡ handed L =
                     fits-there e ∙ rw (over-no (roomsIn M) (length (L .script)) (L .rows) whole bytes-whole tokens-whole records-whole statements-whole (within-are (roomsIn M) whole f)) in
                     record {
-                  entries = ns;
-                  there = t;
-                  clear = clear;
-                  reads = G .reads;
-                  bytes-are = size-is;
-                  statements-are = G .statements-are;
-                  records-are = G .records-are;
-                  holds = within-yes (roomsIn M) h w;
-                  ordered = O .order;
-                  records-sum = O .recordSum;
-                  tokens-sum = O .tokenSum;
-                  latest-is = O .latestIs;
-                  whole = refl;
-                  held-then = λ i. record { bytes = bytes-whole i; statements = statements-whole i; records = records-whole i; tokens = tokens-whole i; latest = latestThen (made-is i) };
-                  fits = f;
-                  is = made-is;
-                }
+                      entries = ns;
+                      there = t;
+                      clear = clear;
+                      reads = G .reads;
+                      bytes-are = size-is;
+                      statements-are = G .statements-are;
+                      records-are = G .records-are;
+                      holds = within-yes (roomsIn M) h w;
+                      ordered = O .order;
+                      records-sum = O .recordSum;
+                      tokens-sum = O .tokenSum;
+                      latest-is = O .latestIs;
+                      whole = refl;
+                      held-then = λ i. record { bytes = bytes-whole i; statements = statements-whole i; records = records-whole i; tokens = tokens-whole i; latest = latestThen (made-is i) };
+                      fits = f;
+                      is = made-is;
+                    }

@@ -107,8 +107,7 @@ module _ (l : Lists) (M : Memory) (h : Held) (k : ℕ) (n : List ℕ) {c : Count
   read-words {o = o} {e = e} x y R =
       let A : readInto l n o e ≡ accepted ns = reads-in o e x y in
       let lo : length (wordsOf ns) ≡ length o = omega (arith, words-length ns, F .records-are, x) in
-      let le : length (directoryOf ns) ≡ length e = omega (arith, directory-length ns, F .statements-are, y) in
-      (
+      let le : length (directoryOf ns) ≡ length e = omega (arith, directory-length ns, F .statements-are, y) in (
         R .records ∙ ap (leftBy wordsOf o) A ∙ over-full (wordsOf ns) o lo,
         R .directory ∙ ap (leftBy directoryOf e) A ∙ over-full (directoryOf ns) e le,
         ap (λ (a : Answer). a .latest) (R .answer ∙ ap (λ (x : Outcome). answerOf n (latestBy x) (judgedOf (length (script n)) (lastEnd (script n)) x)) A),

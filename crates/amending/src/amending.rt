@@ -114,13 +114,7 @@ fn replace(
     let start = row.start as u32;
     let end = row.end as u32;
     shift_entries(directory, statement, later, 0, start);
-    shift_entries(
-        directory,
-        later,
-        statements,
-        end,
-        start + text.len() as u32,
-    );
+    shift_entries(directory, later, statements, end, start + text.len() as u32);
     latest_then(directory, statements, held.latest, row.latest, own.latest)
 }
 

@@ -1,6 +1,6 @@
 -- WHAT IS CERTAIN OF THE CALLS THAT C AND RUST LINK, on one page: what `Certain` says, of the words that a caller lends and sees. `Reads` is the contract of `script_read`,
--- `Replaces` that of `script_amend`; both hold of the code, for all input. Of eight words ws, `numberIn ws` is the first, 0 where a call was accepted, and `heldIn ws` are the
--- last four: how much of the memory is used. What is assumed is what `Certain` assumes, where `Holds` is named, and nothing else; that lent words are words is `AreWords`.
+-- `Replaces` that of `script_amend`; both hold of the code, for all input. Of nine words ws, `numberIn ws` is the first, 0 where a call was accepted, and `heldIn ws` are the
+-- last five: how much of the memory is used, and the script's latest date. What is assumed is what `Certain` assumes, where `Holds` is named, and nothing else; that lent words are words is `AreWords`.
 use mathlib.Core.Path.{_≡_, refl, sym, ap, _∙_, subst}
 use mathlib.Core.Bool.{Bool, true, false, cond}
 use mathlib.Core.List.{List, [], _∷_}
@@ -15,6 +15,7 @@ use Rattle.tokens.specs.Text.{script}
 use Rattle.tokens.specs.Names.{Lists}
 use Rattle.grammar.specs.Sizes.{recordWidth, entryWidth}
 use Rattle.grammar.specs.Script.{Entry, accepted}
+use Rattle.grammar.proofs.DatedLaws.{read-latest}
 use Rattle.reading.specs.Reading.{readInto}
 use Rattle.reading.specs.Parts.{partNamed, placed}
 use Rattle.reading.specs.declared.reading.Answer.{Answer}
@@ -51,18 +52,19 @@ replaces-same {l} x y =
 low : (n : ℕ) → n < 4294967296 → word n ≡ n
 low n h = omega (arith, h)
 
--- counts that are words
+-- counts and a date that are words
 record Few (h : Held) : Type 0 where
   bytes : h .bytes < 4294967296
   statements : h .statements < 4294967296
   records : h .records < 4294967296
   tokens : h .tokens < 4294967296
+  latest : h .latest < 4294967296
 
 whole-words : (a : Answer) → (a .byte ≤ mostBytes) × (a .line ≤ suc mostBytes) × (a .column ≤ suc mostBytes) → Few (heldOf a) → answerWords a ≡ numbers a
 unfolding answerWords
 whole-words a p f =
     λ i. a .number ∷ low (a .byte) (omega (arith, p .0)) i ∷ low (a .line) (omega (arith, p .1)) i ∷ low (a .column) (omega (arith, p .2)) i
-    ∷ low (a .bytes) (f .bytes) i ∷ low (a .statements) (f .statements) i ∷ low (a .records) (f .records) i ∷ low (a .tokens) (f .tokens) i ∷ []
+    ∷ low (a .bytes) (f .bytes) i ∷ low (a .statements) (f .statements) i ∷ low (a .records) (f .records) i ∷ low (a .tokens) (f .tokens) i ∷ low (a .latest) (f .latest) i ∷ []
 
 held-numbers : (a : Answer) → heldIn (numbers a) ≡ heldOf a
 unfolding heldIn
@@ -70,13 +72,19 @@ held-numbers a = refl
 
 words-few : (vs : List ℕ) → AreWords vs → Few (heldIn vs)
 unfolding heldIn
-words-few vs W = record { bytes = omega (arith, W 4); statements = omega (arith, W 5); records = omega (arith, W 6); tokens = omega (arith, W 7) }
+words-few vs W = record { bytes = omega (arith, W 4); statements = omega (arith, W 5); records = omega (arith, W 6); tokens = omega (arith, W 7); latest = omega (arith, W 8) }
 
 module _ (l : Lists) where
   holds-few : {M : Memory} {h : Held} {st : State} → Holds l M h st → Few h
   holds-few {M} {h} {st} H =
       let b = bounded M h (held-within l M h st H) in
-      record { bytes = omega (arith, b .0); statements = omega (arith, b .1); records = omega (arith, b .2); tokens = omega (arith, b .3) }
+      record {
+        bytes = omega (arith, b .0);
+        statements = omega (arith, b .1);
+        records = omega (arith, b .2);
+        tokens = omega (arith, b .3);
+        latest = omega (arith, ap (λ (x : Held). x .latest) (H .counts), read-latest l (st .script) (H .good .read));
+      }
 
   -- ---- `script_read`
 
@@ -88,9 +96,9 @@ module _ (l : Lists) where
         go zero e = holds-few (certain.read-holds l (X .leaves) e .2)
         go (suc f) e =
             let c = read.refused-keeps (X .leaves) (λ z. omega (arith, e, z)) .2 in
-            record { bytes = omega (arith, c .0); statements = omega (arith, c .1); records = omega (arith, c .2); tokens = omega (arith, c .3) }
+            record { bytes = omega (arith, c .0); statements = omega (arith, c .1); records = omega (arith, c .2); tokens = omega (arith, c .3); latest = omega (arith, c .4) }
 
-    -- the eight words are the numbers of the answer
+    -- the nine words are the numbers of the answer
     pub read-words : ws ≡ numbers (X .answer)
     read-words = X .words ∙ whole-words (X .answer) (read.place-small (X .leaves)) read-few
 
@@ -102,7 +110,7 @@ module _ (l : Lists) where
     pub read-refused : (numberIn ws ≡ 0 → ⊥) → (o′ ≡ o) × (d′ ≡ d)
     read-refused f = let R = read.refused-keeps (X .leaves) (λ z. f (ap numberIn read-words ∙ z)) in (R .0, R .1)
 
-    -- an accepted one leaves memory that holds a state, of which its last four words say how much is used
+    -- an accepted one leaves memory that holds a state, of which its last five words say how much is used, with the script's latest date
     pub reads-hold : numberIn ws ≡ 0 → (es : List Entry) × (readInto l bs o d ≡ accepted es) × Holds l (memory bs o′ d′) (heldIn ws) (record { script = script bs; entries = es })
     reads-hold z =
         let H = certain.read-holds l (X .leaves) (sym (ap numberIn read-words) ∙ z) in
@@ -125,7 +133,7 @@ module _ (l : Lists) where
         go : (f : ℕ) → X .answer .number ≡ f → Few (heldOf (X .answer))
         go zero e =
             let c = amended.counts-small (X .amends) e in
-            record { bytes = omega (arith, c .0); statements = omega (arith, c .1); records = omega (arith, c .2); tokens = omega (arith, c .3) }
+            record { bytes = omega (arith, c .0); statements = omega (arith, c .1); records = omega (arith, c .2); tokens = omega (arith, c .3); latest = omega (arith, c .4, F .latest) }
         go (suc f) e = subst Few (sym (certain.refused-keeps l (X .amends) (λ z. omega (arith, e, z)) .1)) F
 
     words-by : Few (heldIn vs) → ws ≡ numbers (X .answer)
@@ -135,11 +143,11 @@ module _ (l : Lists) where
     held-by F = ap heldIn (words-by F) ∙ held-numbers (X .answer)
 
     module _ (W : AreWords vs) where
-      -- the eight words are the numbers of the answer
+      -- the nine words are the numbers of the answer
       pub amend-words : ws ≡ numbers (X .answer)
       amend-words = words-by (words-few vs W)
 
-      -- a refused one leaves every byte and word of the memory as it was, and its last four words too
+      -- a refused one leaves every byte and word of the memory as it was, and its last five words too
       pub amend-refused : (numberIn ws ≡ 0 → ⊥) → (M′ ≡ M) × (heldIn ws ≡ heldIn vs)
       amend-refused f =
           let R = certain.refused-keeps l (X .amends) (λ z. f (number-is ∙ z)) in

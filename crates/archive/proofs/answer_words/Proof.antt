@@ -25,9 +25,12 @@ low-word-requires-6 c κs = search needs
 low-word-requires-7 : tie.Need-low-word-requires-7
 low-word-requires-7 c κs = search needs
 
+low-word-requires-8 : tie.Need-low-word-requires-8
+low-word-requires-8 c κs = search needs
+
 returns : tie.Need-returns
 unfolding answerWords
-returns c = rw (c .before .before .before .before .before .before .low-word .ensures, c .before .before .before .before .before .low-word2 .ensures, c .before .before .before .before .low-word3 .ensures, c .before .before .before .low-word4 .ensures, c .before .before .low-word5 .ensures, c .before .low-word6 .ensures, c .low-word7 .ensures)
+returns c = rw (c .before .before .before .before .before .before .before .low-word .ensures, c .before .before .before .before .before .before .low-word2 .ensures, c .before .before .before .before .before .low-word3 .ensures, c .before .before .before .before .low-word4 .ensures, c .before .before .before .low-word5 .ensures, c .before .before .low-word6 .ensures, c .before .low-word7 .ensures, c .low-word8 .ensures)
 
 pub answer-words-spec : {M : Type 1} → statement M
 answer-words-spec =
@@ -40,4 +43,5 @@ answer-words-spec =
     low-word-requires-5
     low-word-requires-6
     low-word-requires-7
+    low-word-requires-8
     returns)

@@ -1,4 +1,4 @@
--- The last four words, wide.
+-- The last five words, wide.
 use Rattle.archive.specs.Exports.{heldIn}
 use borrow.Author.Needs.{needs}
 use Rattle.archive.proofs.held_in.Statement.{statement}
@@ -28,9 +28,15 @@ element-copy-out-wide-4 c = search needs
 wide-requires-4 : tie.Need-wide-requires-4
 wide-requires-4 c κs = search needs
 
+element-copy-out-wide-5 : tie.Need-element-copy-out-wide-5
+element-copy-out-wide-5 c = search needs
+
+wide-requires-5 : tie.Need-wide-requires-5
+wide-requires-5 c κs = search needs
+
 returns : tie.Need-returns
 unfolding heldIn
-returns c = rw (c .before .before .before .before .before .before .wide .ensures, c .before .before .before .before .wide2 .ensures, c .before .before .wide3 .ensures, c .wide4 .ensures)
+returns c = rw (c .before .before .before .before .before .before .before .before .wide .ensures, c .before .before .before .before .before .before .wide2 .ensures, c .before .before .before .before .wide3 .ensures, c .before .before .wide4 .ensures, c .wide5 .ensures)
 
 pub held-in-spec : {M : Type 1} → statement M
 held-in-spec =
@@ -44,4 +50,6 @@ held-in-spec =
     wide-requires-3
     element-copy-out-wide-4
     wide-requires-4
+    element-copy-out-wide-5
+    wide-requires-5
     returns)
