@@ -82,6 +82,17 @@ fn amending_clears_what_it_frees_and_touches_nothing_behind() {
 }
 
 #[test]
+fn amending_clears_an_entry_with_its_latest_date() {
+    let mut script = *b"x;Df(\"2026-06-30\");";
+    let (mut records, mut directory) = (guarded(FOUR_RECORDS), guarded(TWO_ENTRIES));
+    let held = read(&script, &LISTS, inner(&mut records), inner(&mut directory)).unwrap();
+    assert_eq!(inner(&mut directory), [0, 2, 1, 2, 0, 2, 19, 1, 5, 739_797]);
+    amend(&mut script, held, 1, b"", &LISTS, inner(&mut records), inner(&mut directory)).unwrap();
+    assert_eq!(inner(&mut directory), [0, 2, 1, 2, 0, 0, 0, 0, 0, 0]);
+    assert_edges(&directory);
+}
+
+#[test]
 fn memory_that_no_reading_left_is_refused_as_it_is() {
     let mut script = *b"x = 1;";
     let (mut records, mut directory) = (guarded(FOUR_RECORDS), guarded(TWO_ENTRIES));
