@@ -1,7 +1,7 @@
 //! Amending one statement, beside the Rust reading the whole new script.
 use crate::archive::{Archive, LISTS};
 use crate::full_lists::FullLists;
-use crate::scripts::note;
+use crate::scripts::{note, short_statements};
 use crate::timing::{medians, timed, Timed};
 use calls::{Lists, MOST_BYTES};
 use std::hint::black_box;
@@ -12,28 +12,41 @@ const SPARE: usize = 64;
 /// Amendments that follow each other in the measurement of warm caches.
 const WARM: usize = 16;
 
-/// A statement that is replaced, and by what.
+/// A statement of a script that is replaced, and by what.
 struct Case<'a> {
     name: String,
+    script: String,
     statement: u32,
     old: String,
     new: String,
     lists: Lists<'a>,
 }
 
-pub fn table(rounds: usize) {
+pub fn tables(rounds: usize) {
     let script = note(MOST_BYTES - SPARE);
-    let full = FullLists::new();
-    let cases = cases(&script, &full);
+    println!("\n## Amending\n");
+    println!(
+        "A note of {} bytes. The Rust reads the whole new script. In turn: one amendment behind a",
+        script.len()
+    );
+    println!("reading by the Rust, whose data is in the caches. Warm: {WARM} amendments behind each other.\n");
+    table(rounds, &in_a_note(&script, &FullLists::new()));
+    println!("\n## Amending among many statements\n");
+    println!("Notes of statements of 24 bytes, each with a date. One is replaced by another of the same length;");
+    println!("each entry of the directory is looked at.\n");
+    table(rounds, &among_many());
+}
+
+fn table(rounds: usize, cases: &[Case]) {
     let mut runs: Vec<Timed> = Vec::new();
-    for case in &cases {
-        let amended = verify(case, &script);
+    for case in cases {
+        let amended = verify(case);
         runs.push(Box::new(move || {
             timed(|| oracle::read(black_box(&amended)))
         }));
-        let mut archive = Archive::holding(&script, &case.lists);
+        let mut archive = Archive::holding(&case.script, &case.lists);
         runs.push(Box::new(move || there_and_back(&mut archive, case)));
-        let mut archive = Archive::holding(&script, &case.lists);
+        let mut archive = Archive::holding(&case.script, &case.lists);
         runs.push(Box::new(move || {
             (0..WARM)
                 .map(|_| there_and_back(&mut archive, case))
@@ -41,12 +54,11 @@ pub fn table(rounds: usize) {
                 / WARM as f64
         }));
     }
-    let times = medians(rounds, &mut runs);
-    print(&script, &cases, &times);
+    print(cases, &medians(rounds, &mut runs));
 }
 
 /// First, middle and last statement, with the same length and longer.
-fn cases<'a>(script: &str, full: &'a FullLists) -> Vec<Case<'a>> {
+fn in_a_note<'a>(script: &str, full: &'a FullLists) -> Vec<Case<'a>> {
     let archive = Archive::holding(script, &LISTS);
     let last = archive.answer[5] - 1;
     let mut cases = Vec::new();
@@ -55,6 +67,7 @@ fn cases<'a>(script: &str, full: &'a FullLists) -> Vec<Case<'a>> {
         let bytes = old.len();
         let case = |change: &str, new: String, lists: Lists<'a>| Case {
             name: format!("{name} statement, {bytes} bytes, {change}"),
+            script: script.to_string(),
             statement,
             old: old.clone(),
             new,
@@ -69,6 +82,27 @@ fn cases<'a>(script: &str, full: &'a FullLists) -> Vec<Case<'a>> {
                 same_length(&old),
                 lists,
             ));
+        }
+    }
+    cases
+}
+
+/// The first and the last of 32 to 512 statements.
+fn among_many() -> Vec<Case<'static>> {
+    let mut cases = Vec::new();
+    for count in [32, 64, 128, 256, 512] {
+        let script = short_statements(count);
+        let archive = Archive::holding(&script, &LISTS);
+        for (name, statement) in [("first", 0), ("last", count - 1)] {
+            let old = archive.statement(statement);
+            cases.push(Case {
+                name: format!("{name} of {count} statements"),
+                script: script.clone(),
+                statement: statement as u32,
+                new: same_length(&old),
+                old,
+                lists: LISTS,
+            });
         }
     }
     cases
@@ -107,12 +141,12 @@ fn there_and_back(archive: &mut Archive, case: &Case) -> f64 {
 }
 
 /// The amendment leaves what reading the new script leaves, and the Rust counts alike. Answers the new script.
-fn verify(case: &Case, script: &str) -> String {
-    let mut archive = Archive::holding(script, &case.lists);
+fn verify(case: &Case) -> String {
+    let mut archive = Archive::holding(&case.script, &case.lists);
     archive.amend(case.statement, &case.new, &case.lists);
     assert_eq!(archive.answer[0], 0, "{}: {:?}", case.name, archive.answer);
     let amended = archive.text();
-    assert!(amended != script, "{} changes the script", case.name);
+    assert!(amended != case.script, "{} changes the script", case.name);
     assert!(
         archive == Archive::holding(&amended, &case.lists),
         "{} is as read",
@@ -129,13 +163,7 @@ fn verify(case: &Case, script: &str) -> String {
     amended
 }
 
-fn print(script: &str, cases: &[Case], times: &[f64]) {
-    println!("\n## Amending\n");
-    println!(
-        "A note of {} bytes. The Rust reads the whole new script. In turn: one amendment behind a",
-        script.len()
-    );
-    println!("reading by the Rust, whose data is in the caches. Warm: {WARM} amendments behind each other.\n");
+fn print(cases: &[Case], times: &[f64]) {
     println!("| | the Rust, µs | in turn, µs | warm, µs | times as fast, in turn | warm |");
     println!("|---|---|---|---|---|---|");
     for (case, times) in cases.iter().zip(times.chunks_exact(3)) {

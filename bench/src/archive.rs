@@ -1,5 +1,7 @@
 //! The archive with memory of its own.
-use calls::{Answer, Change, Lists, ENTRY, MOST_BYTES, MOST_RECORDS, MOST_STATEMENTS, RECORD};
+use calls::{
+    Answer, Change, Lists, ANSWER, ENTRY, MOST_BYTES, MOST_RECORDS, MOST_STATEMENTS, RECORD,
+};
 
 /// The lists whose names the Rust and its shims have.
 pub const LISTS: Lists<'static> = Lists {
@@ -25,7 +27,7 @@ impl Archive {
             script: bytes,
             records: vec![0; MOST_RECORDS * RECORD],
             directory: vec![0; MOST_STATEMENTS * ENTRY],
-            answer: [0; 8],
+            answer: [0; ANSWER],
         }
     }
 

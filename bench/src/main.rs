@@ -29,7 +29,7 @@ fn main() -> ExitCode {
         machine::describe()
     );
     reading::tables(rounds);
-    amending::table(rounds);
+    amending::tables(rounds);
     stacks::table();
     ExitCode::SUCCESS
 }

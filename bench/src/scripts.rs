@@ -60,6 +60,18 @@ pub fn note(length: usize) -> String {
     text + "#" + &".".repeat(rest) + "\n" + TAIL
 }
 
+/// So many short statements, each with a date behind the one before.
+pub fn short_statements(count: usize) -> String {
+    let statement = |i| {
+        format!(
+            "d{i:03} = Df(\"{}-{:02}-15\");\n",
+            2026 + i / 12,
+            1 + i % 12
+        )
+    };
+    (0..count).map(statement).collect()
+}
+
 /// Everything that depth counts, 32 in one another.
 pub fn deepest() -> Vec<(&'static str, String)> {
     let nest = |open: &str, inner: &str, close: &str| {

@@ -35,8 +35,8 @@ extern "C" {
 /* Widths, in words. */
 enum {
     ARCHIVE_RECORD_WORDS = 7, /* kind, nodes in its subtree, direct parts, four fields; children before parents */
-    ARCHIVE_ENTRY_WORDS = 4,  /* of a statement: its first byte, the byte past its last token, records, tokens */
-    ARCHIVE_ANSWER_WORDS = 8,
+    ARCHIVE_ENTRY_WORDS = 5,  /* of a statement, see below */
+    ARCHIVE_ANSWER_WORDS = 9,
     ARCHIVE_PLACE_WORDS = 3,
     ARCHIVE_DAY_WORDS = 3 /* year, month, day */
 };
@@ -56,9 +56,9 @@ enum { ARCHIVE_LAST_COUNT = 3652059 };
 /*
  * The words of an answer. Lines and columns count from 1. A column counts the characters of UTF-8: it is 1 more than the
  * bytes before the place in its line that are no continuation bytes (0x80 to 0xBF), each byte judged alone. An accepted
- * call answers 0, 0, 1, 1 and the counts of the whole script. A refused one answers a ground and its place, which is in
- * the script for script_read and in the new text for script_amend, and then the counts: 0 for script_read, for
- * script_amend those that it was given.
+ * call answers 0, 0, 1, 1 and then the state of the whole script: four counts and its latest date. A refused one answers a
+ * ground and its place, which is in the script for script_read and in the new text for script_amend, and then the state: 0
+ * for script_read, for script_amend the one that it was given.
  */
 enum {
     ARCHIVE_NUMBER = 0, /* 0 accepted, else one of the grounds below */
@@ -68,7 +68,21 @@ enum {
     ARCHIVE_COUNT_BYTES = 4, /* bytes of the script that are used */
     ARCHIVE_COUNT_STATEMENTS = 5,
     ARCHIVE_COUNT_RECORDS = 6,
-    ARCHIVE_COUNT_TOKENS = 7
+    ARCHIVE_COUNT_TOKENS = 7,
+    ARCHIVE_LATEST = 8 /* the greatest of the entries' latest dates, 0 where there is none */
+};
+
+/*
+ * The words of a directory entry, one entry for each top-level statement. The latest date is the greatest day count among
+ * the dates of the statement's records, those of its bodies included, and 0 where they have none: of ARCHIVE_SPOT,
+ * ARCHIVE_EQUITY, ARCHIVE_DF, ARCHIVE_RATE_INDEX (both its dates) and ARCHIVE_PAYS. The strings of a cvg are no dates.
+ */
+enum {
+    ARCHIVE_ENTRY_START = 0, /* its first byte */
+    ARCHIVE_ENTRY_END = 1,   /* the byte past its last token */
+    ARCHIVE_ENTRY_RECORDS = 2,
+    ARCHIVE_ENTRY_TOKENS = 3,
+    ARCHIVE_ENTRY_LATEST = 4
 };
 
 /*
@@ -141,7 +155,7 @@ enum {
     ARCHIVE_NO_STATEMENT = 17,      /* no such statement */
     ARCHIVE_BAD_END = 18,           /* new text ends badly */
     ARCHIVE_ZERO_BYTE = 19,         /* zero byte in new text */
-    ARCHIVE_DIRECTORY = 20          /* directory not in order: no reading left this memory */
+    ARCHIVE_DIRECTORY = 20          /* directory not in order, or not that of this state: no reading left this memory */
 };
 
 /*
@@ -161,11 +175,11 @@ void script_read(const uint8_t *script, size_t script_bytes,
 /*
  * Replaces the bytes of one statement, counted from 0, by those of `text`, which may hold one statement, several or none.
  *
- * At entry the last four words of `answer` are the counts of the note, as script_read or the last script_amend left them,
+ * At entry the last five words of `answer` are the state of the note, as script_read or the last script_amend left them,
  * and `script`, `records` and `directory` are its memory; `script` is the whole room, of which the first bytes are used.
  * Accepted, the three slices are what script_read of the new script would leave, room that became free is 0, and `answer`
- * has the new counts. Refused, the slices are as they were, and `answer` still ends in the same counts. So one answer can
- * be passed from call to call.
+ * has the new state. Refused, the slices are as they were, and `answer` still ends in the same state. So one answer can be
+ * passed from call to call.
  */
 void script_amend(uint8_t *script, size_t script_bytes, uint32_t statement,
                   const uint8_t *text, size_t text_bytes,

@@ -1,4 +1,4 @@
-/* Reads a note, replaces a statement, has an amendment refused, looks a name up, and tells a date. Exits with 1 where an
+/* Reads a note, replaces a statement, has an amendment refused, looks a name up, and tells dates. Exits with 1 where an
  * answer is not the one that this example is about. */
 #include "archive.h"
 
@@ -9,7 +9,7 @@ static const char reserved[] = "";
 static const char currencies[] = "USD\nEUR\n";
 static const char day_counters[] = "";
 
-/* One note: its memory, and the answer of the last call, which carries the counts to the next one. */
+/* One note: its memory, and the answer of the last call, which carries the state to the next one. */
 struct note {
     uint8_t script[ARCHIVE_BYTES];
     uint32_t records[ARCHIVE_RECORDS * ARCHIVE_RECORD_WORDS];
@@ -65,7 +65,7 @@ static bool names(const struct note *n, const char *expected)
 {
     uint32_t place[ARCHIVE_PLACE_WORDS];
     script_part(n->script, n->answer[ARCHIVE_COUNT_BYTES], bytes(currencies), strlen(currencies), n->records,
-                n->directory[0], false, place);
+                n->directory[ARCHIVE_ENTRY_START], false, place);
     const char *name = (place[0] == 0 ? (const char *)n->script : currencies) + place[1];
     printf("first record: kind %u, %.*s\n", (unsigned)n->records[0], (int)place[2], name);
     return place[2] == strlen(expected) && memcmp(name, expected, place[2]) == 0;
@@ -81,6 +81,17 @@ static bool pays_on(const struct note *n, uint32_t year, uint32_t month, uint32_
            (unsigned)date[0], (unsigned)date[1], (unsigned)date[2]);
     return record[0] == ARCHIVE_PAYS && record[3] == calendar_count(year, month, day) && date[0] == year &&
            date[1] == month && date[2] == day;
+}
+
+/* Prints the note's latest date, and says whether it is the one expected, with one statement's latest date among it. */
+static bool ends_on(const struct note *n, uint32_t statement, uint32_t year, uint32_t month, uint32_t day)
+{
+    uint32_t latest = n->answer[ARCHIVE_LATEST];
+    uint32_t date[ARCHIVE_DAY_WORDS];
+    calendar_day(latest, date);
+    printf("latest date: %04u-%02u-%02u\n", (unsigned)date[0], (unsigned)date[1], (unsigned)date[2]);
+    return latest == calendar_count(year, month, day) &&
+           latest == n->directory[statement * ARCHIVE_ENTRY_WORDS + ARCHIVE_ENTRY_LATEST];
 }
 
 int main(void)
@@ -104,6 +115,9 @@ int main(void)
 
     good &= names(&n, "rate");
     good &= pays_on(&n, 2026, 6, 30);
+    good &= ends_on(&n, 2, 2026, 6, 30);
+    amend_note(&n, 0, "rate = RateIndex(\"SOFR\", \"2026-06-30\", \"2026-12-31\");");
+    good &= ends_on(&n, 0, 2026, 12, 31);
     if (!good) {
         fputs("example: an answer is not the one expected\n", stderr);
     }

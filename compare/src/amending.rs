@@ -2,8 +2,8 @@
 use crate::memory::{Contents, Memory, Room};
 use crate::reading::{self, Same};
 use crate::rules::LISTS;
-use crate::splice::{outcome, Outcome, State};
-use calls::{Answer, Change, ENTRY, RECORD};
+use crate::splice::{latest, outcome, Outcome, State};
+use calls::{totals, Answer, Change, Totals, ANSWER, ENTRY, LATEST, RECORD, TOTALS};
 
 /// The statement that is replaced, and by which bytes.
 #[derive(Debug, Clone, PartialEq)]
@@ -12,13 +12,15 @@ pub struct Step {
     pub text: Vec<u8>,
 }
 
-/// A word that is changed behind the library's back, before the steps.
+/// What is changed behind the library's back, before the steps.
 #[derive(Debug, Clone, Copy, PartialEq)]
 pub enum Harm {
-    /// Bytes, statements, records, tokens.
-    Count(usize, u32),
+    /// One of the totals.
+    Total(usize, u32),
     /// A word of the directory.
     Entry(usize, u32),
+    /// The latest dates of the first entries, and the script's with them, so that the state stays in order.
+    Dates([u32; 6]),
 }
 
 #[derive(Debug, Clone)]
@@ -31,7 +33,7 @@ pub struct Run {
     pub steps: Vec<Step>,
 }
 
-/// The state before the first step and after each, with the answer that has its counts.
+/// The state before the first step and after each, with the answer that has its totals.
 pub type Trace = Vec<(Answer, Contents)>;
 
 /// Byte that fills the room behind a script and its zero byte.
@@ -62,13 +64,13 @@ pub fn compare(run: &Run) -> Result<Trace, String> {
     let mut trace = vec![(answer, memory.contents())];
     for step in &run.steps {
         let before = memory.contents();
-        let counts = answer[4..].try_into().expect("four counts");
+        let totals = totals(&answer);
         let change = Change {
             statement: step.statement,
             text: &step.text,
         };
-        let expected = expected(&before, counts, change)?;
-        answer = memory.amend(change, &counts)?;
+        let expected = expected(&before, totals, change)?;
+        answer = memory.amend(change, &totals)?;
         same(&memory, answer, &expected)?;
         if as_read && answer[0] == 0 {
             fresh(&memory, answer)?;
@@ -98,24 +100,32 @@ fn alone(run: &Run, memory: &Memory, answer: Answer) -> Result<(), String> {
 
 fn harmed(memory: &Memory, harm: Harm, answer: &mut Answer) -> Memory<'static> {
     let mut contents = memory.contents();
+    let (_, totals) = answer.split_at_mut(ANSWER - TOTALS);
     match harm {
-        Harm::Count(k, word) => answer[4 + k] = word,
+        Harm::Total(k, word) => totals[k] = word,
         Harm::Entry(k, word) => {
             if let Some(old) = contents.directory.get_mut(k) {
                 *old = word;
             }
+        }
+        Harm::Dates(dates) => {
+            let used = &mut contents.directory[..totals[1] as usize * ENTRY];
+            for (entry, date) in used.chunks_exact_mut(ENTRY).zip(dates) {
+                entry[LATEST] = date;
+            }
+            totals[LATEST] = latest(used);
         }
     }
     Memory::holding(&contents, &LISTS)
 }
 
 /// What the rules say. The text read alone is compared with the Rust.
-fn expected(contents: &Contents, counts: [u32; 4], change: Change) -> Result<Outcome, String> {
+fn expected(contents: &Contents, totals: Totals, change: Change) -> Result<Outcome, String> {
     if let Ok(text) = std::str::from_utf8(change.text) {
         reading::compare(text, Room::ample(text.len()))
             .map_err(|found| format!("{text:?} alone: {found}"))?;
     }
-    outcome(&State { contents, counts }, change)
+    outcome(&State { contents, totals }, change)
 }
 
 fn same(memory: &Memory, answer: Answer, expected: &Outcome) -> Result<(), String> {
@@ -139,9 +149,9 @@ fn same(memory: &Memory, answer: Answer, expected: &Outcome) -> Result<(), Strin
     }
 }
 
-/// The whole new script, read into new memory, has the same counts and words; and the Rust reads it so.
+/// The whole new script, read into new memory, has the same totals and words; and the Rust reads it so.
 fn fresh(memory: &Memory, answer: Answer) -> Result<(), String> {
-    let [_, _, _, _, bytes, statements, records, _] = answer.map(|word| word as usize);
+    let [bytes, statements, records, ..] = totals(&answer).map(|word| word as usize);
     let script = &memory.script()[..bytes];
     let script = std::str::from_utf8(script).map_err(|error| error.to_string())?;
     let room = Room::of(records, statements);

@@ -2,7 +2,7 @@
 use crate::lookups;
 use crate::scan::{Kind, Piece};
 use crate::tree::{Fact, Tree};
-use calls::{part, ENTRY, RECORD};
+use calls::{part, ENTRY, LATEST, RECORD};
 
 /// What a call left, cut to what is used.
 pub struct Held<'a> {
@@ -19,8 +19,13 @@ struct Record<'a> {
     start: usize,
 }
 
-/// Start and end of each statement, with its tree.
-pub type Statement = (usize, usize, Tree);
+/// What an entry says, with its tree.
+pub struct Statement {
+    pub start: usize,
+    pub end: usize,
+    pub latest: u32,
+    pub tree: Tree,
+}
 
 pub fn statements(held: &Held) -> Result<Vec<Statement>, String> {
     let mut records = held.records;
@@ -30,32 +35,67 @@ pub fn statements(held: &Held) -> Result<Vec<Statement>, String> {
         .filter(|piece| piece.kind != Kind::Newline);
     let mut statements = Vec::new();
     for entry in held.directory.chunks_exact(ENTRY) {
-        let (start, end) = (entry[0] as usize, entry[1] as usize);
-        let first = tokens.next().ok_or("an entry behind the last token")?;
-        let last = match entry[3] {
-            0 => return Err("an entry without tokens".to_string()),
-            1 => first,
-            n => tokens
-                .nth(n as usize - 2)
-                .ok_or("an entry with too many tokens")?,
-        };
-        if (start, end) != (first.start, last.end) {
-            return Err(format!(
-                "entry {entry:?} has tokens from {} to {}",
-                first.start, last.end
-            ));
+        let (start, end) = span(entry, &mut tokens)?;
+        let (own, behind) = records
+            .split_at_checked(entry[2] as usize * RECORD)
+            .ok_or_else(|| format!("entry {entry:?} has too many records"))?;
+        let latest = latest(own);
+        if entry[LATEST] != latest {
+            return Err(format!("the records of entry {entry:?} end on {latest}"));
         }
-        let words = entry[2] as usize * RECORD;
-        if words > records.len() {
-            return Err(format!("entry {entry:?} has too many records"));
-        }
-        statements.push((start, end, tree(held, &records[..words], start)?));
-        records = &records[words..];
+        let tree = tree(held, own, start)?;
+        statements.push(Statement {
+            start,
+            end,
+            latest,
+            tree,
+        });
+        records = behind;
     }
     match (records, tokens.next()) {
         ([], None) => Ok(statements),
         left => Err(format!("left behind the last entry: {left:?}")),
     }
+}
+
+/// Start and end of an entry, which must be those of its tokens, the next ones.
+fn span<'a>(
+    entry: &[u32],
+    tokens: &mut impl Iterator<Item = &'a Piece>,
+) -> Result<(usize, usize), String> {
+    let first = tokens.next().ok_or("an entry behind the last token")?;
+    let last = match entry[3] {
+        0 => return Err("an entry without tokens".to_string()),
+        1 => first,
+        n => tokens
+            .nth(n as usize - 2)
+            .ok_or("an entry with too many tokens")?,
+    };
+    let span = (entry[0] as usize, entry[1] as usize);
+    if span == (first.start, last.end) {
+        Ok(span)
+    } else {
+        Err(format!(
+            "entry {entry:?} has tokens from {} to {}",
+            first.start, last.end
+        ))
+    }
+}
+
+/// The latest date of some records, which the words of five kinds have; 0 where there is none.
+fn latest(records: &[u32]) -> u32 {
+    let dates = records.chunks_exact(RECORD).flat_map(|words| {
+        let [kind, _, _, f1, _, f3, f4] = *words else {
+            unreachable!("a chunk has its length")
+        };
+        match kind {
+            32 | 33 => [f3, 0],
+            34 | 36 => [f1, 0],
+            35 => [f3, f4],
+            _ => [0, 0],
+        }
+    });
+    dates.max().unwrap_or(0)
 }
 
 /// The tree of one statement's records: children stand before parents.

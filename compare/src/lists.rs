@@ -1,9 +1,9 @@
 //! Lists of names: which are well formed, and what a read answers of one that is not.
 use crate::memory::{Memory, Room};
 use crate::random::Random;
-use crate::rules::LISTS;
+use crate::rules::{LISTS, NOTHING};
 use crate::tally::Section;
-use calls::{Answer, Change, Lists};
+use calls::{Answer, Change, Lists, Totals};
 use std::collections::HashSet;
 
 const MOST_NAMES: usize = 256;
@@ -13,8 +13,8 @@ const MOST_LENGTH: usize = 32;
 const SCRIPT: &[u8] = b"Q;";
 const TEXT: &[u8] = b"R;";
 
-/// What both are read as: bytes, statements, records, tokens.
-const COUNTS: [u32; 4] = [2, 1, 1, 2];
+/// What both are read as.
+const TOTALS: Totals = [2, 1, 1, 2, 0];
 
 /// Reads a short script, and amends it, with lists of which one was made at random.
 pub fn compare(random: &mut Random, section: &mut Section) {
@@ -42,10 +42,10 @@ pub fn compare(random: &mut Random, section: &mut Section) {
     }
 }
 
-fn answer(is_good: bool, refused: [u32; 4]) -> Answer {
+fn answer(is_good: bool, held: Totals) -> Answer {
+    let [bytes, statements, records, tokens, latest] = if is_good { TOTALS } else { held };
     let ground = if is_good { 0 } else { 2 };
-    let [bytes, statements, records, tokens] = if is_good { COUNTS } else { refused };
-    [ground, 0, 1, 1, bytes, statements, records, tokens]
+    [ground, 0, 1, 1, bytes, statements, records, tokens, latest]
 }
 
 fn same<T: PartialEq + std::fmt::Debug>(got: &T, expected: &T) -> Result<(), String> {
@@ -59,7 +59,7 @@ fn same<T: PartialEq + std::fmt::Debug>(got: &T, expected: &T) -> Result<(), Str
 fn read(lists: &Lists, is_good: bool) -> Result<(), String> {
     let mut memory = Memory::new(SCRIPT, Room::of(1, 1), lists);
     let before = memory.contents();
-    same(&memory.read()?, &answer(is_good, [0; 4]))?;
+    same(&memory.read()?, &answer(is_good, NOTHING))?;
     same(&(memory.contents() != before), &is_good)
 }
 
@@ -73,7 +73,7 @@ fn amend(lists: &Lists, is_good: bool) -> Result<(), String> {
         statement: 0,
         text: TEXT,
     };
-    same(&memory.amend(change, &COUNTS)?, &answer(is_good, COUNTS))?;
+    same(&memory.amend(change, &TOTALS)?, &answer(is_good, TOTALS))?;
     if is_good {
         expected.script = TEXT.to_vec();
     }

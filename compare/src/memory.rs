@@ -1,5 +1,5 @@
 //! Lent memory with guards around each slice, and the calls on it.
-use calls::{Answer, Change, Lists, ENTRY, RECORD};
+use calls::{Answer, Change, Lists, Totals, ANSWER, ENTRY, RECORD, TOTALS};
 
 /// Guards before and behind each slice.
 const GUARDS: usize = 4;
@@ -139,7 +139,7 @@ impl<'a> Memory<'a> {
     /// Reads the script slice. Script, lists and guards must be as before.
     pub fn read(&mut self) -> Result<Answer, String> {
         let before = self.script.clone();
-        let mut answer = Guarded::new(&[WORD; 8], WORD);
+        let mut answer = Guarded::new(&[WORD; ANSWER], WORD);
         let lists = lists_of(&self.lent);
         calls::read(
             self.script.slice(),
@@ -154,11 +154,11 @@ impl<'a> Memory<'a> {
         self.checked(answer)
     }
 
-    /// Amends what the slices hold, by these counts. Text, lists and guards must be as before.
-    pub fn amend(&mut self, change: Change, counts: &[u32]) -> Result<Answer, String> {
+    /// Amends what the slices hold, with these totals. Text, lists and guards must be as before.
+    pub fn amend(&mut self, change: Change, totals: &Totals) -> Result<Answer, String> {
         let text = Guarded::new(change.text, BYTE);
-        let mut answer = Guarded::new(&[WORD; 8], WORD);
-        answer.slice_mut()[4..].copy_from_slice(counts);
+        let mut answer = Guarded::new(&[WORD; ANSWER], WORD);
+        answer.slice_mut()[ANSWER - TOTALS..].copy_from_slice(totals);
         let lent = Change {
             statement: change.statement,
             text: text.slice(),
@@ -194,7 +194,7 @@ impl<'a> Memory<'a> {
         if !(words && self.script.is_intact() && answer.is_intact()) {
             return Err("the call has written outside its slices".to_string());
         }
-        Ok(answer.slice().try_into().expect("an answer has 8 words"))
+        Ok(answer.slice().try_into().expect("an answer has its length"))
     }
 }
 
@@ -210,5 +210,5 @@ fn words_of(answer: &mut Guarded<u32>) -> &mut Answer {
     answer
         .slice_mut()
         .try_into()
-        .expect("an answer has 8 words")
+        .expect("an answer has its length")
 }

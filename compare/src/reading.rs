@@ -1,7 +1,7 @@
 //! One script: the archive's answer, words and trees beside the Rust's.
-use crate::from_records::{self, Held};
+use crate::from_records::{self, Held, Statement};
 use crate::memory::{Contents, Memory, Room, OLD_ENTRY, OLD_RECORD};
-use crate::rules::{accepted, may_open, refused, LISTS};
+use crate::rules::{accepted, may_open, refused, LISTS, NOTHING};
 use crate::scan::{cut, scan, Fault, Kind, Scan};
 use crate::tree::Tree;
 use crate::verdict::{self, Verdict};
@@ -37,7 +37,7 @@ pub fn compare_memory(script: &str, room: Room) -> Result<(Same, Contents), Stri
 fn judge(script: &str, room: Room, memory: &Memory, answer: Answer) -> Result<Same, String> {
     let text = cut(script.as_bytes());
     if text.len() > MOST_BYTES {
-        let expected = refused(text, Fault { ground: 1, byte: 0 }, &[0; 4]);
+        let expected = refused(text, Fault { ground: 1, byte: 0 }, NOTHING);
         return by_rule(memory, answer, expected);
     }
     let found = scan(text);
@@ -48,14 +48,14 @@ fn judge(script: &str, room: Room, memory: &Memory, answer: Answer) -> Result<Sa
         if fault.ground == 15 {
             no_earlier(text, &found, fault)?;
         }
-        return by_rule(memory, answer, refused(text, fault, &[0; 4]));
+        return by_rule(memory, answer, refused(text, fault, NOTHING));
     }
     match verdict::verdict(script_of(text), &found.pieces)? {
         Verdict::Unlexed(fault, place) => {
             same_place(answer, place)?;
-            as_rust(memory, answer, refused(text, fault, &[0; 4]))
+            as_rust(memory, answer, refused(text, fault, NOTHING))
         }
-        Verdict::Refused(fault) => as_rust(memory, answer, refused(text, fault, &[0; 4])),
+        Verdict::Refused(fault) => as_rust(memory, answer, refused(text, fault, NOTHING)),
         Verdict::Accepted(trees) => judge_accepted(text, room, memory, answer, &found, &trees),
     }
 }
@@ -163,23 +163,19 @@ fn judge_accepted(
     found: &Scan,
     trees: &[Tree],
 ) -> Result<Same, String> {
-    let records = trees.iter().map(Tree::nodes).sum::<usize>();
+    let counts @ [_, statements, records, _] = counts(text, found, trees);
     let fits = records <= MOST_RECORDS.min(room.records / RECORD)
-        && trees.len() <= MOST_STATEMENTS.min(room.directory / ENTRY);
+        && statements <= MOST_STATEMENTS.min(room.directory / ENTRY);
     if !fits {
         let fault = Fault {
             ground: 16,
             byte: text.len(),
         };
-        return by_rule(memory, answer, refused(text, fault, &[0; 4]));
+        return by_rule(memory, answer, refused(text, fault, NOTHING));
     }
-    let tokens = found
-        .pieces
-        .iter()
-        .filter(|piece| piece.kind != Kind::Newline)
-        .count();
-    same_answer(answer, accepted([text.len(), trees.len(), records, tokens]))?;
-    let (record_words, directory_words) = (records * RECORD, trees.len() * ENTRY);
+    let latest = trees.iter().map(Tree::latest).max().unwrap_or(0);
+    same_answer(answer, accepted(counts, latest))?;
+    let (record_words, directory_words) = (records * RECORD, statements * ENTRY);
     untouched(&memory.records()[record_words..], OLD_RECORD)?;
     untouched(&memory.directory()[directory_words..], OLD_ENTRY)?;
     same_trees(
@@ -195,12 +191,33 @@ fn judge_accepted(
     Ok(Same::AsRust(answer))
 }
 
-/// The trees are the Rust's; and each statement's bytes, read by the Rust alone, are that statement.
+/// Bytes, statements, records and tokens.
+fn counts(text: &[u8], found: &Scan, trees: &[Tree]) -> [usize; 4] {
+    let records = trees.iter().map(Tree::nodes).sum();
+    let tokens = found
+        .pieces
+        .iter()
+        .filter(|piece| piece.kind != Kind::Newline);
+    [text.len(), trees.len(), records, tokens.count()]
+}
+
+/// The trees are the Rust's, and so are their latest dates; and each statement's bytes, read by the Rust alone, are that
+/// statement.
 fn same_trees(held: &Held, trees: &[Tree]) -> Result<(), String> {
-    let statements = from_records::statements(held)?;
-    for ((start, end, tree), expected) in statements.iter().zip(trees) {
+    for (statement, expected) in from_records::statements(held)?.iter().zip(trees) {
+        let Statement {
+            start,
+            end,
+            latest,
+            tree,
+        } = statement;
         if tree != expected {
             return Err(format!("the archive reads {tree:?}, the Rust {expected:?}"));
+        }
+        if *latest != expected.latest() {
+            return Err(format!(
+                "the archive's latest date of {expected:?} is {latest}"
+            ));
         }
         let alone = verdict::accepted(script_of(&held.script[*start..*end]))?;
         if alone != [expected.clone()] {

@@ -1,6 +1,6 @@
-//! What an answer is by the rules: places, counts, lists.
+//! What an answer is by the rules: places, totals, lists.
 use crate::scan::Fault;
-use calls::{Answer, Lists};
+use calls::{Answer, Lists, Totals};
 
 /// The lists whose names the Rust and its shims have.
 pub const LISTS: Lists<'static> = Lists {
@@ -9,15 +9,26 @@ pub const LISTS: Lists<'static> = Lists {
     day_counters: oracle::DAY_COUNTERS.as_bytes(),
 };
 
-/// The answer of an accepted call with these counts.
-pub fn accepted(counts: [usize; 4]) -> Answer {
+/// The totals of a reading that was refused.
+pub const NOTHING: Totals = [0; calls::TOTALS];
+
+/// The answer of an accepted call that leaves so many bytes, statements, records and tokens, and this latest date.
+pub fn accepted(counts: [usize; 4], latest: u32) -> Answer {
     let [bytes, statements, records, tokens] = counts.map(|count| count as u32);
-    [0, 0, 1, 1, bytes, statements, records, tokens]
+    answered([0, 0, 1, 1], [bytes, statements, records, tokens, latest])
+}
+
+fn answered(verdict: [u32; 4], totals: Totals) -> Answer {
+    let [number, byte, line, column] = verdict;
+    let [bytes, statements, records, tokens, latest] = totals;
+    [
+        number, byte, line, column, bytes, statements, records, tokens, latest,
+    ]
 }
 
 /// The answer of a refused call: line and column count line feeds and characters before. A UTF-8 continuation byte begins
 /// no character.
-pub fn refused(text: &[u8], fault: Fault, counts: &[u32]) -> Answer {
+pub fn refused(text: &[u8], fault: Fault, totals: Totals) -> Answer {
     let before = &text[..fault.byte];
     let lines = before.iter().filter(|byte| **byte == b'\n').count();
     let column = before
@@ -26,16 +37,8 @@ pub fn refused(text: &[u8], fault: Fault, counts: &[u32]) -> Answer {
         .take_while(|byte| **byte != b'\n')
         .filter(|byte| !matches!(byte, 0x80..=0xBF))
         .count();
-    [
-        fault.ground,
-        fault.byte as u32,
-        lines as u32 + 1,
-        column as u32 + 1,
-        counts[0],
-        counts[1],
-        counts[2],
-        counts[3],
-    ]
+    let place = [fault.byte, lines + 1, column + 1].map(|number| number as u32);
+    answered([fault.ground, place[0], place[1], place[2]], totals)
 }
 
 /// The signs and words that can open a construct which depth counts.

@@ -10,7 +10,7 @@ use crate::scan::scan;
 use crate::spacing;
 use crate::tally::Section;
 use crate::towers::tower;
-use calls::{ENTRY, MOST_BYTES, RECORD};
+use calls::{ENTRY, LATEST, MOST_BYTES, RECORD, TOTALS};
 
 /// One run. Each of its amendments counts.
 pub fn compare(random: &mut Random, section: &mut Section) {
@@ -52,11 +52,14 @@ pub fn run(random: &mut Random) -> Run {
     }
 }
 
-/// A script and how many of its statements are amended. Mostly it has a few statements and is accepted; seldom it fills
-/// one of the capacities.
+/// A script and how many of its statements are amended. Mostly it has a few statements and is accepted; seldom it has none,
+/// or fills one of the capacities.
 fn base(random: &mut Random) -> (String, usize) {
     if random.once_in(40) {
         return (full(random), 3);
+    }
+    if random.once_in(40) {
+        return ("# none\n".to_string(), 0);
     }
     loop {
         let statements = 1 + random.below(5);
@@ -119,30 +122,40 @@ fn text(random: &mut Random) -> String {
     text + random.pick(endings)
 }
 
+/// Words around the limits, and no counts at all.
+const WORDS: [u32; 16] = [
+    0,
+    1,
+    2,
+    3,
+    4,
+    7,
+    16,
+    512,
+    513,
+    2_048,
+    2_049,
+    4_097,
+    16_384,
+    16_385,
+    1 << 31,
+    u32::MAX,
+];
+
+/// No date, days that scripts have and others, and no day's count.
+const DATES: [u32; 8] = [
+    0, 1, 737_484, 737_485, 3_652_058, 3_652_059, 3_652_060, 0xffff_ffff,
+];
+
 fn harm(random: &mut Random) -> Harm {
-    let words = [
-        0,
-        1,
-        2,
-        3,
-        4,
-        7,
-        16,
-        512,
-        513,
-        2_048,
-        2_049,
-        4_097,
-        16_384,
-        16_385,
-        1 << 31,
-        u32::MAX,
-    ];
-    let word = words[random.below(words.len())];
-    if random.once_in(2) {
-        Harm::Count(random.below(4), word)
-    } else {
-        Harm::Entry(random.below(6 * ENTRY), word)
+    let word = WORDS[random.below(WORDS.len())];
+    let mut date = || DATES[random.below(DATES.len())];
+    let dates = [(); 6].map(|()| date());
+    match random.below(4) {
+        0 => Harm::Total(random.below(TOTALS), word),
+        1 => Harm::Entry(random.below(6 * ENTRY), word),
+        2 => Harm::Total(LATEST, dates[0]),
+        _ => Harm::Dates(dates),
     }
 }
 

@@ -14,6 +14,7 @@ use crate::runs;
 use crate::sequences;
 use crate::tally::{Section, Tally};
 use crate::towers;
+use calls::ENTRY;
 use std::process::ExitCode;
 use std::time::{Duration, Instant};
 
@@ -98,7 +99,7 @@ pub fn room(random: &mut Random) -> Room {
     }
     Room {
         records: random.below(200),
-        directory: random.below(24),
+        directory: random.below(6 * ENTRY),
     }
 }
 

@@ -3,13 +3,22 @@ use crate::memory::{Contents, Memory, Room};
 use crate::rules::{accepted, refused, LISTS};
 use crate::scan::{scan, Fault, Kind};
 use calls::{
-    Answer, Change, ENTRY, MOST_BYTES, MOST_RECORDS, MOST_STATEMENTS, MOST_TOKENS, RECORD,
+    Answer, Change, Totals, ENTRY, LATEST, MOST_BYTES, MOST_RECORDS, MOST_STATEMENTS, MOST_TOKENS,
+    RECORD,
 };
 
-/// The memory, and the counts of what it holds: bytes, statements, records, tokens.
+/// The memory, and the totals of what it holds.
 pub struct State<'a> {
     pub contents: &'a Contents,
-    pub counts: [u32; 4],
+    pub totals: Totals,
+}
+
+impl State<'_> {
+    /// Bytes, statements, records, tokens.
+    fn counts(&self) -> [usize; 4] {
+        let [counts @ .., _] = self.totals;
+        counts.map(|count| count as usize)
+    }
 }
 
 /// The answer, and what is left.
@@ -37,14 +46,14 @@ struct Cut {
 pub fn outcome(state: &State, change: Change) -> Result<Outcome, String> {
     let refuse = |text: &[u8], ground, byte| {
         Ok(Outcome {
-            answer: refused(text, Fault { ground, byte }, &state.counts),
+            answer: refused(text, Fault { ground, byte }, state.totals),
             contents: state.contents.clone(),
         })
     };
     if !is_in_order(state) {
         return refuse(change.text, 20, 0);
     }
-    if change.statement >= state.counts[1] {
+    if change.statement >= state.totals[1] {
         return refuse(change.text, 17, 0);
     }
     if change.text.contains(&0) {
@@ -58,24 +67,30 @@ pub fn outcome(state: &State, change: Change) -> Result<Outcome, String> {
         return refuse(change.text, 18, change.text.len());
     }
     let cut = Cut::of(state, change.statement as usize);
-    match totals(state, &cut, change.text, &alone) {
-        Some(counts) => Ok(Outcome {
-            answer: accepted(counts),
-            contents: spliced(state, &cut, change.text, &alone, counts),
-        }),
+    match counts(state, &cut, change.text, &alone) {
+        Some(counts) => Ok(spliced(state, &cut, change.text, &alone, counts)),
         None => refuse(change.text, 16, change.text.len()),
     }
 }
 
-fn entries<'a>(state: &State<'a>) -> impl Iterator<Item = [usize; ENTRY]> + 'a {
-    let used = state.counts[1] as usize * ENTRY;
-    let entries = state.contents.directory[..used].chunks_exact(ENTRY);
-    entries.map(|entry| [0, 1, 2, 3].map(|k| entry[k] as usize))
+/// The entries in some words.
+fn entries(words: &[u32]) -> impl Iterator<Item = [usize; ENTRY]> + '_ {
+    words.chunks_exact(ENTRY).map(|entry| {
+        let entry: [u32; ENTRY] = entry.try_into().expect("a chunk has its length");
+        entry.map(|word| word as usize)
+    })
 }
 
-/// Whether counts fit, and entries are not empty, ascend without overlap inside the script, and sum up to the counts.
+/// The greatest of the entries' latest dates; 0 where there are no entries.
+pub fn latest(words: &[u32]) -> u32 {
+    let dates = words.chunks_exact(ENTRY).map(|entry| entry[LATEST]);
+    dates.max().unwrap_or(0)
+}
+
+/// Whether counts fit, and entries are not empty, ascend without overlap inside the script, and sum up to the counts; and
+/// whether the latest date is the greatest of theirs.
 fn is_in_order(state: &State) -> bool {
-    let [bytes, statements, records, tokens] = state.counts.map(|count| count as usize);
+    let [bytes, statements, records, tokens] = state.counts();
     let contents = state.contents;
     let fits = bytes <= MOST_BYTES.min(contents.script.len())
         && statements <= MOST_STATEMENTS.min(contents.directory.len() / ENTRY)
@@ -84,18 +99,20 @@ fn is_in_order(state: &State) -> bool {
     if !fits {
         return false;
     }
+    let words = &contents.directory[..statements * ENTRY];
     let mut passed = 0;
-    let in_place = entries(state).all(|[start, end, own_records, own_tokens]| {
+    let in_place = entries(words).all(|[start, end, own_records, own_tokens, _]| {
         let ascends = passed <= start && start < end && end <= bytes;
         passed = end;
         ascends && own_records > 0 && own_tokens > 0
     });
     in_place
-        && entries(state).map(|entry| entry[2]).sum::<usize>() == records
-        && entries(state).map(|entry| entry[3]).sum::<usize>() == tokens
+        && entries(words).map(|entry| entry[2]).sum::<usize>() == records
+        && entries(words).map(|entry| entry[3]).sum::<usize>() == tokens
+        && latest(words) == state.totals[LATEST]
 }
 
-/// A text for which the capacities are too small (16) is not refused here; it has no room in the totals.
+/// A text for which the capacities are too small (16) is not refused here; it has no room in the counts.
 fn read_alone(text: &[u8]) -> Result<Alone, String> {
     let mut memory = Memory::new(text, Room::ample(text.len()), &LISTS);
     let answer = memory.read()?;
@@ -119,8 +136,10 @@ fn ends_well(text: &[u8]) -> bool {
 
 impl Cut {
     fn of(state: &State, statement: usize) -> Self {
-        let all: Vec<_> = entries(state).collect();
-        let [start, end, own_records, own_tokens] = all[statement];
+        let all: Vec<_> = entries(&state.contents.directory)
+            .take(state.totals[1] as usize)
+            .collect();
+        let [start, end, own_records, own_tokens, _] = all[statement];
         Self {
             statement,
             start,
@@ -133,11 +152,11 @@ impl Cut {
 }
 
 /// The counts of the whole, where capacity and lent slices have room for it.
-fn totals(state: &State, cut: &Cut, text: &[u8], alone: &Alone) -> Option<[usize; 4]> {
+fn counts(state: &State, cut: &Cut, text: &[u8], alone: &Alone) -> Option<[usize; 4]> {
     if alone.answer[0] == 16 {
         return None;
     }
-    let old = state.counts.map(|count| count as usize);
+    let old = state.counts();
     let new = [4, 5, 6, 7].map(|k| alone.answer[k] as usize);
     let bytes = old[0] - (cut.end - cut.start) + text.len();
     let statements = old[1] - 1 + new[1];
@@ -150,13 +169,15 @@ fn totals(state: &State, cut: &Cut, text: &[u8], alone: &Alone) -> Option<[usize
     fits.then_some([bytes, statements, records, tokens])
 }
 
-fn spliced(state: &State, cut: &Cut, text: &[u8], alone: &Alone, counts: [usize; 4]) -> Contents {
-    let old = state.counts.map(|count| count as usize);
+/// The text, its records and its entries in the place of the old ones.
+fn spliced(state: &State, cut: &Cut, text: &[u8], alone: &Alone, counts: [usize; 4]) -> Outcome {
+    let old = state.counts();
     let contents = state.contents;
     let records = cut.records * RECORD..(cut.records + cut.own_records) * RECORD;
     let new_records = &alone.contents.records[..alone.answer[6] as usize * RECORD];
     let directory = directory(state, cut, text, alone);
-    Contents {
+    let answer = accepted(counts, latest(&directory));
+    let contents = Contents {
         script: replaced(
             &contents.script,
             cut.start..cut.end,
@@ -175,7 +196,8 @@ fn spliced(state: &State, cut: &Cut, text: &[u8], alone: &Alone, counts: [usize;
             &directory,
             (old[1] * ENTRY, counts[1] * ENTRY),
         ),
-    }
+    };
+    Outcome { answer, contents }
 }
 
 /// A slice of which the first `used.0` are used and then the first `used.1`: a range gives way to new words, room that
@@ -194,18 +216,17 @@ fn replaced<T: Copy + Default>(
     out
 }
 
-/// The entries before, the text's moved to its place, and those behind moved by what it is longer.
+/// The entries before, the text's moved to its place, and those behind moved by what it is longer. Their latest dates stay.
 fn directory(state: &State, cut: &Cut, text: &[u8], alone: &Alone) -> Vec<u32> {
-    let old = &state.contents.directory[..state.counts[1] as usize * ENTRY];
+    let old = &state.contents.directory[..state.totals[1] as usize * ENTRY];
     let new = &alone.contents.directory[..alone.answer[5] as usize * ENTRY];
     let longer = text.len() as i64 - (cut.end - cut.start) as i64;
     let moved = |words: &[u32], by: i64| {
-        let entries = words.chunks_exact(ENTRY);
-        let move_entry = |entry: &[u32]| {
-            let place = |word: u32| (i64::from(word) + by) as u32;
-            [place(entry[0]), place(entry[1]), entry[2], entry[3]]
+        let move_word = |(k, word): (usize, &u32)| match k % ENTRY {
+            0 | 1 => (i64::from(*word) + by) as u32,
+            _ => *word,
         };
-        entries.flat_map(move_entry).collect::<Vec<_>>()
+        words.iter().enumerate().map(move_word).collect::<Vec<_>>()
     };
     let mut words = old[..cut.statement * ENTRY].to_vec();
     words.extend(moved(new, cut.start as i64));

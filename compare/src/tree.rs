@@ -34,6 +34,16 @@ impl Tree {
     pub fn nodes(&self) -> usize {
         1 + self.parts.iter().map(Self::nodes).sum::<usize>()
     }
+
+    /// The latest of all dates, of whatever kind the node is that has one; 0 where there is none.
+    pub fn latest(&self) -> u32 {
+        let own = self.facts.iter().map(|fact| match fact {
+            Fact::Date(count) => *count,
+            _ => 0,
+        });
+        let below = self.parts.iter().map(Self::latest);
+        own.chain(below).max().unwrap_or(0)
+    }
 }
 
 impl std::fmt::Debug for Tree {

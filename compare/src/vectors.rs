@@ -2,7 +2,7 @@
 use crate::amending::Run;
 use crate::memory::{Contents, Room, OLD_ENTRY, OLD_RECORD};
 use crate::rules::LISTS;
-use calls::Answer;
+use calls::{totals, Answer};
 use std::fmt::{LowerHex, Write};
 
 /// Equal items that follow each other are written as one with their number, from so many on.
@@ -31,7 +31,7 @@ pub fn run(title: &str, run: &Run, trace: &[(Answer, Contents)]) -> String {
     let (first, rest) = trace.split_first().expect("a trace has its first state");
     let unread = unread(run.lent(), run.room);
     let mut out = if run.harm.is_some() {
-        begin(title, &first.1) + &format!("counts {}\n", numbers(&first.0[4..]))
+        begin(title, &first.1) + &format!("counts {}\n", numbers(&totals(&first.0)))
     } else {
         begin(title, &unread) + &call("read", first.0, &unread, &first.1)
     };

@@ -25,8 +25,8 @@ pub fn amend(
     records: &mut [u32],
     directory: &mut [u32],
 ) -> Result<Counts, Refusal> {
-    let Counts { bytes, statements, records: held_records, tokens } = held;
-    let mut answer = [0, 0, 0, 0, bytes, statements, held_records, tokens];
+    let Counts { bytes, statements, records: held_records, tokens, latest } = held;
+    let mut answer = [0, 0, 0, 0, bytes, statements, held_records, tokens, latest];
     foreign::amend(script, statement, text, lists, records, directory, &mut answer);
     outcome(answer)
 }

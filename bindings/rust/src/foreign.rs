@@ -8,8 +8,8 @@
 use crate::lists::Lists;
 use crate::RECORD_WORDS;
 
-/// Number, byte, line, column, bytes, statements, records, tokens.
-pub(crate) type Answer = [u32; 8];
+/// Number, byte, line, column; and then the state: bytes, statements, records, tokens, latest date.
+pub(crate) type Answer = [u32; 9];
 
 /// 0 for the script or 1 for the list of currencies, first byte, length.
 pub(crate) type Place = [u32; 3];
@@ -70,7 +70,7 @@ extern "C" {
 }
 
 pub(crate) fn read(script: &[u8], lists: &Lists, records: &mut [u32], directory: &mut [u32]) -> Answer {
-    let mut answer = [0; 8];
+    let mut answer = Answer::default();
     // SAFETY: every pointer and length is of one live slice or array, and those that are written are borrowed alone.
     unsafe {
         script_read(
@@ -92,7 +92,7 @@ pub(crate) fn read(script: &[u8], lists: &Lists, records: &mut [u32], directory:
     answer
 }
 
-/// The last four words of `answer` are the counts that the memory holds, before and after.
+/// The last five words of `answer` are the state of the memory, before and after.
 pub(crate) fn amend(
     script: &mut [u8],
     statement: u32,
@@ -155,4 +155,25 @@ pub(crate) fn day(count: u32) -> Day {
     // SAFETY: as in `read`.
     unsafe { calendar_day(count, &mut day) };
     day
+}
+
+#[cfg(test)]
+mod tests {
+    use super::{amend, read};
+    use crate::{Lists, ENTRY_WORDS, RECORD_WORDS};
+
+    #[test]
+    fn a_refused_call_answers_0_or_the_state_that_it_was_lent() {
+        let (mut records, mut directory) = ([0; RECORD_WORDS], [0; ENTRY_WORDS]);
+        let lists = Lists::default();
+        let mut script = *b"Df(\"2026-06-30\");";
+        assert_eq!(read(&script[..16], &lists, &mut records, &mut directory), [8, 16, 1, 17, 0, 0, 0, 0, 0]);
+        let mut answer = read(&script, &lists, &mut records, &mut directory);
+        assert_eq!(answer, [0, 0, 1, 1, 17, 1, 1, 5, 739_797]);
+        amend(&mut script, 0, b"x", &lists, &mut records, &mut directory, &mut answer);
+        assert_eq!(answer, [8, 1, 1, 2, 17, 1, 1, 5, 739_797]);
+        answer[8] += 1;
+        amend(&mut script, 0, b"x;", &lists, &mut records, &mut directory, &mut answer);
+        assert_eq!(answer, [20, 0, 1, 1, 17, 1, 1, 5, 739_798]);
+    }
 }

@@ -44,5 +44,5 @@ pub const RECORDS: usize = 2_048;
 pub const STATEMENTS: usize = 512;
 /// Words of a record: kind, nodes in its subtree, direct parts, four fields.
 pub const RECORD_WORDS: usize = 7;
-/// Words of a directory entry: first byte, byte past the last token, records, tokens.
-pub const ENTRY_WORDS: usize = 4;
+/// Words of a directory entry: first byte, byte past the last token, records, tokens, count of the latest date's day.
+pub const ENTRY_WORDS: usize = 5;

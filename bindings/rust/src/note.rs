@@ -2,6 +2,7 @@
 
 use crate::answer::{Counts, Refusal};
 use crate::calls;
+use crate::date::Date;
 use crate::lists::Lists;
 use crate::statement::Statement;
 use crate::{BYTES, ENTRY_WORDS, RECORDS, RECORD_WORDS, STATEMENTS};
@@ -55,6 +56,11 @@ impl<'l> Note<'l> {
         self.counts
     }
 
+    /// The latest date of its statements, if they have any.
+    pub fn latest(&self) -> Option<Date> {
+        Date::from_count(self.counts.latest)
+    }
+
     /// The lists that it was read with.
     pub fn lists(&self) -> Lists<'l> {
         self.lists
@@ -77,7 +83,7 @@ impl<'l> Note<'l> {
         entries.zip(0..).map(move |(entry, number)| {
             let (words, behind) = left.split_at(entry[2] as usize * RECORD_WORDS);
             left = behind;
-            Statement { note: self, number, start: entry[0], end: entry[1], tokens: entry[3], words }
+            Statement { note: self, number, start: entry[0], end: entry[1], tokens: entry[3], latest: entry[4], words }
         })
     }
 }

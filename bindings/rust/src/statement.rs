@@ -1,6 +1,7 @@
 //! The statements of a note, and their trees.
 
 use crate::calls::{part, Part, Which};
+use crate::date::Date;
 use crate::note::Note;
 use crate::record::Record;
 use crate::RECORD_WORDS;
@@ -13,6 +14,7 @@ pub struct Statement<'a> {
     pub(crate) start: u32,
     pub(crate) end: u32,
     pub(crate) tokens: u32,
+    pub(crate) latest: u32,
     pub(crate) words: &'a [u32],
 }
 
@@ -53,6 +55,12 @@ impl<'a> Statement<'a> {
     /// How many tokens it has, line breaks aside.
     pub fn tokens(&self) -> u32 {
         self.tokens
+    }
+
+    /// The latest date of its records, if they have any: of Spot, Df, RateIndex and Pays, those in its bodies among them. The
+    /// strings of a cvg are no dates.
+    pub fn latest(&self) -> Option<Date> {
+        Date::from_count(self.latest)
     }
 
     /// Its bytes.

@@ -2,11 +2,11 @@
 
 mod common;
 
-use common::{assert_as_read, LISTS};
+use common::{assert_as_read, latest_of_records, LISTS};
 use gorembiin::{Fields, Note, Which};
 
 /// Pieces of scripts, and bytes that have no place in one.
-const PIECES: [&[u8]; 32] = [
+const PIECES: [&[u8]; 33] = [
     b"x",
     b"y1",
     b" = ",
@@ -35,6 +35,7 @@ const PIECES: [&[u8]; 32] = [
     b"pays ",
     b"\"EUR\"",
     b" in \"USD\"",
+    b" on \"2026-06-30\"",
     b"Spot(",
     b".mean()",
     b"$",
@@ -54,11 +55,13 @@ impl Dice {
     fn text(&mut self) -> Vec<u8> {
         let mut text = Vec::new();
         for _ in 0..self.below(5) {
-            match self.below(6) {
+            let year = 2020 + self.below(8);
+            match self.below(7) {
                 0 => text.extend(b"if x { y = -2**2; } else { pays x; }\n"),
                 1 => text.extend(b"x += Spot(\"EUR\", \"CHF\");"),
                 2 => text.extend(b"for i in [1, 2] { z pays i in \"CHF\"; } # c\n"),
                 3 => text.extend(b"\"a\";"),
+                4 => text.extend(format!("if x {{ pays Df(\"{year}-01-01\") on \"2024-01-01\"; }}\n").bytes()),
                 _ => text.extend((0..self.below(6)).flat_map(|_| PIECES[self.below(PIECES.len())])),
             }
         }
@@ -66,11 +69,13 @@ impl Dice {
     }
 }
 
-/// Each tree has all records of its statement, each name is what its fields place, and the statements have all records.
+/// Each tree has all records of its statement, each name is what its fields place, and the statements have all records. The
+/// latest dates are those of the records.
 fn assert_whole(note: &Note) {
     let mut records = 0;
     for statement in note.statements() {
         assert_eq!(statement.tree().count(), statement.records().len());
+        assert_eq!(statement.latest(), latest_of_records(&statement));
         records += statement.records().len();
         for record in statement.records() {
             if let Fields::Name(place) | Fields::ForEach { variable: place } = record.fields() {
@@ -80,6 +85,7 @@ fn assert_whole(note: &Note) {
         }
     }
     assert_eq!(records, note.counts().records as usize);
+    assert_eq!(note.latest(), note.statements().filter_map(|statement| statement.latest()).max());
 }
 
 #[test]

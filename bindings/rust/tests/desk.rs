@@ -88,7 +88,7 @@ const NOTE: &[u8] = b"rate = 0.05;\nx pays rate in \"EUR\";\n";
 fn check_says_the_counts() {
     let folder = Folder::new("check_says_the_counts");
     folder.put("note", NOTE);
-    let accepted = "note: accepted: 35 bytes, 2 statements, 9 records, 10 tokens\n";
+    let accepted = "note: accepted: 35 bytes, 2 statements, 9 records, 10 tokens, no date\n";
     assert_eq!(folder.desk(&["check", "note"]), says(0, accepted));
     let answer = folder.desk_on(&["check", "-"], NOTE);
     assert_eq!(answer, says(0, &accepted.replace("note", "standard input")));
@@ -199,9 +199,9 @@ fn a_malformed_list_is_named() {
 fn show_prints_trees_with_names_and_places() {
     let folder = Folder::new("show_prints_trees_with_names_and_places");
     folder.put("note", b"# c\r\nx = Spot(\"EUR\") * -2**2;\r\npays \"a\tb\"\r\non \"2026-06-30\"");
-    let expected = "note: accepted: 58 bytes, 2 statements, 9 records, 16 tokens
+    let expected = "note: accepted: 58 bytes, 2 statements, 9 records, 16 tokens, latest date 2026-06-30
 
-statement 0, line 2, bytes 5..29: 7 records, 12 tokens
+statement 0, line 2, bytes 5..29: 7 records, 12 tokens, no date
   | x = Spot(\"EUR\") * -2**2;
   Assign
     Variable x at 5..6
@@ -211,7 +211,7 @@ statement 0, line 2, bytes 5..29: 7 records, 12 tokens
         Constant -2 at 24..25
         Constant 2 at 27..28
 
-statement 1, line 3, bytes 31..58: 2 records, 4 tokens
+statement 1, line 3, bytes 31..58: 2 records, 4 tokens, latest date 2026-06-30
   | pays \"a\tb\"
   | on \"2026-06-30\"
   Pays on 2026-06-30
@@ -235,11 +235,12 @@ before:
 after, statements 0 to 1:
   | rate = 0.06;
   | floor = 0.01;
-           before  after
-bytes          35     49
-statements      2      3
-records         9     12
-tokens         10     14
+                before      after
+bytes               35         49
+statements           2          3
+records              9         12
+tokens              10         14
+latest date       none       none
 note: not written, which takes --write
 ";
     assert_eq!(folder.desk(&["amend", "note", "0", "new"]), says(0, expected));
@@ -383,6 +384,27 @@ fn dates_are_shown_in_every_kind_that_has_them() {
         let answer = folder.desk_on(&["show", "-"], script.as_bytes());
         assert_eq!(answer.said.lines().last(), Some(format!("  {expected}").as_str()));
     }
+}
+
+#[test]
+fn the_latest_date_is_shown_before_and_after() {
+    let folder = Folder::new("the_latest_date_is_shown_before_and_after");
+    folder.put("note", b"Df(\"2030-01-01\"); Df(\"2020-01-01\");");
+    let cases = [
+        ("0", "\n", "latest date 2030-01-01 2020-01-01"),
+        ("1", "Df(\"9999-12-31\");", "latest date 2030-01-01 9999-12-31"),
+        ("1", "cvg(\"2040-01-01\", \"2040-07-01\", \"A360\");", "latest date 2030-01-01 2030-01-01"),
+        ("0", "x = 1;", "latest date 2030-01-01 2020-01-01"),
+    ];
+    folder.put("days", b"A360\n");
+    for (statement, text, expected) in cases {
+        let words = ["amend", "note", statement, "-", "--day-counters", "days"];
+        let answer = folder.desk_on(&words, text.as_bytes());
+        assert!(answer.said.lines().any(|line| line == expected), "{text}: {}", answer.said);
+    }
+    folder.put("note", b"Df(\"2030-01-01\");");
+    let answer = folder.desk(&["amend", "note", "0", "-"]);
+    assert!(answer.said.contains("\nlatest date 2030-01-01       none\n"), "{}", answer.said);
 }
 
 #[test]

@@ -128,7 +128,7 @@ fn a_malformed_list_is_refused() {
 fn a_zero_byte_ends_a_script() {
     let note = Note::read(b"x = 1;\0y = ", LISTS).unwrap();
     assert_eq!(note.script(), b"x = 1;");
-    assert_eq!(note.counts(), Counts { bytes: 6, statements: 1, records: 3, tokens: 4 });
+    assert_eq!(note.counts(), Counts { bytes: 6, statements: 1, records: 3, tokens: 4, latest: 0 });
 }
 
 #[test]

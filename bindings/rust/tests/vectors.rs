@@ -135,8 +135,8 @@ fn numbers(fields: &[&str]) -> Vec<u32> {
 }
 
 fn counts_of(numbers: &[u32]) -> Counts {
-    let &[bytes, statements, records, tokens] = numbers else { panic!("there are four counts") };
-    Counts { bytes, statements, records, tokens }
+    let &[bytes, statements, records, tokens, latest] = numbers else { panic!("a state has five numbers") };
+    Counts { bytes, statements, records, tokens, latest }
 }
 
 /// Before a call a slice is set up; after it, it is compared.
@@ -153,14 +153,14 @@ fn lent(lists: &[Vec<u8>; 3]) -> Lists<'_> {
     Lists { reserved, currencies, day_counters }
 }
 
-/// The eight numbers of an answer. A refusal leaves the counts that were held.
-fn answer_words(answer: Result<Counts, Refusal>, held: Counts) -> [u32; 8] {
+/// The nine numbers of an answer. A refusal leaves the counts that were held.
+fn answer_words(answer: Result<Counts, Refusal>, held: Counts) -> [u32; 9] {
     let [number, byte, line, column] = match answer {
         Ok(_) => [0, 0, 1, 1],
         Err(refusal) => [refusal.ground.number(), refusal.byte, refusal.line, refusal.column],
     };
-    let Counts { bytes, statements, records, tokens } = answer.unwrap_or(held);
-    [number, byte, line, column, bytes, statements, records, tokens]
+    let Counts { bytes, statements, records, tokens, latest } = answer.unwrap_or(held);
+    [number, byte, line, column, bytes, statements, records, tokens, latest]
 }
 
 /// A panic's message does not know the line; this says it when a test fails.

@@ -2,9 +2,14 @@
 
 mod raw;
 
-/// Words of a record, and of an entry of the directory.
+/// Words of a record, of an entry of the directory, of an answer, and of the totals in which it ends.
 pub const RECORD: usize = 7;
-pub const ENTRY: usize = 4;
+pub const ENTRY: usize = 5;
+pub const ANSWER: usize = 9;
+pub const TOTALS: usize = 5;
+
+/// The word of an entry, and of the totals, that has the latest date: a day count, 0 where there is none.
+pub const LATEST: usize = 4;
 
 /// The most that the archive takes.
 pub const MOST_BYTES: usize = 16_384;
@@ -12,8 +17,16 @@ pub const MOST_TOKENS: usize = 4_096;
 pub const MOST_RECORDS: usize = 2_048;
 pub const MOST_STATEMENTS: usize = 512;
 
-/// What a call answers: number, byte, line, column, and the counts of bytes, statements, records, tokens.
-pub type Answer = [u32; 8];
+/// What a call answers: number, byte, line, column, and the totals.
+pub type Answer = [u32; ANSWER];
+
+/// Of a whole script: bytes, statements, records, tokens, latest date.
+pub type Totals = [u32; TOTALS];
+
+/// The totals of an answer.
+pub fn totals(answer: &Answer) -> Totals {
+    *answer.last_chunk().expect("an answer ends in its totals")
+}
 
 /// The three lists of names, each name ended by a line feed.
 #[derive(Clone, Copy)]
@@ -65,7 +78,7 @@ pub struct Change<'a> {
     pub text: &'a [u8],
 }
 
-/// The last four words of `answer` are the counts of what the memory holds.
+/// The totals in `answer` are those of what the memory holds.
 pub fn amend(
     script: &mut [u8],
     change: Change,

@@ -1,4 +1,5 @@
 //! The functions of `libarchive.a`. A slice is a pointer and a length.
+use super::{Answer, RECORD};
 
 extern "C" {
     pub fn script_read(
@@ -14,7 +15,7 @@ extern "C" {
         records_length: usize,
         directory: *mut u32,
         directory_length: usize,
-        answer: *mut [u32; 8],
+        answer: *mut Answer,
     );
 
     pub fn script_amend(
@@ -33,7 +34,7 @@ extern "C" {
         records_length: usize,
         directory: *mut u32,
         directory_length: usize,
-        answer: *mut [u32; 8],
+        answer: *mut Answer,
     );
 
     pub fn script_part(
@@ -41,7 +42,7 @@ extern "C" {
         script_length: usize,
         currencies: *const u8,
         currencies_length: usize,
-        record: *const [u32; 7],
+        record: *const [u32; RECORD],
         start: u32,
         second: bool,
         place: *mut [u32; 3],

@@ -3,7 +3,7 @@
 
 pub mod calendar;
 
-use gorembiin::{Fields, Ground, Lists, Note, Refusal, Statement, Which};
+use gorembiin::{Date, Fields, Ground, Lists, Note, Refusal, Statement, Which};
 
 /// Lists with names in all three.
 pub const LISTS: Lists =
@@ -45,6 +45,17 @@ pub fn tree_of(script: &str) -> String {
     assert_eq!(note.counts().statements, 1, "{script}");
     let statement = note.statements().next().unwrap();
     tree(&statement)
+}
+
+/// The latest date that the fields of a statement's records have.
+pub fn latest_of_records(statement: &Statement) -> Option<Date> {
+    let latest = statement.records().map(|record| match record.fields() {
+        Fields::Spot { date, .. } | Fields::EquitySpot { date, .. } => date,
+        Fields::Df { date, .. } | Fields::Pays { date, .. } => date,
+        Fields::RateIndex { from, to, .. } => from.max(to),
+        _ => None,
+    });
+    latest.max().flatten()
 }
 
 /// A note must be what reading its script from the start gives.

@@ -2,7 +2,7 @@
 
 use std::io::{self, Write};
 
-use gorembiin::{Counts, Ground, Note};
+use gorembiin::{Ground, Note};
 
 use crate::failure::Failure;
 use crate::files::{self, Source};
@@ -29,7 +29,7 @@ pub fn amend(change: &Change, listed: &Listed, out: &mut impl Write) -> Result<V
     }
     writeln!(out, "{what}: accepted")?;
     print_change(&before, &after, change, &text, out)?;
-    print_counts(before.counts(), after.counts(), out)?;
+    print_states(&before, &after, out)?;
     if change.write {
         // what is behind the script's end is not the library's, and stays
         let behind = &source.bytes[before.script().len()..];
@@ -63,16 +63,18 @@ fn print_change(before: &Note, after: &Note, change: &Change, text: &Source, out
     write!(out, "after, {read}:\n{}", quoted(&text.bytes))
 }
 
-fn print_counts(before: Counts, after: Counts, out: &mut impl Write) -> io::Result<()> {
+fn print_states(before: &Note, after: &Note, out: &mut impl Write) -> io::Result<()> {
+    let (old, new) = (before.counts(), after.counts());
     let rows = [
-        ("bytes", before.bytes, after.bytes),
-        ("statements", before.statements, after.statements),
-        ("records", before.records, after.records),
-        ("tokens", before.tokens, after.tokens),
+        ("bytes", old.bytes, new.bytes),
+        ("statements", old.statements, new.statements),
+        ("records", old.records, new.records),
+        ("tokens", old.tokens, new.tokens),
     ];
-    writeln!(out, "{:<10} {:>6} {:>6}", "", "before", "after")?;
-    for (name, before, after) in rows {
-        writeln!(out, "{name:<10} {before:>6} {after:>6}")?;
+    writeln!(out, "{:<11} {:>10} {:>10}", "", "before", "after")?;
+    for (name, old, new) in rows {
+        writeln!(out, "{name:<11} {old:>10} {new:>10}")?;
     }
-    Ok(())
+    let latest = |note: &Note| note.latest().map_or("none".to_owned(), |date| date.to_string());
+    writeln!(out, "{:<11} {:>10} {:>10}", "latest date", latest(before), latest(after))
 }

@@ -2,7 +2,7 @@
 
 use std::io::{self, Write};
 
-use gorembiin::{Counts, Note};
+use gorembiin::{Counts, Date, Note};
 
 use crate::failure::Failure;
 use crate::files::Source;
@@ -19,16 +19,21 @@ pub fn check(source: &Source, listed: &Listed, out: &mut impl Write) -> Result<V
 }
 
 pub fn print_counts(source: &Source, note: &Note, out: &mut impl Write) -> io::Result<()> {
-    let Counts { bytes, statements, records, tokens } = note.counts();
+    let Counts { bytes, statements, records, tokens, .. } = note.counts();
     let counts = [(bytes, "byte"), (statements, "statement"), (records, "record"), (tokens, "token")];
     let counts = counts.map(|(count, noun)| counted(count as usize, noun));
-    writeln!(out, "{}: accepted: {}", source.name, counts.join(", "))?;
+    writeln!(out, "{}: accepted: {}, {}", source.name, counts.join(", "), latest(note.latest()))?;
     let behind = source.bytes.len() - note.script().len();
     if behind != 0 {
         let behind = counted(behind, "byte");
         writeln!(out, "{}: the script ends at the zero byte {bytes}, which leaves {behind} unread", source.name)?;
     }
     Ok(())
+}
+
+/// The latest of some dates, in words.
+pub fn latest(date: Option<Date>) -> String {
+    date.map_or("no date".to_owned(), |date| format!("latest date {date}"))
 }
 
 /// A number with its noun.

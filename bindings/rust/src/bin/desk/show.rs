@@ -4,7 +4,7 @@ use std::io::{self, Write};
 
 use gorembiin::{Date, Fields, Kind, Part, Place, Record, Source as Of, Statement, Which};
 
-use crate::check::{counted, print_counts};
+use crate::check::{counted, latest, print_counts};
 use crate::failure::Failure;
 use crate::files::Source;
 use crate::listed::Listed;
@@ -31,8 +31,9 @@ fn line_feeds(bytes: &[u8]) -> usize {
 fn print_statement(statement: &Statement, line: usize, out: &mut impl Write) -> io::Result<()> {
     let records = counted(statement.records().len(), "record");
     let tokens = counted(statement.tokens() as usize, "token");
+    let latest = latest(statement.latest());
     let (number, start, end) = (statement.number(), statement.start(), statement.end());
-    writeln!(out, "\nstatement {number}, line {line}, bytes {start}..{end}: {records}, {tokens}")?;
+    writeln!(out, "\nstatement {number}, line {line}, bytes {start}..{end}: {records}, {tokens}, {latest}")?;
     out.write_all(quoted(statement.text()).as_bytes())?;
     for branch in statement.tree() {
         let indent = 2 + 2 * branch.depth;
