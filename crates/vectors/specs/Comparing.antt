@@ -15,21 +15,22 @@ use Rattle.amending.specs.declared.held.Held.{Held}
 abbrev pub leftKind : ℕ → Bool
 leftKind k = within 4 7 k
 
--- the counts that are lent to the next call stand at 6 to 9 of what is known of a case
+-- the counts and the latest date that are lent to the next call stand at 6 to 10 of what is known of a case
 abbrev pub heldIn : List ℕ → Held
-heldIn l = record { bytes = getD l 6 0; statements = getD l 7 0; records = getD l 8 0; tokens = getD l 9 0 }
+heldIn l = record { bytes = getD l 6 0; statements = getD l 7 0; records = getD l 8 0; tokens = getD l 9 0; latest = getD l 10 0 }
 
--- ---- answers: the eight stored numbers are l
+-- ---- answers: the nine stored numbers are l
 
 -- number, byte, line, column
 unfoldable pub groundStored : List ℕ → Answer → Bool
 groundStored l a =
     eqb (a .number) (getD l 0 0) && (eqb (a .byte) (getD l 1 0) && (eqb (a .line) (getD l 2 0) && eqb (a .column) (getD l 3 0)))
 
--- bytes, statements, records, tokens
+-- bytes, statements, records, tokens, latest
 unfoldable pub countsStored : List ℕ → Answer → Bool
 countsStored l a =
-    eqb (a .bytes) (getD l 4 0) && (eqb (a .statements) (getD l 5 0) && (eqb (a .records) (getD l 6 0) && eqb (a .tokens) (getD l 7 0)))
+    eqb (a .bytes) (getD l 4 0)
+    && (eqb (a .statements) (getD l 5 0) && (eqb (a .records) (getD l 6 0) && (eqb (a .tokens) (getD l 7 0) && eqb (a .latest) (getD l 8 0))))
 
 abbrev pub answerStored : List ℕ → Answer → Bool
 answerStored l a = groundStored l a && countsStored l a

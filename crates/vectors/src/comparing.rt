@@ -1,4 +1,5 @@
 // Whether a call answered and left what is stored.
+use crate::fields::Numbers;
 use crate::kinds::DIRECTORY;
 use crate::kinds::RECORDS;
 use crate::kinds::SAME;
@@ -28,7 +29,7 @@ ghost use Rattle.vectors.specs.Comparing.{groundStored, countsStored, an
 // What a line comes to where the call gave or left something else, beside the sizes above the room.
 pub const DIFFERS: usize = 32770;
 
-fn has_ground(answer: &[usize; 8], a: Answer) -> bool
+fn has_ground(answer: &Numbers, a: Answer) -> bool
     ensures { λ r. ⌜ r ≡ groundStored (now (answer .entry)) a ⌝ }
 {
     if a.number as usize != answer[0] {
@@ -37,17 +38,18 @@ fn has_ground(answer: &[usize; 8], a: Answer) -> bool
     a.byte == answer[1] && (a.line == answer[2] && a.column == answer[3])
 }
 
-fn has_counts(answer: &[usize; 8], a: Answer) -> bool
+fn has_counts(answer: &Numbers, a: Answer) -> bool
     ensures { λ r. ⌜ r ≡ countsStored (now (answer .entry)) a ⌝ }
 {
     if a.bytes != answer[4] {
         return false;
     }
-    a.statements == answer[5] && (a.records == answer[6] && a.tokens == answer[7])
+    a.statements == answer[5]
+        && (a.records == answer[6] && (a.tokens == answer[7] && a.latest == answer[8]))
 }
 
-// Whether an answer is the stored one, in all its eight numbers.
-pub fn agrees(answer: &[usize; 8], a: Answer) -> bool
+// Whether an answer is the stored one, in all its nine numbers.
+pub fn agrees(answer: &Numbers, a: Answer) -> bool
     ensures { λ r. ⌜ r ≡ answerStored (now (answer .entry)) a ⌝ }
 {
     has_ground(answer, a) && has_counts(answer, a)

@@ -11,6 +11,11 @@ pub const LARGEST: usize = 4294967295;
 // A number above this takes no further digit.
 const TAKES_MORE: usize = 429496729;
 
+// The most numbers that follow each other in a line: those of an answer.
+pub const NUMBERS: usize = 9;
+
+pub type Numbers = [usize; NUMBERS];
+
 // The first place from `at` on where the byte `b` stands before `end`, or else `end`.
 pub fn seek(s: &[u8], at: usize, end: usize, b: u8) -> usize
     requires { ⌜ (at ≤ end) × (end ≤ length (now s)) ⌝ }
@@ -81,13 +86,13 @@ pub fn number(s: &[u8], at: usize, end: usize, hex: bool) -> usize
 }
 
 // Puts the numbers of the fields from `at` to `end` at the start of `out`, and answers how many there are.
-pub fn numbers(s: &[u8], at: usize, end: usize, out: &mut [usize; 8]) -> usize
+pub fn numbers(s: &[u8], at: usize, end: usize, out: &mut Numbers) -> usize
     requires { ⌜ (at ≤ end) × (end ≤ length (now s)) ⌝ }
 {
     let mut i = at;
     let mut k: usize = 0;
     while i < end {
-        if k == 8 {
+        if k == NUMBERS {
             return MALFORMED;
         }
         let f = seek(s, i, end, b' ');

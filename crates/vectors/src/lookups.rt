@@ -2,6 +2,7 @@
 use crate::comparing::DIFFERS;
 use crate::fields::LARGEST;
 use crate::fields::MALFORMED;
+use crate::fields::NUMBERS;
 use crate::fields::after;
 use crate::fields::behind;
 use crate::fields::numbers;
@@ -203,11 +204,11 @@ pub fn take_part<'a>(
     if load_words(s, at, f, &mut words) != RECORD_WIDTH {
         return MALFORMED;
     }
-    let mut asked = [0usize; 8];
+    let mut asked = [0usize; NUMBERS];
     if numbers(s, g, h, &mut asked) != 2 {
         return MALFORMED;
     }
-    let mut told = [0usize; 8];
+    let mut told = [0usize; NUMBERS];
     if numbers(s, i, end, &mut told) != 2 {
         return MALFORMED;
     }

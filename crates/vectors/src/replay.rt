@@ -5,6 +5,8 @@ use crate::comparing::agrees;
 use crate::comparing::compare_left;
 use crate::comparing::is_left;
 use crate::fields::MALFORMED;
+use crate::fields::NUMBERS;
+use crate::fields::Numbers;
 use crate::fields::after;
 use crate::fields::behind;
 use crate::fields::numbers;
@@ -87,15 +89,15 @@ fn take_lists(
 fn take_counts(s: &[u8], at: usize, end: usize, state: &mut State) -> usize
     requires { ⌜ (at ≤ end) × (end ≤ length (now s)) ⌝ }
 {
-    let mut n = [0usize; 8];
-    if numbers(s, at, end, &mut n) != 4 {
+    let mut n = [0usize; NUMBERS];
+    if numbers(s, at, end, &mut n) != 5 {
         return MALFORMED;
     }
-    keep_counts(state, n[0], n[1], n[2], n[3]);
+    keep_counts(state, n[0], n[1], n[2], n[3], n[4]);
     0
 }
 
-fn compared(answer: &[usize; 8], given: Answer, tally: &mut Tallies) -> usize {
+fn compared(answer: &Numbers, given: Answer, tally: &mut Tallies) -> usize {
     let ground = answer[0];
     count(tally, ground);
     if agrees(answer, given) {
@@ -117,7 +119,7 @@ fn answer_at(kind: usize, s: &[u8], at: usize, end: usize) -> usize
     after(s, after(s, at, end), end)
 }
 
-// Compares what a call gave, whose counts are those of the calls that follow, with the stored answer.
+// Compares what a call gave, whose counts and latest date are those of the calls that follow, with the stored answer.
 fn take_answer(
     s: &[u8],
     at: usize,
@@ -134,12 +136,13 @@ fn take_answer(
         given.statements,
         given.records,
         given.tokens,
+        given.latest,
     );
     if ROOM < state[ASKED] {
         return state[ASKED];
     }
-    let mut answer = [0usize; 8];
-    if numbers(s, at, end, &mut answer) != 8 {
+    let mut answer = [0usize; NUMBERS];
+    if numbers(s, at, end, &mut answer) != NUMBERS {
         return MALFORMED;
     }
     if GROUNDS <= answer[0] {
@@ -271,7 +274,7 @@ pub fn replay(path: &[u8], s: &[u8], tally: &mut Tallies) {
     let mut reserved = [0u8; 32768];
     let mut currencies = [0u8; 32768];
     let mut days = [0u8; 32768];
-    let mut state = [0usize; 14];
+    let mut state = [0usize; 15];
     let mut at: usize = 0;
     while at < s.len() {
         let end = seek(s, at, s.len(), b'\n');

@@ -50,6 +50,8 @@ pub fn say_answer(a: Answer) {
     say_number(a.records);
     say(b" tokens ");
     say_number(a.tokens);
+    say(b" latest ");
+    say_number(a.latest);
     say(b" for ");
 }
 

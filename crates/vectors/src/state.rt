@@ -1,10 +1,11 @@
-// What is known of a case between its lines, in one array: how much is used of each memory, the four counts, where the case's
-// text begins, whether a call was run, whether the last one changed memory, and what the fields that it was asked with came to.
+// What is known of a case between its lines, in one array: how much is used of each memory, the four counts, the latest date,
+// where the case's text begins, whether a call was run, whether the last one changed memory, and what the fields that it was
+// asked with came to.
 use amending::held::Held;
 ghost use mathlib.Core.Path.{_≡_};
 ghost use Rattle.vectors.specs.Comparing.{heldIn};
 
-pub type State = [usize; 14];
+pub type State = [usize; 15];
 
 pub const SCRIPT_SIZE: usize = 0;
 
@@ -26,13 +27,15 @@ const RECORDS_HELD: usize = 8;
 
 const TOKENS_HELD: usize = 9;
 
-pub const CASE_AT: usize = 10;
+const LATEST_HELD: usize = 10;
 
-pub const RAN: usize = 11;
+pub const CASE_AT: usize = 11;
 
-pub const CHANGED: usize = 12;
+pub const RAN: usize = 12;
 
-pub const ASKED: usize = 13;
+pub const CHANGED: usize = 13;
+
+pub const ASKED: usize = 14;
 
 // A case begins: all memory is forgotten.
 pub fn begin(state: &mut State, at: usize) {
@@ -42,7 +45,7 @@ pub fn begin(state: &mut State, at: usize) {
     state[RESERVED_SIZE] = 0;
     state[CURRENCIES_SIZE] = 0;
     state[DAYS_SIZE] = 0;
-    keep_counts(state, 0, 0, 0, 0);
+    keep_counts(state, 0, 0, 0, 0, 0);
     state[CASE_AT] = at;
     state[RAN] = 0;
     state[CHANGED] = 0;
@@ -55,11 +58,13 @@ pub fn keep_counts(
     statements: usize,
     records: usize,
     tokens: usize,
+    latest: usize,
 ) {
     state[BYTES_HELD] = bytes;
     state[STATEMENTS_HELD] = statements;
     state[RECORDS_HELD] = records;
     state[TOKENS_HELD] = tokens;
+    state[LATEST_HELD] = latest;
 }
 
 // A call was run, and changed memory or did not.
@@ -76,5 +81,6 @@ pub fn held(state: &State) -> Held
         statements: state[STATEMENTS_HELD],
         records: state[RECORDS_HELD],
         tokens: state[TOKENS_HELD],
+        latest: state[LATEST_HELD],
     }
 }

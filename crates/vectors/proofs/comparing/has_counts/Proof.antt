@@ -18,6 +18,9 @@ element-copy-out-if2 c = search needs
 element-copy-out-if3 : tie.Need-element-copy-out-if3
 element-copy-out-if3 c = search needs
 
+element-copy-out-if4 : tie.Need-element-copy-out-if4
+element-copy-out-if4 c = search needs
+
 element-copy-out-result : tie.Need-element-copy-out-result
 element-copy-out-result c = search needs
 
@@ -25,23 +28,34 @@ returns-2 : tie.Need-returns-2
 unfolding countsStored
 returns-2 c =
     rw (
-      eq-eqb _ _ (c .before .before .before .before .before .before .before .before .if1 .left),
-      eq-eqb _ _ (c .before .before .before .before .before .if2 .taken),
-      eq-eqb _ _ (c .before .before .if3 .taken),
+      eq-eqb _ _ (c .before .before .before .before .before .before .before .before .before .before .before .if1 .left),
+      eq-eqb _ _ (c .before .before .before .before .before .before .before .before .if2 .taken),
+      eq-eqb _ _ (c .before .before .before .before .before .if3 .taken),
+      eq-eqb _ _ (c .before .before .if4 .taken),
     )
 
 returns-3 : tie.Need-returns-3
 unfolding countsStored
 returns-3 c =
     rw (
+      eq-eqb _ _ (c .before .before .before .before .before .before .before .before .before .if1 .left),
+      eq-eqb _ _ (c .before .before .before .before .before .before .if2 .taken),
+      eq-eqb _ _ (c .before .before .before .if3 .taken),
+      ne-eqb _ _ (c .if4 .left),
+    )
+
+returns-4 : tie.Need-returns-4
+unfolding countsStored
+returns-4 c =
+    rw (
       eq-eqb _ _ (c .before .before .before .before .before .before .if1 .left),
       eq-eqb _ _ (c .before .before .before .if2 .taken),
       ne-eqb _ _ (c .if3 .left),
     )
 
-returns-4 : tie.Need-returns-4
+returns-5 : tie.Need-returns-5
 unfolding countsStored
-returns-4 c = rw (eq-eqb _ _ (c .before .before .before .if1 .left), ne-eqb _ _ (c .if2 .left))
+returns-5 c = rw (eq-eqb _ _ (c .before .before .before .if1 .left), ne-eqb _ _ (c .if2 .left))
 
 pub has-counts-spec : {M : Type 1} → statement M
 has-counts-spec =
@@ -51,7 +65,9 @@ has-counts-spec =
     returns
     element-copy-out-if2
     element-copy-out-if3
+    element-copy-out-if4
     element-copy-out-result
     returns-2
     returns-3
-    returns-4)
+    returns-4
+    returns-5)
