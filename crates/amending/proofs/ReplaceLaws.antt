@@ -8,13 +8,12 @@ use lib.Dec.{ltb}
 use lib.ListN.{length, take, drop, getD, length-drop, length-map}
 use lib.Seq.{length-take-le}
 use borrow.Author.Tests.{le-ltb, ltb-true}
-use Rattle.tokens.specs.Text.{if_then_else_, script}
+use Rattle.tokens.specs.Text.{if_then_else_}
 use Rattle.tokens.specs.Names.{Lists}
 use Rattle.grammar.specs.Sizes.{recordWidth, entryWidth, mostRecords, mostStatements}
-use Rattle.grammar.specs.Script.{Entry, Outcome, accepted, reading, nodes}
+use Rattle.grammar.specs.Script.{Entry, accepted, reading, nodes}
 use Rattle.grammar.specs.Words.{wordsOf, Row, rowOf, rowsWords, directoryOf, latestOf}
-use Rattle.reading.specs.Judging.{judgedOf, lastEnd}
-use Rattle.reading.specs.Reading.{answerOf, latestBy, leftBy, readInto, Leaves}
+use Rattle.reading.specs.Reading.{answerTo, leftBy, readInto, Leaves}
 use Rattle.reading.specs.declared.judging.Counts.{Counts}
 use Rattle.reading.specs.declared.reading.Answer.{Answer}
 use Rattle.grammar.proofs.WordLaws.{words-length, directory-length}
@@ -110,7 +109,7 @@ module _ (l : Lists) (M : Memory) (h : Held) (k : ℕ) (n : List ℕ) {c : Count
       let le : length (directoryOf ns) ≡ length e = omega (arith, directory-length ns, F .statements-are, y) in (
         R .records ∙ ap (leftBy wordsOf o) A ∙ over-full (wordsOf ns) o lo,
         R .directory ∙ ap (leftBy directoryOf e) A ∙ over-full (directoryOf ns) e le,
-        ap (λ (a : Answer). a .latest) (R .answer ∙ ap (λ (x : Outcome). answerOf n (latestBy x) (judgedOf (length (script n)) (lastEnd (script n)) x)) A),
+        ap (λ (a : Answer). a .latest) (R .answer ∙ ap (answerTo n) A),
       )
 
   -- ---- the three slices

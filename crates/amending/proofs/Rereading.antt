@@ -8,10 +8,9 @@ use lib.Seq.{take-at}
 use Rattle.tokens.specs.Text.{script}
 use Rattle.tokens.specs.Names.{Lists}
 use Rattle.grammar.specs.Sizes.{recordWidth, entryWidth, mostRecords, mostStatements, recordRoom, statementRoom}
-use Rattle.grammar.specs.Script.{Entry, Outcome, accepted, fitting, readScript, reading, nodes, tokensOf}
+use Rattle.grammar.specs.Script.{Entry, accepted, fitting, readScript, reading, nodes, tokensOf}
 use Rattle.grammar.specs.Words.{wordsOf, rowOf, directoryOf, rowsWords, latestOf}
-use Rattle.reading.specs.Judging.{judgedOf, lastEnd}
-use Rattle.reading.specs.Reading.{answerOf, latestBy, over, leftBy, readInto, Leaves}
+use Rattle.reading.specs.Reading.{answerTo, over, leftBy, readInto, Leaves}
 use Rattle.reading.specs.declared.reading.Answer.{Answer}
 use Rattle.grammar.proofs.AmendBytes.{Accepted, read-accepted, script-noZero, read-script, script-all}
 use Rattle.reading.proofs.JudgeLaws.{script-in, script-take}
@@ -41,8 +40,8 @@ module _ (l : Lists) where
       let R : readInto l (st .script) o d ≡ accepted es =
       (λ i. reading l (recordRoom (lo i)) (statementRoom (ld i)) (st .script)) ∙ good-reading l (roomsIn M) st (H .good) in
       let same : script (st .script) ≡ st .script = script-all (st .script) (H .good .clear) in
-      let a : r ≡ answerOf (st .script) (latestOf (map rowOf es)) (judgedOf (length (script (st .script))) (lastEnd (script (st .script))) (accepted es)) =
-      Y .answer ∙ ap (λ (x : Outcome). answerOf (st .script) (latestBy x) (judgedOf (length (script (st .script))) (lastEnd (script (st .script))) x)) R in
+      let a : r ≡ answerTo (st .script) (accepted es) =
+      Y .answer ∙ ap (answerTo (st .script)) R in
       let c : heldOf r ≡ h =
       ap heldOf a ∙ (λ i. record { bytes = length (same i); statements = sym (length-map es rowOf) i; records = sym (sum-nodes es) i; tokens = tokensOf es; latest = latestOf (map rowOf es) }) ∙ sym (H .counts) in
       let n : h .records ≡ nodes es = ap (λ (x : Held). x .records) (H .counts) ∙ sum-nodes es in
@@ -67,8 +66,8 @@ module _ (l : Lists) where
       let rows : d′ ≡ over (directoryOf es) d = X .directory ∙ ap (leftBy directoryOf d) R in
       let lo : length o′ ≡ length o = ap length words ∙ over-length (wordsOf es) o (omega (arith, words-length es, F .1, room-in mostRecords (length o / recordWidth))) in
       let ld : length d′ ≡ length d = ap length rows ∙ over-length (directoryOf es) d (omega (arith, directory-length es, F .2, room-in mostStatements (length d / entryWidth))) in
-      let a : r ≡ answerOf bs (latestOf (map rowOf es)) (judgedOf (length (script bs)) (lastEnd (script bs)) (accepted es)) =
-      X .answer ∙ ap (λ (x : Outcome). answerOf bs (latestBy x) (judgedOf (length (script bs)) (lastEnd (script bs)) x)) R in
+      let a : r ≡ answerTo bs (accepted es) =
+      X .answer ∙ ap (answerTo bs) R in
       let c : heldOf r ≡ heldBy (lentOf (record { script = script bs; entries = es })) =
       ap heldOf a ∙ (λ i. record { bytes = length (script bs); statements = sym (length-map es rowOf) i; records = sym (sum-nodes es) i; tokens = tokensOf es; latest = latestOf (map rowOf es) }) in
       let u : take (length (script bs)) bs ≡ script bs = script-take bs in

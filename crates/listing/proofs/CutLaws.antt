@@ -57,6 +57,7 @@ lines-same cs bs (refused k p) h = λ i.
       statements = 0;
       records = 0;
       tokens = 0;
+      latest = 0;
     }) []
 
 module _ (bs : List ℕ) where

@@ -2,14 +2,13 @@
 use mathlib.Core.List.{List, [], _∷_, _++_}
 use Prim.Native.Nat.{ℕ}
 use lib.Dec.{eqb}
-use lib.ListN.{length}
-use Rattle.tokens.specs.Text.{if_then_else_, script}
+use Rattle.tokens.specs.Text.{if_then_else_}
 use Rattle.tokens.specs.Names.{Lists}
 use Rattle.grammar.specs.Sizes.{mostRecords, mostStatements}
 use Rattle.grammar.specs.Script.{Outcome, accepted, refused, reading}
 use Rattle.grammar.specs.Words.{wordsOf}
-use Rattle.reading.specs.Judging.{listsIn, judgedOf, lastEnd}
-use Rattle.reading.specs.Reading.{answerOf}
+use Rattle.reading.specs.Judging.{listsIn}
+use Rattle.reading.specs.Reading.{answerTo}
 use Rattle.reading.specs.declared.reading.Answer.{Answer}
 use Rattle.listing.specs.Lines.{line, recordLines}
 
@@ -36,7 +35,7 @@ wordsRead (refused k p) = []
 
 -- of a reading of the bytes bs
 abbrev pub readingLines : List ℕ → Outcome → List ℕ
-readingLines bs R = answerLines (answerOf bs (judgedOf (length (script bs)) (lastEnd (script bs)) R)) (wordsRead R)
+readingLines bs R = answerLines (answerTo bs R) (wordsRead R)
 
 -- of a script, with room for all that the capacities allow
 unfoldable pub listing : List ℕ → List ℕ

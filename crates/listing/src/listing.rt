@@ -3,15 +3,19 @@ use crate::lines::put_line;
 use crate::lines::put_records;
 use reading::reading::Answer;
 use reading::reading::read;
+use reading::rooms::ENTRY_WIDTH;
+use reading::rooms::MOST_RECORDS;
+use reading::rooms::MOST_STATEMENTS;
+use reading::rooms::RECORD_WIDTH;
 ghost use Prim.Native.Nat.{_+_, _*_, _≤_};
 ghost use lib.ListN.{length};
 ghost use Rattle.listing.specs.Lines.{Appended};
 ghost use Rattle.listing.specs.Listing.{acceptedLines, refusedLine, listing};
 
 // Room for all records and statements that the capacities allow.
-const RECORD_WORDS: usize = 14336;
+const RECORD_WORDS: usize = RECORD_WIDTH * MOST_RECORDS;
 
-const DIRECTORY_WORDS: usize = 2560;
+const DIRECTORY_WORDS: usize = ENTRY_WIDTH * MOST_STATEMENTS;
 
 fn list_refusal(a: Answer, out: &mut [u8]) -> usize
     requires { ⌜ 36 ≤ length (now out) ⌝ }

@@ -12,13 +12,12 @@ use Rattle.grammar.specs.Sizes.{recordRoom, statementRoom}
 use Rattle.grammar.specs.Script.{Entry, Outcome, accepted, refused}
 use Rattle.grammar.specs.Words.{wordsOf, directoryOf}
 use Rattle.grammar.proofs.Refusals.{Ground, reading-refused, reading-small}
-use Rattle.reading.specs.Judging.{judgedOf, lastEnd}
-use Rattle.reading.specs.Reading.{answerOf, latestBy, leftBy, readInto, Leaves}
+use Rattle.reading.specs.Reading.{answerTo, leftBy, readInto, Leaves}
 use Rattle.reading.specs.declared.reading.Answer.{Answer}
 
 module _ {l : Lists} {bs o d o′ d′ : List ℕ} {r : Answer} (X : Leaves l bs o d r o′ d′) where
-  is : (x : Outcome) → readInto l bs o d ≡ x → r ≡ answerOf bs (latestBy x) (judgedOf (length (script bs)) (lastEnd (script bs)) x)
-  is x e = X .answer ∙ ap (λ (y : Outcome). answerOf bs (latestBy y) (judgedOf (length (script bs)) (lastEnd (script bs)) y)) e
+  is : (x : Outcome) → readInto l bs o d ≡ x → r ≡ answerTo bs x
+  is x e = X .answer ∙ ap (answerTo bs) e
 
   ground : {f p : ℕ} → readInto l bs o d ≡ refused f p → Ground 16 (length (script bs)) f p
   ground e = reading-refused l bs (recordRoom (length o)) (statementRoom (length d)) e

@@ -22,7 +22,7 @@ use Rattle.reading.specs.declared.judging.Counts.{Counts}
 use Rattle.reading.specs.declared.judging.Judged.the-variants as judged
 use Rattle.reading.specs.declared.reading.Answer.{Answer}
 use Rattle.reading.specs.Judging.{judgedOf, lastEnd, judgement}
-use Rattle.reading.specs.Reading.{acceptedWith, refusedAt, answerOf, latestBy, latestRead, over, leftBy, readInto, Leaves}
+use Rattle.reading.specs.Reading.{acceptedWith, refusedAt, answerOf, answerTo, latestRead, over, leftBy, readInto, Leaves}
 use Rattle.grammar.proofs.AmendBytes.{Accepted, read-accepted, script-noZero, read-script}
 use Rattle.grammar.proofs.WordLaws.{words-length, directory-length}
 use Rattle.reading.proofs.RowLaws.{flat, flat-append, rows-flat, rows-wide, Wide, none, more, wide-append, put-first}
@@ -151,7 +151,7 @@ module _ (l : Lists) (bs : List ℕ) where
   module _ (o d : List ℕ) where
     leaves-refused : {r : Answer} {k p : ℕ} → r ≡ refusedAt bs k p → readInto l bs o d ≡ refused k p → Leaves l bs o d r o d
     leaves-refused e h = record {
-      answer = e ∙ sym (ap (λ (x : Outcome). answerOf bs (latestBy x) (judgedOf (length (script bs)) (lastEnd (script bs)) x)) h);
+      answer = e ∙ sym (ap (answerTo bs) h);
       records = sym (ap (leftBy wordsOf o) h);
       directory = sym (ap (leftBy directoryOf d) h);
     }
@@ -192,7 +192,7 @@ module _ (l : Lists) (bs : List ℕ) where
           record {
             answer =
                 e ∙ ap (acceptedWith c) (y ∙ W .2) ∙ ap (answerOf bs (latestOf (map rowOf (G .entries)))) (G .counts-are)
-                ∙ sym (ap (λ (x : Outcome). answerOf bs (latestBy x) (judgedOf (length (script bs)) (lastEnd (script bs)) x)) is);
+                ∙ sym (ap (answerTo bs) is);
             records = W .0 ∙ put-records o (G .entries) record-fits ∙ sym (ap (leftBy wordsOf o) is);
             directory = W .1 ∙ put-directory d (G .entries) entry-fits ∙ sym (ap (leftBy directoryOf d) is);
           }

@@ -55,6 +55,10 @@ abbrev pub latestBy : Outcome → ℕ
 latestBy (accepted es) = latestOf (map rowOf es)
 latestBy (refused k p) = 0
 
+-- what is answered of the script bs, read as x
+abbrev pub answerTo : List ℕ → Outcome → Answer
+answerTo bs x = answerOf bs (latestBy x) (judgedOf (length (script bs)) (lastEnd (script bs)) x)
+
 -- the latest date that the reader of all statements answers
 abbrev pub latestRead : All → ℕ
 latestRead (all.Done k n x) = x
@@ -75,6 +79,6 @@ readInto l bs o d = reading l (recordRoom (length o)) (statementRoom (length d))
 
 -- the answer, the records and the directory after reading the script bs into the records o and the directory d
 pub record Leaves (l : Lists) (bs o d : List ℕ) (r : Answer) (o′ d′ : List ℕ) : Type 0 where
-  pub answer : r ≡ answerOf bs (latestBy (readInto l bs o d)) (judgedOf (length (script bs)) (lastEnd (script bs)) (readInto l bs o d))
+  pub answer : r ≡ answerTo bs (readInto l bs o d)
   pub records : o′ ≡ leftBy wordsOf o (readInto l bs o d)
   pub directory : d′ ≡ leftBy directoryOf d (readInto l bs o d)

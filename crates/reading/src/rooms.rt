@@ -14,7 +14,11 @@ pub const RECORD_WIDTH: usize = Node::WIDTH;
 
 pub const ENTRY_WIDTH: usize = Entry::WIDTH;
 
-// The capacity for tokens, Newlines aside.
+// The capacities: records, statements, and tokens, Newlines aside.
+pub const MOST_RECORDS: usize = Node::MOST;
+
+pub const MOST_STATEMENTS: usize = Entry::MOST;
+
 pub const MOST_TOKENS: usize = Cursor::TOKENS;
 
 fn capped(most: usize, n: usize) -> usize

@@ -1,18 +1,19 @@
 -- A reading with room for all that the capacities allow, listed from what it left in memory.
 use mathlib.Core.Path.{_≡_}
-use Prim.Native.Nat.{ℕ}
+use Prim.Native.Nat.{ℕ, _*_}
 use native.Mathlib.Omega.{arith}
 use lib.ListN.{length, replicate, length-replicate}
 use borrow.Author.Needs.{needs}
+use Rattle.grammar.specs.Sizes.{recordWidth, entryWidth, mostRecords, mostStatements}
 use Rattle.listing.proofs.ListingLaws.{records-few, listed-accepted, listed-refused}
 use Rattle.listing.proofs.listing.list.Statement.{statement}
 use Rattle.listing.proofs.listing.list.Tie as tie
 
-records-lent : length (replicate {A = ℕ} 14336 0) ≡ 14336
-records-lent = length-replicate {A = ℕ} 14336 0
+records-lent : length (replicate {A = ℕ} (recordWidth * mostRecords) 0) ≡ recordWidth * mostRecords
+records-lent = length-replicate {A = ℕ} (recordWidth * mostRecords) 0
 
-directory-lent : length (replicate {A = ℕ} 2048 0) ≡ 2048
-directory-lent = length-replicate {A = ℕ} 2048 0
+directory-lent : length (replicate {A = ℕ} (entryWidth * mostStatements) 0) ≡ entryWidth * mostStatements
+directory-lent = length-replicate {A = ℕ} (entryWidth * mostStatements) 0
 
 slice-aggregate-read : tie.Need-slice-aggregate-read
 slice-aggregate-read c = search needs
