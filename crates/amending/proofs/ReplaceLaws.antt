@@ -24,7 +24,7 @@ use Rattle.amending.specs.Lent.{Lent, unchanged, ascending, sumRecords, 
 use Rattle.amending.specs.Moves.{resized, spliced, leave}
 use Rattle.amending.specs.Entries.{rowsFrom, pickAt, shifted}
 use Rattle.amending.specs.Memory.{Memory, memory, roomsIn, usedIn, amendIn, leftIn, answered, dated, acceptedWith, refusedAt, Amends}
-use Rattle.amending.specs.Grounds.{wordsAt, totals, latestThen, Fits, Ready, Left, MeetsVerdict}
+use Rattle.amending.specs.Grounds.{wordsAt, totals, latestThen, Fits, Ready, Left, answerBy, MeetsVerdict}
 use Rattle.amending.specs.declared.held.Held.{Held}
 use Rattle.amending.specs.declared.grounds.Row.{Row as Line}
 use Rattle.amending.specs.declared.grounds.Verdict.{Verdict}
@@ -215,11 +215,16 @@ module _ (l : Lists) (M : Memory) (h : Held) (k : ℕ) (n : List ℕ) where
   pub verdict-fits : {v : Verdict} (c : Counts) (w : Held) → v ≡ verdict.Fits c w → MeetsVerdict l M h k n v → Fits l M h k n c w
   verdict-fits c w e m = rw e at m
 
+  -- the answer of the call is the one that the verdict stands for
+  pub verdict-answers : (v : Verdict) → MeetsVerdict l M h k n v → answered h n (amendIn l M h k n) ≡ answerBy h n (latestThen (amendIn l M h k n)) v
+  verdict-answers (verdict.Fits c w) m = ap (answered h n) (m .is) ∙ sym (ap acceptedWith (m .held-then))
+  verdict-answers (verdict.Refused f b) m = ap (answered h n) m
+
   pub refuses : {r : Answer} {f b : ℕ} → r ≡ refusedAt h n f b → amendIn l M h k n ≡ unchanged f b → Amends l M h k n r M
-  refuses e u = record { answer = e ∙ sym (ap (answered h n) u); memory = sym (ap (leftIn M h) u) }
+  refuses {f = f} {b = b} e u = record { answer = e ∙ sym (verdict-answers (verdict.Refused f b) u); memory = sym (ap (leftIn M h) u) }
 
   pub makes : {r : Answer} {x : ℕ} {c : Counts} {w : Held} {M′ : Memory} → Fits l M h k n c w → r ≡ acceptedWith (dated x w) → Left h (amendIn l M h k n) M x M′ → Amends l M h k n r M′
-  makes {w = w} F e m = record {
-    answer = e ∙ ap (λ (x : ℕ). acceptedWith (dated x w)) (m .latest) ∙ ap acceptedWith (F .held-then) ∙ sym (ap (answered h n) (F .is));
+  makes {c = c} {w = w} F e m = record {
+    answer = e ∙ ap (λ (x : ℕ). acceptedWith (dated x w)) (m .latest) ∙ sym (verdict-answers (verdict.Fits c w) F);
     memory = m .memory;
   }

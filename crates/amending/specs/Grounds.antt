@@ -12,9 +12,10 @@ use Rattle.grammar.specs.Sizes.{recordWidth, entryWidth, mostRecords, mostState
 use Rattle.grammar.specs.Script.{Entry, accepted, readScript, noZero, nodes}
 use Rattle.grammar.specs.Words.{latestOf}
 use Rattle.reading.specs.declared.judging.Counts.{Counts}
+use Rattle.reading.specs.declared.reading.Answer.{Answer}
 use Rattle.amending.specs.Amending.{Rooms}
 use Rattle.amending.specs.Lent.{Handed, handed, unchanged, ascending, sumRecords, sumTokens, swapped}
-use Rattle.amending.specs.Memory.{Memory, roomsIn, usedIn, within, amendIn, heldBy, dated, leftIn}
+use Rattle.amending.specs.Memory.{Memory, roomsIn, usedIn, within, amendIn, heldBy, dated, leftIn, acceptedWith, refusedAt}
 use Rattle.amending.specs.Entries.{rowsFrom, pickAt}
 use Rattle.amending.specs.declared.held.Held.{Held}
 use Rattle.amending.specs.declared.grounds.Row.{Row}
@@ -118,6 +119,11 @@ pub record Ready (s o d : List ℕ) (h : Held) (k : ℕ) (n : List ℕ) (c : Cou
 pub record Left (h : Held) (x : Handed) (M : Memory) (r : ℕ) (M′ : Memory) : Type 0 where
   pub latest : r ≡ latestThen x
   pub memory : M′ ≡ leftIn M h x
+
+-- the answer that a verdict stands for: 0 and what is used then, with the latest date x; or its number, at its byte of the new text, and the old counts and date
+abbrev pub answerBy : Held → List ℕ → ℕ → Verdict → Answer
+answerBy h n x (verdict.Fits c w) = acceptedWith (dated x w)
+answerBy h n x (verdict.Refused f p) = refusedAt h n f p
 
 -- what each case says of the call
 abbrev pub MeetsVerdict : Lists → Memory → Held → ℕ → List ℕ → Verdict → Type 0
