@@ -4,10 +4,10 @@ use mathlib.Core.Bool.{Bool, true, false}
 use mathlib.Core.List.{List, _∷_, _++_, map}
 use Prim.Native.Nat.{ℕ, _+_, _-_, _*_, _/_, max}
 use native.Mathlib.Omega.{arith}
-use lib.Dec.{ltb}
+use lib.Dec.{leb, ltb}
 use lib.ListN.{length, take, drop, getD, length-drop, length-map}
 use lib.Seq.{length-take-le}
-use borrow.Author.Tests.{le-ltb, ltb-true}
+use borrow.Author.Tests.{le-ltb, ltb-true, leb-true}
 use Rattle.tokens.specs.Text.{if_then_else_}
 use Rattle.tokens.specs.Names.{Lists}
 use Rattle.grammar.specs.Sizes.{recordWidth, entryWidth, mostRecords, mostStatements}
@@ -150,12 +150,12 @@ module _ (l : Lists) (M : Memory) (h : Held) (k : ℕ) (n : List ℕ) {c : Count
 
   -- ---- the latest date
 
-  -- where the entry that is gone had not the latest, it stays, or the new text has a later one; else the entries are asked
+  -- where the entry that is gone had not the latest, it stays, or the new text has a later one; where the new text has none that is earlier, it is that one; else the entries are asked
   pub latest-left : {d₃ : List ℕ} {x old gone new m : ℕ} → d₃ ≡ leave (rowsWords (L .rows)) (entryWidth * h .statements) d
-      → x ≡ (if ltb gone old then max old new else latestOf (rowsFrom m d₃)) → old ≡ h .latest → gone ≡ p .one .latest → new ≡ latestOf (map rowOf ns) → m ≡ h .statements - 1 + c .statements
+      → x ≡ (if ltb gone old then max old new else if leb old new then new else latestOf (rowsFrom m d₃)) → old ≡ h .latest → gone ≡ p .one .latest → new ≡ latestOf (map rowOf ns) → m ≡ h .statements - 1 + c .statements
       → x ≡ L .latest
   unfolding swapped latestOf
-  latest-left {d₃} {x} {old} {gone} {new} {m} made is o g e count = is ∙ go (ltb gone old) refl
+  latest-left {d₃} {x} {old} {gone} {new} {m} made is o g e count = is ∙ go (ltb gone old) (leb old new) refl refl
     where
       before : h .latest ≡ max (latestOf (p .before)) (max (p .one .latest) (latestOf (p .behind)))
       before = F .latest-is ∙ ap latestOf split ∙ latestOf-append (p .before) (p .one ∷ p .behind)
@@ -167,9 +167,10 @@ module _ (l : Lists) (M : Memory) (h : Held) (k : ℕ) (n : List ℕ) {c : Count
       entries =
           omega (arith, count, F .there, swapped-count p (length n) (map rowOf ns), length-map ns rowOf, F .statements-are, rows-count k d, rows-count (h .statements - 1 - k) (drop (entryWidth * k + entryWidth) d))
 
-      go : (t : Bool) → ltb gone old ≡ t → (if t then max old new else latestOf (rowsFrom m d₃)) ≡ L .latest
-      go true q = omega (arith, ltb-true gone old q, before, after, o, g, e)
-      go false q = ap latestOf (ap (rowsFrom m) made ∙ ap (λ (i : ℕ). rowsFrom i (leave (rowsWords (L .rows)) (entryWidth * h .statements) d)) entries ∙ rows-of-words (L .rows) _)
+      go : (t u : Bool) → ltb gone old ≡ t → leb old new ≡ u → (if t then max old new else if u then new else latestOf (rowsFrom m d₃)) ≡ L .latest
+      go true u q w = omega (arith, ltb-true gone old q, before, after, o, g, e)
+      go false true q w = omega (arith, leb-true old new w, before, after, o, e)
+      go false false q w = ap latestOf (ap (rowsFrom m) made ∙ ap (λ (i : ℕ). rowsFrom i (leave (rowsWords (L .rows)) (entryWidth * h .statements) d)) entries ∙ rows-of-words (L .rows) _)
 
   -- all three, as the code makes them: row is the entry, b the records before it, and i and j the words of the rooms that are read into
   pub replaced : {row : Line} {b : ℕ} {s₁ o₁ d₁ g g′ d₂ d₃ : List ℕ} {r : Answer} {i j x′ : ℕ} → row ≡ wordsAt d (entryWidth * k) → b ≡ sumRecords (rowsFrom k d)
@@ -180,7 +181,7 @@ module _ (l : Lists) (M : Memory) (h : Held) (k : ℕ) (n : List ℕ) {c : Count
       → Leaves l n (take i (drop (recordWidth * b) o₁)) (take j (drop (entryWidth * k) d₁)) r g g′
       → d₂ ≡ shifted (take (entryWidth * k) d₁ ++ (g′ ++ drop j (drop (entryWidth * k) d₁))) k (k + c .statements) 0 (row .start)
       → d₃ ≡ shifted d₂ (k + c .statements) (h .statements - 1 + c .statements) (row .end) (row .start + length n)
-      → x′ ≡ (if ltb (row .latest) (h .latest) then max (h .latest) (r .latest) else latestOf (rowsFrom (h .statements - 1 + c .statements) d₃))
+      → x′ ≡ (if ltb (row .latest) (h .latest) then max (h .latest) (r .latest) else if leb (h .latest) (r .latest) then r .latest else latestOf (rowsFrom (h .statements - 1 + c .statements) d₃))
       → Left h (amendIn l M h k n) M x′ (memory s₁ (take (recordWidth * b) o₁ ++ (g ++ drop i (drop (recordWidth * b) o₁))) d₃)
   replaced {row} {b} {s₁} {o₁} {d₁} {g} {g′} {d₂} {d₃} {r} {i} {j} e f x lo y ld z p′ q′ R u v m =
       let Y : Ready (M .script) (M .records) d h k n c = ready in

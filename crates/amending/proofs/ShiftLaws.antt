@@ -1,8 +1,8 @@
 -- Laws of a directory whose places are moved: one turn of the loop, the rows of the moved words, and where a place is moved plainly.
 use mathlib.Core.Path.{_≡_, refl, sym, ap, _∙_}
-use mathlib.Core.Bool.{true, _&&_}
+use mathlib.Core.Bool.{Bool, true, false, _&&_}
 use mathlib.Core.List.{List, [], _∷_, _++_, append-assoc, map}
-use Prim.Native.Nat.{ℕ, suc, _+_, _-_, _*_, _^_, _≤_, _<_}
+use Prim.Native.Nat.{ℕ, zero, suc, _+_, _-_, _*_, _^_, _≤_, _<_}
 use native.Mathlib.Nat.{suc-add}
 use native.Mathlib.Numerals.{towards-suc}
 use native.Mathlib.Omega.{arith}
@@ -10,6 +10,7 @@ use lib.Dec.{leb, ltb}
 use lib.ListN.{length, take, drop, getD, set, length-append, take-append-drop}
 use lib.Seq.{drop-cons, take-at, drop-at, take-append-add, drop-append-add, length-take-le, getD-set-other}
 use borrow.Author.Tests.{ltb-true, leb-true, lt-ltb, le-leb}
+use Rattle.tokens.specs.Text.{if_then_else_}
 use Rattle.grammar.specs.Sizes.{entryWidth}
 use Rattle.grammar.specs.Words.{Row, rowsWords}
 use Rattle.grammar.proofs.WordLaws.{rows-length}
@@ -86,6 +87,27 @@ shift-turn s at n old new u v some room eu ev =
 pub shift-none : (s : List ℕ) (old new n at : ℕ) → n ≡ 0 → take at s ++ movedWords old new n (drop at s) ≡ s
 unfolding movedWords
 shift-none s old new n at h = rw h (take-append-drop at s)
+
+-- places that stay where they are
+moved-same : (old w : ℕ) → movedPlace old old w ≡ w
+moved-same old w = go (leb old w && ltb (w - old + old) (2 ^ 32)) refl
+  where
+    go : (b : Bool) → (leb old w && ltb (w - old + old) (2 ^ 32)) ≡ b → (if b then w - old + old else w) ≡ w
+    go true e = omega (arith, leb-true old w (left _ _ e))
+    go false e = refl
+
+words-same : (old k : ℕ) (d : List ℕ) → movedWords old old k d ≡ d
+unfolding movedWords
+words-same old zero d = refl
+words-same old (suc k) [] = refl
+words-same old (suc k) (a ∷ []) = refl
+words-same old (suc k) (a ∷ b ∷ []) = refl
+words-same old (suc k) (a ∷ b ∷ r ∷ []) = refl
+words-same old (suc k) (a ∷ b ∷ r ∷ t ∷ []) = refl
+words-same old (suc k) (a ∷ b ∷ r ∷ t ∷ x ∷ d) = λ i. moved-same old a i ∷ moved-same old b i ∷ r ∷ t ∷ x ∷ words-same old k d i
+
+pub shift-same : (s : List ℕ) (old new n at : ℕ) → old ≡ new → take at s ++ movedWords old new n (drop at s) ≡ s
+shift-same s old new n at e = rw (sym e) (ap (λ (d : List ℕ). take at s ++ d) (words-same old n (drop at s)) ∙ take-append-drop at s)
 
 -- ---- in rows
 

@@ -155,13 +155,16 @@ fn latest_entry(directory: &[u32], number: usize) -> usize
 }
 
 // The latest date of a directory of `number` entries in which one of the date `gone` was replaced by others, whose latest is
-// `new`; it was `old`. Only where the entry that is gone had it, the others are asked.
+// `new`; it was `old`. Only where the entry that is gone had it, and nothing as late came, the others are asked.
 pub fn latest_then(directory: &[u32], number: usize, old: usize, gone: usize, new: usize) -> usize
     requires { ⌜ entryWidth * number ≤ length (now directory) ⌝ }
-    ensures { λ r. ⌜ r ≡ (if ltb gone old then max old new else latestOf (rowsFrom number (now (directory .entry)))) ⌝ }
+    ensures { λ r. ⌜ r ≡ (if ltb gone old then max old new else if leb old new then new else latestOf (rowsFrom number (now (directory .entry)))) ⌝ }
 {
     if gone < old {
         return later(old, new);
+    }
+    if old <= new {
+        return new;
     }
     latest_entry(directory, number)
 }

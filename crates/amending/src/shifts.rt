@@ -19,7 +19,7 @@ fn moved_place(w: u32, old: u32, new: u32) -> u32
 }
 
 // Moves the starts and ends of the entries from number `from` up to, not including, number `to` as far as `new` is from `old`;
-// their records and tokens stay. Where the directory has not so many entries, nothing changes.
+// their other words stay. Where the directory has not so many entries, or they stay where they are, nothing changes.
 pub fn shift_entries(directory: &mut [u32], from: usize, to: usize, old: u32, new: u32)
     ensures { λ _. ⌜ now (directory .exit) ≡ shifted (now (directory .entry)) from to old new ⌝ }
 {
@@ -27,6 +27,9 @@ pub fn shift_entries(directory: &mut [u32], from: usize, to: usize, old: u32, ne
         return;
     }
     if to <= from {
+        return;
+    }
+    if old == new {
         return;
     }
     let mut left = to - from;

@@ -7,7 +7,7 @@ use lib.ListN.{length, take, drop, length-set}
 use borrow.Author.Tests.{le-leb, lt-leb}
 use Rattle.grammar.specs.Sizes.{entryWidth}
 use Rattle.amending.specs.Entries.{movedWords, movedFrom}
-use Rattle.amending.proofs.ShiftLaws.{shift-turn, shift-none}
+use Rattle.amending.proofs.ShiftLaws.{shift-turn, shift-none, shift-same}
 use borrow.Author.Needs.{needs}
 use Rattle.amending.proofs.shifts.shift_entries.Statement.{statement}
 use Rattle.amending.proofs.shifts.shift_entries.Tie as tie
@@ -29,6 +29,11 @@ returns-2 c =
     let a = c .before .before .before .args in
     rw (le-leb (entryWidth * a .to) (length (now (a .directory))) (omega arith)) (sym (shift-none (now (a .directory)) (a .old) (a .new) (a .to - a .from) (entryWidth * a .from) (omega arith)))
 
+returns-3 : tie.Need-returns-3 Inv-loop μ-loop
+returns-3 c =
+    let a = c .before .before .before .before .args in
+    rw (le-leb (entryWidth * a .to) (length (now (a .directory))) (omega arith)) (sym (shift-same (now (a .directory)) (a .old) (a .new) (a .to - a .from) (entryWidth * a .from) (c .if3 .taken)))
+
 sub-left : tie.Need-sub-left Inv-loop μ-loop
 sub-left c = search needs
 
@@ -37,7 +42,7 @@ mul-at c = search needs
 
 loop-holds : tie.Need-loop-holds Inv-loop μ-loop
 loop-holds c =
-    let a = c .before .before .before .args in
+    let a = c .before .before .before .before .args in
     let k : entryWidth * a .from ≡ a .from * entryWidth = omega arith in
     (search needs, search needs, rw k)
 
@@ -90,7 +95,7 @@ loop-again : tie.Need-loop-again Inv-loop μ-loop
 loop-again c =
     let at-loop = c .before .before .before .before .before in
     let l = at-loop .loop in
-    let a = at-loop .before .before .before .before .args in (
+    let a = at-loop .before .before .before .before .before .args in (
       omega arith,
       simp length-set (l .inv .1),
       l .inv .2 ∙ shift-turn (l .directory) (l .at) (l .left) (a .old) (a .new) (c .before .before .moved-place .result) (c .moved-place2 .result) (omega arith) (omega arith) (c .before .before .moved-place .ensures) (c .moved-place2 .ensures),
@@ -99,10 +104,10 @@ loop-again c =
 same-length : tie.Need-same-length Inv-loop μ-loop
 same-length c = search needs
 
-returns-3 : tie.Need-returns-3 Inv-loop μ-loop
-returns-3 c =
+returns-4 : tie.Need-returns-4 Inv-loop μ-loop
+returns-4 c =
     let l = c .before .loop in
-    let a = c .before .before .before .before .before .args in
+    let a = c .before .before .before .before .before .before .args in
     rw (le-leb (entryWidth * a .to) (length (now (a .directory))) (omega arith)) (sym (l .inv .2 ∙ shift-none (l .directory) (a .old) (a .new) (l .left) (l .at) (omega arith)))
 
 pub shift-entries-spec : {M : Type 1} → statement M
@@ -113,6 +118,7 @@ shift-entries-spec =
     μ-loop
     returns
     returns-2
+    returns-3
     sub-left
     mul-at
     loop-holds
@@ -133,4 +139,4 @@ shift-entries-spec =
     loop-less
     loop-again
     same-length
-    returns-3)
+    returns-4)
