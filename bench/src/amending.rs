@@ -87,25 +87,39 @@ fn in_a_note<'a>(script: &str, full: &'a FullLists) -> Vec<Case<'a>> {
     cases
 }
 
-/// The first and the last of 32 to 512 statements.
+/// The first and the last of 32 to 512 statements. The last has the script's latest date, and where that goes, all entries are
+/// asked for the latest of theirs.
 fn among_many() -> Vec<Case<'static>> {
     let mut cases = Vec::new();
     for count in [32, 64, 128, 256, 512] {
         let script = short_statements(count);
         let archive = Archive::holding(&script, &LISTS);
-        for (name, statement) in [("first", 0), ("last", count - 1)] {
+        let mut case = |name: String, statement: usize, change: fn(&str) -> String| {
             let old = archive.statement(statement);
             cases.push(Case {
-                name: format!("{name} of {count} statements"),
+                name,
                 script: script.clone(),
                 statement: statement as u32,
-                new: same_length(&old),
+                new: change(&old),
                 old,
                 lists: LISTS,
             });
-        }
+        };
+        let last = count - 1;
+        case(format!("first of {count} statements"), 0, same_length);
+        case(format!("last of {count} statements"), last, same_length);
+        case(
+            format!("last of {count} statements, the latest date goes"),
+            last,
+            long_ago,
+        );
     }
     cases
+}
+
+/// The same statement a thousand years before.
+fn long_ago(old: &str) -> String {
+    old.replacen("\"2", "\"1", 1)
 }
 
 /// Another statement of the same length: its last digit or letter is another.
