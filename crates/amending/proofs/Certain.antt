@@ -20,7 +20,7 @@ use Rattle.amending.specs.Amending.{State, Rooms, amend, left, after}
 use Rattle.amending.specs.Lent.{inOrder, given}
 use Rattle.amending.specs.Memory.{Memory, memory, roomsIn, usedIn, within, answered, Amends}
 use Rattle.amending.specs.States.{heldOf, Holds, Begins, Calls, none as no-calls, call}
-use Rattle.amending.specs.Kept.{KeepsRecords, KeepsTexts, KeepsBytes}
+use Rattle.amending.specs.Kept.{DatesTrue, KeepsRecords, KeepsTexts, KeepsBytes}
 use Rattle.amending.specs.declared.held.Held.{Held}
 use Rattle.amending.proofs.LentLaws.{good-inOrder}
 use Rattle.amending.proofs.GroundLaws.{within-yes}
@@ -28,7 +28,7 @@ use Rattle.amending.proofs.StateLaws.{held-within, call-is, call-holds}
 use Rattle.amending.proofs.AmendAnswers as amended
 use Rattle.amending.proofs.Rereading.{reads-same, leaves-holds}
 use Rattle.amending.proofs.Slices.{begins-holds}
-use Rattle.amending.proofs.KeptLaws.{call-records, call-texts, call-bytes}
+use Rattle.amending.proofs.KeptLaws.{held-dates, call-records, call-texts, call-bytes}
 
 module _ (l : Lists) where
   -- ---- one call, on any memory
@@ -83,6 +83,10 @@ module _ (l : Lists) where
         → (r .number ≡ 0) × (heldOf r ≡ h) × (take (recordWidth * h .records) o′ ≡ take (recordWidth * h .records) (M .records))
         × (take (entryWidth * h .statements) d′ ≡ take (entryWidth * h .statements) (M .directory))
     as-read = reads-same l H
+
+    -- each entry's latest date is that of its records' words, and the script's is the greatest of the entries'
+    pub dates-true : DatesTrue M h
+    dates-true = held-dates H
 
     -- ---- one call on it
 

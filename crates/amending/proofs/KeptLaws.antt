@@ -2,7 +2,7 @@
 use mathlib.Core.Path.{_≡_, refl, sym, ap, _∙_, subst}
 use mathlib.Core.List.{List, [], _∷_, _++_, append-assoc, map, map-append}
 use mathlib.Core.Option.{some}
-use Prim.Native.Nat.{ℕ, suc, _+_, _-_, _*_, _<_}
+use Prim.Native.Nat.{ℕ, suc, _+_, _-_, _*_, _/_, _<_}
 use native.Mathlib.Omega.{arith}
 use lib.ListN.{length, take, drop, length-append, length-map}
 use lib.Seq.{slice, take-at, drop-at, take-take, drop-append-add}
@@ -10,7 +10,8 @@ use Rattle.tokens.specs.Names.{Lists}
 use Rattle.grammar.specs.Sizes.{recordWidth, entryWidth}
 use Rattle.grammar.specs.Trees.{size, records}
 use Rattle.grammar.specs.Script.{Entry, accepted, words, movedEntry}
-use Rattle.grammar.specs.Words.{wordsOf, Row, rowOf}
+use Rattle.grammar.specs.Latest.{latestIn}
+use Rattle.grammar.specs.Words.{wordsOf, Row, rowOf, latestOf}
 use Rattle.grammar.proofs.AmendBytes.{Cut, cut-at, Accepted, read-accepted}
 use Rattle.grammar.proofs.WordLaws.{records-length}
 use Rattle.reading.specs.declared.reading.Answer.{Answer}
@@ -19,7 +20,7 @@ use Rattle.amending.specs.Amending.{State, Pick, pick, Answer as Result,
 use Rattle.amending.specs.Entries.{rowAt, pickAt}
 use Rattle.amending.specs.Memory.{Memory, roomsIn, Amends}
 use Rattle.amending.specs.States.{heldOf, Holds}
-use Rattle.amending.specs.Kept.{textsAt, recordsAt, textsIn, recordsIn, textsOf, recordsOf, exchanged, KeepsRecords, KeepsTexts, KeepsBytes}
+use Rattle.amending.specs.Kept.{textsAt, recordsAt, textsIn, recordsIn, textsOf, recordsOf, datesOf, DatesTrue, exchanged, KeepsRecords, KeepsTexts, KeepsBytes}
 use Rattle.amending.specs.declared.held.Held.{Held}
 use Rattle.amending.proofs.AmendingLaws.{pick-is}
 use Rattle.amending.proofs.EntryLaws.{pick-here}
@@ -39,12 +40,25 @@ cut (e ∷ es) =
     ∷ recordsAt (drop-at (records (e .tree)) (wordsOf es) (recordWidth * size (e .tree)) n i) (map rowOf es))
     ∙ ap {B = List (List ℕ)} (λ x. records (e .tree) ∷ x) (cut es)
 
+-- the latest dates in the entries of statements are those of their words
+own-dates : (es : List Entry) → map (λ (r : Row). r .latest) (map rowOf es) ≡ datesOf (recordsOf es)
+own-dates [] = refl
+own-dates (e ∷ es) =
+    let n : size (e .tree) ≡ length (records (e .tree)) / recordWidth = omega (arith, records-length (e .tree)) in
+    λ i. latestIn (n i) (records (e .tree)) ∷ own-dates es i
+
 module _ {l : Lists} {M : Memory} {h : Held} {st : State} (H : Holds l M h st) where
   pub held-records : recordsIn M h ≡ recordsOf (st .entries)
   held-records = (λ i. recordsAt (H .used i .words) (H .used i .rows)) ∙ cut (st .entries)
 
   pub held-texts : textsIn M h ≡ textsOf (st .script) (st .entries)
   held-texts = λ i. textsAt (H .used i .script) (H .used i .rows)
+
+  pub held-dates : DatesTrue M h
+  held-dates = record {
+    entries = (λ i. map (λ (r : Row). r .latest) (H .used i .rows)) ∙ own-dates (st .entries) ∙ ap datesOf (sym held-records);
+    script = ap (λ (x : Held). x .latest) (H .counts) ∙ (λ i. latestOf (sym (H .used) i .rows));
+  }
 
 pub texts-count : (s : List ℕ) (rs : List Row) → length (textsAt s rs) ≡ length rs
 texts-count s [] = refl

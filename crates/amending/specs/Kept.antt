@@ -1,15 +1,16 @@
--- What a caller sees of memory that holds a script: each statement's text and each statement's records, as the directory places them;
+-- What a caller sees of memory that holds a script: each statement's text, each statement's records and their latest date, as the directory has them;
 -- and what it means that an amendment keeps all but one.
 use mathlib.Core.Path.{_≡_}
 use mathlib.Core.List.{List, [], _∷_, _++_, map}
-use Prim.Native.Nat.{ℕ, suc, _*_, _<_}
-use lib.ListN.{take, drop}
+use Prim.Native.Nat.{ℕ, suc, _*_, _/_, _<_}
+use lib.ListN.{length, take, drop}
 use lib.Seq.{slice}
 use Rattle.tokens.specs.Names.{Lists}
 use Rattle.grammar.specs.Sizes.{recordWidth, entryWidth}
 use Rattle.grammar.specs.Trees.{records}
 use Rattle.grammar.specs.Script.{Entry, accepted, readScript}
-use Rattle.grammar.specs.Words.{Row, rowOf}
+use Rattle.grammar.specs.Latest.{latestIn}
+use Rattle.grammar.specs.Words.{Row, rowOf, latestOf}
 use Rattle.amending.specs.Entries.{rowAt, rowsFrom}
 use Rattle.amending.specs.Memory.{Memory}
 use Rattle.amending.specs.declared.held.Held.{Held}
@@ -32,6 +33,15 @@ textsIn M h = textsAt (take (h .bytes) (M .script)) (rowsFrom (h .statements) (M
 
 abbrev pub recordsIn : Memory → Held → List (List ℕ)
 recordsIn M h = recordsAt (take (recordWidth * h .records) (M .records)) (rowsFrom (h .statements) (M .directory))
+
+-- the latest date of each statement's records, found in their words
+abbrev pub datesOf : List (List ℕ) → List ℕ
+datesOf xs = map (λ (ws : List ℕ). latestIn (length ws / recordWidth) ws) xs
+
+-- each entry's latest date is that of its records, and the script's is the greatest of the entries'
+pub record DatesTrue (M : Memory) (h : Held) : Type 0 where
+  pub entries : map (λ (r : Row). r .latest) (rowsFrom (h .statements) (M .directory)) ≡ datesOf (recordsIn M h)
+  pub script : h .latest ≡ latestOf (rowsFrom (h .statements) (M .directory))
 
 -- of a script s with the statements es
 abbrev pub textsOf : List ℕ → List Entry → List (List ℕ)

@@ -27,7 +27,7 @@ use Rattle.amending.specs.Amending.{State, Rooms, amend, left, after}
 use Rattle.amending.specs.Lent.{given}
 use Rattle.amending.specs.Memory.{Memory, memory, roomsIn, answered}
 use Rattle.amending.specs.States.{heldOf, Holds, Begins}
-use Rattle.amending.specs.Kept.{KeepsRecords, KeepsTexts, KeepsBytes}
+use Rattle.amending.specs.Kept.{DatesTrue, KeepsRecords, KeepsTexts, KeepsBytes}
 use Rattle.amending.specs.declared.held.Held.{Held}
 use Rattle.amending.proofs.AmendAnswers as amended
 use Rattle.amending.proofs.GroundLaws.{bounded}
@@ -171,6 +171,10 @@ module _ (l : Lists) where
     as-read lo ld X =
         let R = certain.as-read l H lo ld (X .leaves) in
         (ap numberIn (read-words X) ∙ R .0, ap heldIn (read-words X) ∙ held-numbers (X .answer) ∙ R .1, R .2, R .3)
+
+    -- each entry's latest date is that of its records' words, and the script's, the last word, is the greatest of the entries'
+    pub dates-true : DatesTrue M (heldIn vs)
+    dates-true = certain.dates-true l H
 
     module _ {k : ℕ} {n ws : List ℕ} {M′ : Memory} (X : Replaces l M vs k n ws M′) where
       accepted-by : numberIn ws ≡ 0 → X .answer .number ≡ 0

@@ -1,4 +1,4 @@
--- The latest date: of records, over their words as they stand in memory, and of the entries of a directory. Dates are day counts, and 0 is none.
+-- The latest date of records, over their words as they stand in memory. Dates are day counts, and 0 is none.
 use mathlib.Core.Bool.{_||_}
 use mathlib.Core.List.{List}
 use Prim.Native.Nat.{ℕ, zero, suc, max}

@@ -1,5 +1,4 @@
 -- Each kind has its dates.
-use mathlib.Core.Path.{_∙_, sym}
 use borrow.Author.Needs.{needs}
 use borrow.Author.Tests.{ne-eqb}
 use Rattle.reading.proofs.latest.date_of.Statement.{statement}

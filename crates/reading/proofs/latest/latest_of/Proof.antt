@@ -1,6 +1,6 @@
 -- The loop over the records. What is found so far, and what is still to be found, are together what all have.
-use mathlib.Core.Path.{_≡_, refl, sym, ap, _∙_}
-use Prim.Native.Nat.{_+_, _-_, _*_, _≤_, max}
+use mathlib.Core.Path.{_≡_}
+use Prim.Native.Nat.{_-_, _*_, _≤_, max}
 use native.Mathlib.Omega.{arith}
 use lib.ListN.{length, drop}
 use borrow.Author.Needs.{needs}
@@ -10,8 +10,6 @@ use Rattle.grammar.specs.Latest.{latestIn}
 use Rattle.grammar.proofs.LatestLaws.{latest-turn, latest-none}
 use Rattle.reading.proofs.latest.latest_of.Statement.{statement}
 use Rattle.reading.proofs.latest.latest_of.Tie as tie
-use Rattle.reading.proofs.latest.latest_of.Reads as reads
-use Rattle.reading.proofs.latest.latest_of.Lts as lts
 
 abbrev Inv-loop : tie.InvT-loop
 Inv-loop records n m i₀ latest₀ i latest =

@@ -7,8 +7,6 @@ use Rattle.reading.proofs.RowLaws.{put-five}
 use borrow.Author.Needs.{needs}
 use Rattle.reading.proofs.records.put_entry.Statement.{statement}
 use Rattle.reading.proofs.records.put_entry.Tie as tie
-use Rattle.reading.proofs.records.put_entry.Reads as reads
-use Rattle.reading.proofs.records.put_entry.Lts as lts
 
 mul-at : tie.Need-mul-at
 mul-at c = search needs
