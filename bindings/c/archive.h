@@ -34,7 +34,7 @@ extern "C" {
 
 /* Widths, in words. */
 enum {
-    ARCHIVE_RECORD_WORDS = 7, /* kind, nodes in its subtree, direct parts, four fields; children before parents */
+    ARCHIVE_RECORD_WORDS = 8, /* of a node, see below; children stand before parents */
     ARCHIVE_ENTRY_WORDS = 5,  /* of a statement, see below */
     ARCHIVE_ANSWER_WORDS = 9,
     ARCHIVE_PLACE_WORDS = 3,
@@ -86,10 +86,27 @@ enum {
 };
 
 /*
- * The kinds of a record, and its fields f1 to f4 where they are used. A place counts from the first byte of the record's
- * statement. A date is its day count, 0001-01-01 being 1 and 9999-12-31 ARCHIVE_LAST_COUNT, so that the days from one date
- * to another are the difference; calendar_day says which day it is. A currency is its place in the list, from 0, plus 1.
- * Of both, 0 is absent.
+ * The words of a record. All places in it count from the first byte of its statement, ARCHIVE_ENTRY_START of the entry.
+ *
+ * Its own place is the byte at which the text that the node was read from begins, with its first token. Of a name or a call
+ * that is its name, of a string its opening quote, of a list its bracket, of ARCHIVE_PAYS, ARCHIVE_IF and ARCHIVE_FOR_EACH
+ * the word, of ARCHIVE_UNARY_MINUS and of a negated number the minus. Parentheses round a node and a plus before it are not
+ * its text; but a node with a left part, such as a sum, a comparison or an index, begins where that part's text begins,
+ * these included: in `(a + b) * c` the product is at the parenthesis and the sum at `a`, in `+a[0]` the index is at `a`.
+ * ARCHIVE_ASSIGN is at its name, and in `x += e` and `x pays e` both variables and the sum or other node are, too.
+ */
+enum {
+    ARCHIVE_RECORD_KIND = 0,
+    ARCHIVE_RECORD_NODES = 1,  /* nodes in its subtree, itself among them; their records end with its own */
+    ARCHIVE_RECORD_PARTS = 2,  /* its direct parts */
+    ARCHIVE_RECORD_FIELDS = 3, /* the first of its four fields f1 to f4 */
+    ARCHIVE_RECORD_PLACE = 7
+};
+
+/*
+ * The kinds of a record, and its fields f1 to f4 where they are used. A date is its day count, 0001-01-01 being 1 and
+ * 9999-12-31 ARCHIVE_LAST_COUNT, so that the days from one date to another are the difference; calendar_day says which day
+ * it is. A currency is its place in the list, from 0, plus 1. Of both, 0 is absent.
  */
 enum {
     ARCHIVE_VARIABLE = 1, /* start, length of the name */

@@ -1,5 +1,5 @@
-/* Reads a note, replaces a statement, has an amendment refused, looks a name up, and tells dates. Exits with 1 where an
- * answer is not the one that this example is about. */
+/* Reads a note, replaces a statement, has an amendment refused, looks a name up, tells dates, and finds nodes in the script.
+ * Exits with 1 where an answer is not the one that this example is about. */
 #include "archive.h"
 
 #include <stdio.h>
@@ -67,7 +67,7 @@ static bool names(const struct note *n, const char *expected)
     script_part(n->script, n->answer[ARCHIVE_COUNT_BYTES], bytes(currencies), strlen(currencies), n->records,
                 n->directory[ARCHIVE_ENTRY_START], false, place);
     const char *name = (place[0] == 0 ? (const char *)n->script : currencies) + place[1];
-    printf("first record: kind %u, %.*s\n", (unsigned)n->records[0], (int)place[2], name);
+    printf("first record: kind %u, %.*s\n", (unsigned)n->records[ARCHIVE_RECORD_KIND], (int)place[2], name);
     return place[2] == strlen(expected) && memcmp(name, expected, place[2]) == 0;
 }
 
@@ -75,12 +75,13 @@ static bool names(const struct note *n, const char *expected)
 static bool pays_on(const struct note *n, uint32_t year, uint32_t month, uint32_t day)
 {
     const uint32_t *record = n->records + (n->answer[ARCHIVE_COUNT_RECORDS] - 1) * ARCHIVE_RECORD_WORDS;
+    uint32_t kind = record[ARCHIVE_RECORD_KIND], count = record[ARCHIVE_RECORD_FIELDS];
     uint32_t date[ARCHIVE_DAY_WORDS];
-    calendar_day(record[3], date);
-    printf("last record: kind %u, day %u, %04u-%02u-%02u\n", (unsigned)record[0], (unsigned)record[3],
-           (unsigned)date[0], (unsigned)date[1], (unsigned)date[2]);
-    return record[0] == ARCHIVE_PAYS && record[3] == calendar_count(year, month, day) && date[0] == year &&
-           date[1] == month && date[2] == day;
+    calendar_day(count, date);
+    printf("last record: kind %u, day %u, %04u-%02u-%02u\n", (unsigned)kind, (unsigned)count, (unsigned)date[0],
+           (unsigned)date[1], (unsigned)date[2]);
+    return kind == ARCHIVE_PAYS && count == calendar_count(year, month, day) && date[0] == year && date[1] == month &&
+           date[2] == day;
 }
 
 /* Prints the note's latest date, and says whether it is the one expected, with one statement's latest date among it. */
@@ -92,6 +93,24 @@ static bool ends_on(const struct note *n, uint32_t statement, uint32_t year, uin
     printf("latest date: %04u-%02u-%02u\n", (unsigned)date[0], (unsigned)date[1], (unsigned)date[2]);
     return latest == calendar_count(year, month, day) &&
            latest == n->directory[statement * ARCHIVE_ENTRY_WORDS + ARCHIVE_ENTRY_LATEST];
+}
+
+/* Prints the script from the text of the first node of a kind on, and says whether it begins as expected. */
+static bool begins(const struct note *n, uint32_t kind, const char *expected)
+{
+    const uint32_t *record = n->records;
+    for (uint32_t statement = 0; statement < n->answer[ARCHIVE_COUNT_STATEMENTS]; statement++) {
+        const uint32_t *entry = n->directory + statement * ARCHIVE_ENTRY_WORDS;
+        for (uint32_t i = 0; i < entry[ARCHIVE_ENTRY_RECORDS]; i++, record += ARCHIVE_RECORD_WORDS) {
+            if (record[ARCHIVE_RECORD_KIND] == kind) {
+                uint32_t at = entry[ARCHIVE_ENTRY_START] + record[ARCHIVE_RECORD_PLACE];
+                int rest = (int)(entry[ARCHIVE_ENTRY_END] - at);
+                printf("kind %u, byte %u: %.*s\n", (unsigned)kind, (unsigned)at, rest, (const char *)n->script + at);
+                return strncmp((const char *)n->script + at, expected, strlen(expected)) == 0;
+            }
+        }
+    }
+    return false;
 }
 
 int main(void)
@@ -118,6 +137,11 @@ int main(void)
     good &= ends_on(&n, 2, 2026, 6, 30);
     amend_note(&n, 0, "rate = RateIndex(\"SOFR\", \"2026-06-30\", \"2026-12-31\");");
     good &= ends_on(&n, 0, 2026, 12, 31);
+
+    amend_note(&n, 1, "floor = (rate - 0.02) * 2;");
+    good &= begins(&n, ARCHIVE_MULTIPLY, "(rate - 0.02) * 2;");
+    good &= begins(&n, ARCHIVE_SUBTRACT, "rate - 0.02) * 2;");
+    good &= begins(&n, ARCHIVE_PAYS, "pays rate on");
     if (!good) {
         fputs("example: an answer is not the one expected\n", stderr);
     }

@@ -2,7 +2,7 @@
 use crate::lookups;
 use crate::scan::{Kind, Piece};
 use crate::tree::{Fact, Tree};
-use calls::{part, ENTRY, LATEST, RECORD};
+use calls::{part, ENTRY, LATEST, PLACE, RECORD};
 
 /// What a call left, cut to what is used.
 pub struct Held<'a> {
@@ -85,7 +85,7 @@ fn span<'a>(
 /// The latest date of some records, which the words of five kinds have; 0 where there is none.
 fn latest(records: &[u32]) -> u32 {
     let dates = records.chunks_exact(RECORD).flat_map(|words| {
-        let [kind, _, _, f1, _, f3, f4] = *words else {
+        let [kind, _, _, f1, _, f3, f4, _] = *words else {
             unreachable!("a chunk has its length")
         };
         match kind {
@@ -116,7 +116,8 @@ fn tree(held: &Held, words: &[u32], start: usize) -> Result<Tree, String> {
         }
         record.check_place(held, &mut passed)?;
         let parts = below.into_iter().map(|(tree, _)| tree).collect();
-        trees.push((Tree::new(kind, record.facts(held)?, parts), nodes as usize));
+        let tree = Tree::new(kind, record.facts(held)?, parts).at(words[PLACE] as usize);
+        trees.push((tree, nodes as usize));
     }
     match (trees.pop(), trees.pop()) {
         (Some((tree, _)), None) => Ok(tree),
@@ -126,7 +127,7 @@ fn tree(held: &Held, words: &[u32], start: usize) -> Result<Tree, String> {
 
 impl Record<'_> {
     fn facts(&self, held: &Held) -> Result<Vec<Fact>, String> {
-        let [kind, _, _, f1, f2, f3, f4] = *self.words;
+        let [kind, _, _, f1, f2, f3, f4, _] = *self.words;
         let first = self.name(held, false)?;
         let second = self.name(held, true)?;
         let (used, facts) = match kind {
@@ -153,7 +154,7 @@ impl Record<'_> {
             38 => (1, vec![Fact::FirstElse(f1)]),
             _ => (0, Vec::new()),
         };
-        if self.words[3 + used..].iter().any(|word| *word != 0) {
+        if self.words[3 + used..PLACE].iter().any(|word| *word != 0) {
             return Err(format!(
                 "{:?} has words that its kind does not use",
                 self.words
@@ -191,7 +192,7 @@ impl Record<'_> {
 
     /// Names and literals stand at their tokens, and in the order of the script; a compound assignment has its name twice.
     fn check_place(&self, held: &Held, passed: &mut usize) -> Result<(), String> {
-        let [kind, _, _, f1, f2, f3, f4] = *self.words;
+        let [kind, _, _, f1, f2, f3, f4, _] = *self.words;
         let (token, quote, first, length) = match kind {
             1 | 39 => (Kind::Name, 0, f1, f2),
             2 => (Kind::Number, 0, f3, f4),

@@ -19,7 +19,7 @@ pub fn rule(
     start: u32,
     second: bool,
 ) -> Part {
-    let [kind, _, _, f1, f2, f3, _] = *record;
+    let [kind, _, _, f1, f2, f3, ..] = *record;
     let in_script = |place: u32, length: u32| {
         let first = u64::from(start) + u64::from(place);
         let is_inside = first + u64::from(length) <= script.len() as u64;

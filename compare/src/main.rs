@@ -11,6 +11,7 @@ mod lists;
 mod lookups;
 mod memory;
 mod near;
+mod places;
 mod random;
 mod reading;
 mod reduce;

@@ -15,6 +15,8 @@ pub enum Fact {
 pub struct Tree {
     pub kind: u32,
     pub facts: Vec<Fact>,
+    /// The first byte of its text, counted from that of its statement.
+    pub place: usize,
     pub parts: Vec<Tree>,
 }
 
@@ -27,8 +29,18 @@ const KINDS: [&str; 40] = [
 ];
 
 impl Tree {
+    /// A tree whose place is not known yet.
     pub fn new(kind: u32, facts: Vec<Fact>, parts: Vec<Tree>) -> Self {
-        Self { kind, facts, parts }
+        Self {
+            kind,
+            facts,
+            place: usize::MAX,
+            parts,
+        }
+    }
+
+    pub fn at(self, place: usize) -> Self {
+        Self { place, ..self }
     }
 
     pub fn nodes(&self) -> usize {
@@ -50,6 +62,9 @@ impl std::fmt::Debug for Tree {
     fn fmt(&self, out: &mut std::fmt::Formatter<'_>) -> std::fmt::Result {
         let name = KINDS.get(self.kind as usize).unwrap_or(&"unknown");
         write!(out, "{name}")?;
+        if self.place != usize::MAX {
+            write!(out, "@{}", self.place)?;
+        }
         for fact in &self.facts {
             write!(out, " {fact:?}")?;
         }

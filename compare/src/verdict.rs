@@ -1,6 +1,7 @@
 //! What the Rust makes of a script: its trees, or ground and byte, told from its error's text and position.
 use crate::from_rust;
-use crate::scan::{Fault, Piece};
+use crate::places;
+use crate::scan::{scan, Fault, Piece};
 use crate::tokens::same_tokens;
 use crate::tree::Tree;
 use oracle::{Date, Parser, QSError, Token, Tokenize};
@@ -22,7 +23,11 @@ pub fn verdict(script: &str, pieces: &[Piece]) -> Result<Verdict, String> {
     };
     same_tokens(script, pieces, &tokens)?;
     match Parser::new(tokens.clone()).parse() {
-        Ok(root) => Ok(Verdict::Accepted(from_rust::statements(&root))),
+        Ok(root) => {
+            let mut trees = from_rust::statements(&root);
+            places::lay(&mut trees, &tokens, pieces)?;
+            Ok(Verdict::Accepted(trees))
+        }
         Err(error) => {
             let place = Position::of(&error, &tokens)?;
             let byte = place.byte(script, pieces)?;
@@ -34,9 +39,10 @@ pub fn verdict(script: &str, pieces: &[Piece]) -> Result<Verdict, String> {
 
 /// The statements of a script that the Rust accepts.
 pub fn accepted(script: &str) -> Result<Vec<Tree>, String> {
-    oracle::read(script)
-        .map(|root| from_rust::statements(&root))
-        .map_err(|error| format!("the Rust refuses {script:?}: {error:?}"))
+    match verdict(script, &scan(script.as_bytes()).pieces)? {
+        Verdict::Accepted(trees) => Ok(trees),
+        other => Err(format!("the Rust refuses {script:?}: {other:?}")),
+    }
 }
 
 /// The lexer's line and column count characters.

@@ -1,6 +1,7 @@
-//! Reads a note, replaces a statement, and lists what each variable is called: `cargo run --example amend`.
+//! Reads a note, replaces a statement, and lists what each variable is called and where it stands:
+//! `cargo run --example amend`.
 
-use gorembiin::{Kind, Lists, Note, Refusal, Which};
+use gorembiin::{Kind, Lists, Note, Record, Refusal, Statement, Which};
 
 fn main() -> Result<(), Refusal> {
     let lists = Lists { currencies: b"USD\nEUR\nCHF\n", ..Lists::default() };
@@ -11,8 +12,7 @@ fn main() -> Result<(), Refusal> {
 
     for statement in note.statements() {
         let variables = statement.records().filter(|record| record.kind() == Some(Kind::Variable));
-        let names: Vec<_> =
-            variables.map(|record| String::from_utf8_lossy(statement.text_of(record, Which::First).bytes)).collect();
+        let names: Vec<String> = variables.map(|record| name_and_place(&statement, record)).collect();
         println!("statement {} names {}", statement.number(), names.join(", "));
     }
 
@@ -21,4 +21,10 @@ fn main() -> Result<(), Refusal> {
         println!("refused: {refusal}");
     }
     Ok(())
+}
+
+fn name_and_place(statement: &Statement, record: Record) -> String {
+    let name = String::from_utf8_lossy(statement.text_of(record, Which::First).bytes);
+    let place = statement.position_of(record).map_or(String::new(), |at| format!(" at {}:{}", at.line, at.column));
+    format!("{name}{place}")
 }

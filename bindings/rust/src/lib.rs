@@ -21,6 +21,7 @@ mod kind;
 mod lists;
 mod note;
 mod numbered;
+mod position;
 mod record;
 mod statement;
 
@@ -31,6 +32,7 @@ pub use ground::Ground;
 pub use kind::Kind;
 pub use lists::Lists;
 pub use note::Note;
+pub use position::Position;
 pub use record::{Fields, Place, Record};
 pub use statement::{Branch, Statement, Tree};
 
@@ -42,7 +44,7 @@ pub const TOKENS: usize = 4_096;
 pub const RECORDS: usize = 2_048;
 /// Most top-level statements of a script.
 pub const STATEMENTS: usize = 512;
-/// Words of a record: kind, nodes in its subtree, direct parts, four fields.
-pub const RECORD_WORDS: usize = 7;
+/// Words of a record: kind, nodes in its subtree, direct parts, four fields, place.
+pub const RECORD_WORDS: usize = 8;
 /// Words of a directory entry: first byte, byte past the last token, records, tokens, count of the latest date's day.
 pub const ENTRY_WORDS: usize = 5;

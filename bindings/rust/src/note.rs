@@ -4,6 +4,7 @@ use crate::answer::{Counts, Refusal};
 use crate::calls;
 use crate::date::Date;
 use crate::lists::Lists;
+use crate::position::{self, Position};
 use crate::statement::Statement;
 use crate::{BYTES, ENTRY_WORDS, RECORDS, RECORD_WORDS, STATEMENTS};
 
@@ -74,6 +75,17 @@ impl<'l> Note<'l> {
     /// The words of its directory that are used.
     pub fn directory_words(&self) -> &[u32] {
         &self.directory[..self.counts.statements as usize * ENTRY_WORDS]
+    }
+
+    /// The place of a byte of the script, or of the script's end.
+    pub fn position(&self, byte: u32) -> Option<Position> {
+        position::of_byte(self.script(), byte)
+    }
+
+    /// The place of a character of the script, by its line and column, both from 1. The last column of a line is that of
+    /// its line feed, or of the script's end.
+    pub fn position_at(&self, line: u32, column: u32) -> Option<Position> {
+        position::of_character(self.script(), line, column)
     }
 
     /// Its statements in order.

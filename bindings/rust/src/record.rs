@@ -4,7 +4,7 @@ use crate::date::Date;
 use crate::kind::Kind;
 use crate::RECORD_WORDS;
 
-/// A record, as the seven words that the library wrote.
+/// A record, as the eight words that the library wrote.
 #[derive(Clone, Copy, Debug, PartialEq, Eq)]
 pub struct Record([u32; RECORD_WORDS]);
 
@@ -89,7 +89,7 @@ impl Record {
         Record(words)
     }
 
-    /// Its words: kind, nodes, parts, four fields.
+    /// Its words: kind, nodes, parts, four fields, place.
     pub fn words(self) -> [u32; RECORD_WORDS] {
         self.0
     }
@@ -109,9 +109,19 @@ impl Record {
         self.0[2]
     }
 
+    /// Its place: the byte, from the first byte of its statement, at which the text that it was read from begins.
+    ///
+    /// Parentheses round a node and a plus before it are not its text. But a node with a left part begins where that
+    /// part's text begins, these included: in `(a + b) * c` the Multiply is at the parenthesis, and the Add at `a`. In
+    /// `x += e` and `x pays e` all nodes but those of `e` and the Pays are at `x`.
+    /// [`Statement::position_of`](crate::Statement::position_of) says where that is in the script.
+    pub fn place(self) -> u32 {
+        self.0[7]
+    }
+
     /// Its fields by name.
     pub fn fields(self) -> Fields {
-        let [_, _, _, f1, f2, f3, f4] = self.0;
+        let [_, _, _, f1, f2, f3, f4, _] = self.0;
         match self.kind() {
             Some(Kind::Variable | Kind::String) => Fields::Name(place(f1, f2)),
             Some(Kind::Constant) => {

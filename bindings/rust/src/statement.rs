@@ -3,6 +3,7 @@
 use crate::calls::{part, Part, Which};
 use crate::date::Date;
 use crate::note::Note;
+use crate::position::Position;
 use crate::record::Record;
 use crate::RECORD_WORDS;
 
@@ -23,6 +24,8 @@ pub struct Statement<'a> {
 pub struct Branch {
     /// How many records it is a part of, one in the other.
     pub depth: usize,
+    /// Which of the statement's records it is, in the library's order, from 0.
+    pub number: usize,
     /// The record.
     pub record: Record,
 }
@@ -84,6 +87,11 @@ impl<'a> Statement<'a> {
         let (script, currencies) = (self.note.script(), self.note.lists().currencies);
         part(script, currencies, record, self.start, which)
     }
+
+    /// Where in the script the text of one of its records begins. A record of other words may have a place outside.
+    pub fn position_of(&self, record: Record) -> Option<Position> {
+        self.note.position(self.start.checked_add(record.place())?)
+    }
 }
 
 impl Iterator for Tree<'_> {
@@ -98,7 +106,7 @@ impl Iterator for Tree<'_> {
             self.waiting.push((end - 1, depth + 1));
             end -= record_at(self.words, end - 1).nodes() as usize;
         }
-        Some(Branch { depth, record })
+        Some(Branch { depth, number: at, record })
     }
 }
 

@@ -3,7 +3,7 @@
 mod common;
 
 use common::{assert_as_read, latest_of_records, LISTS};
-use gorembiin::{Fields, Note, Which};
+use gorembiin::{Fields, Kind, Note, Record, Statement, Which};
 
 /// Pieces of scripts, and bytes that have no place in one.
 const PIECES: [&[u8]; 33] = [
@@ -69,6 +69,36 @@ impl Dice {
     }
 }
 
+/// What must hold of a record's place, whatever it is: it is a byte of the statement, at which a name begins if it is a
+/// variable's; a string's is at the quote, and a number's at its first digit or at a minus before.
+fn assert_placed(statement: &Statement, record: Record) {
+    let (text, place) = (statement.text(), record.place());
+    match record.fields() {
+        Fields::Name(name) if record.kind() == Some(Kind::String) => assert_eq!(place + 1, name.start),
+        Fields::Name(name) => assert_eq!(place, name.start),
+        Fields::Constant { value, literal } if value.is_sign_negative() => {
+            assert!(place < literal.start && text[place as usize] == b'-');
+        }
+        Fields::Constant { literal, .. } => assert_eq!(place, literal.start),
+        _ => assert!(!b" \t\r\n)]};,".contains(&text[place as usize])),
+    }
+    let position = statement.position_of(record).unwrap();
+    assert_eq!(position.byte, statement.start() + place);
+}
+
+/// No part begins before its node, and none before a part that stands before it.
+fn assert_in_order(statement: &Statement) {
+    // the place that the next node at each depth cannot be before
+    let mut least: Vec<u32> = Vec::new();
+    for branch in statement.tree() {
+        least.truncate(branch.depth + 1);
+        let place = branch.record.place();
+        assert!(least.last().is_none_or(|&least| least <= place), "{}", String::from_utf8_lossy(statement.text()));
+        least.truncate(branch.depth);
+        least.push(place);
+    }
+}
+
 /// Each tree has all records of its statement, each name is what its fields place, and the statements have all records. The
 /// latest dates are those of the records.
 fn assert_whole(note: &Note) {
@@ -76,8 +106,10 @@ fn assert_whole(note: &Note) {
     for statement in note.statements() {
         assert_eq!(statement.tree().count(), statement.records().len());
         assert_eq!(statement.latest(), latest_of_records(&statement));
+        assert_in_order(&statement);
         records += statement.records().len();
         for record in statement.records() {
+            assert_placed(&statement, record);
             if let Fields::Name(place) | Fields::ForEach { variable: place } = record.fields() {
                 let name = &statement.text()[place.start as usize..][..place.length as usize];
                 assert_eq!(statement.text_of(record, Which::First).bytes, name);

@@ -55,7 +55,7 @@ fn every_day_is_read_as_its_count() {
         let records: Vec<Record> = note.statements().flat_map(|statement| statement.records()).collect();
         assert_eq!(records.len(), days.len());
         for ((record, &day), count) in records.into_iter().zip(days).zip((place * STATEMENTS + 1) as u32..) {
-            assert_eq!(record.words(), [34, 1, 0, count, 0, 0, 0], "{day:?}");
+            assert_eq!(record.words(), [34, 1, 0, count, 0, 0, 0, 0], "{day:?}");
             let (year, month, day) = day;
             assert_eq!(record.fields(), Fields::Df { date: Date::new(year, month, day), curve: None });
         }

@@ -3,84 +3,8 @@
 mod common;
 
 use common::calendar::{days, written};
+use common::desk::{says, Folder};
 use std::fs;
-use std::io::Write;
-use std::path::{Path, PathBuf};
-use std::process::{Command, Output, Stdio};
-
-/// A folder of its own for each test, gone when the test ends.
-struct Folder(PathBuf);
-
-impl Folder {
-    fn new(test: &str) -> Self {
-        let path = Path::new(env!("CARGO_TARGET_TMPDIR")).join(test);
-        fs::remove_dir_all(&path).ok();
-        fs::create_dir_all(&path).unwrap();
-        Folder(path)
-    }
-
-    fn put(&self, name: &str, bytes: &[u8]) {
-        fs::write(self.0.join(name), bytes).unwrap();
-    }
-
-    fn get(&self, name: &str) -> Vec<u8> {
-        fs::read(self.0.join(name)).unwrap()
-    }
-
-    /// The names of all files that are there.
-    fn names(&self) -> Vec<String> {
-        let entries = fs::read_dir(&self.0).unwrap();
-        let mut names: Vec<String> = entries.map(|entry| entry.unwrap().file_name().into_string().unwrap()).collect();
-        names.sort();
-        names
-    }
-
-    fn desk(&self, words: &[&str]) -> Answer {
-        self.desk_on(words, b"")
-    }
-
-    /// Runs `desk` in the folder, with these bytes on standard input.
-    fn desk_on(&self, words: &[&str], input: &[u8]) -> Answer {
-        let mut child = Command::new(env!("CARGO_BIN_EXE_desk"))
-            .args(words)
-            .current_dir(&self.0)
-            .stdin(Stdio::piped())
-            .stdout(Stdio::piped())
-            .stderr(Stdio::piped())
-            .spawn()
-            .unwrap();
-        // a program that does not read its input may be gone by now
-        child.stdin.take().unwrap().write_all(input).ok();
-        Answer::from(child.wait_with_output().unwrap())
-    }
-}
-
-impl Drop for Folder {
-    fn drop(&mut self) {
-        fs::remove_dir_all(&self.0).ok();
-    }
-}
-
-#[derive(Debug, PartialEq)]
-struct Answer {
-    status: i32,
-    said: String,
-    complained: String,
-}
-
-impl From<Output> for Answer {
-    fn from(output: Output) -> Self {
-        Answer {
-            status: output.status.code().unwrap(),
-            said: String::from_utf8(output.stdout).unwrap(),
-            complained: String::from_utf8(output.stderr).unwrap(),
-        }
-    }
-}
-
-fn says(status: i32, said: &str) -> Answer {
-    Answer { status, said: said.to_owned(), complained: String::new() }
-}
 
 const NOTE: &[u8] = b"rate = 0.05;\nx pays rate in \"EUR\";\n";
 
@@ -203,19 +127,19 @@ fn show_prints_trees_with_names_and_places() {
 
 statement 0, line 2, bytes 5..29: 7 records, 12 tokens, no date
   | x = Spot(\"EUR\") * -2**2;
-  Assign
-    Variable x at 5..6
-    Multiply
-      Spot EUR in USD
-      Pow
-        Constant -2 at 24..25
-        Constant 2 at 27..28
+   5  Assign
+   5    Variable x at 5..6
+   9    Multiply
+   9      Spot EUR in USD
+  23      Pow
+  23        Constant -2 at 24..25
+  27        Constant 2 at 27..28
 
 statement 1, line 3, bytes 31..58: 2 records, 4 tokens, latest date 2026-06-30
   | pays \"a\tb\"
   | on \"2026-06-30\"
-  Pays on 2026-06-30
-    String \"a\tb\" at 37..40
+  31  Pays on 2026-06-30
+  36    String \"a\tb\" at 37..40
 ";
     assert_eq!(folder.desk(&["show", "note"]), says(0, expected));
     folder.put("note", b"x = ;");
@@ -319,11 +243,17 @@ fn a_written_file_keeps_its_mode_and_a_link_its_file() {
 fn bad_usage_is_told_and_is_2() {
     let folder = Folder::new("bad_usage_is_told_and_is_2");
     folder.put("note", NOTE);
-    let cases: [(&[&str], &str); 13] = [
+    let cases: [(&[&str], &str); 19] = [
         (&[], "no command is given"),
         (&["shew", "note"], "there is no command shew"),
         (&["show"], "show takes one file"),
         (&["check", "note", "note"], "check takes one file"),
+        (&["at", "note"], "at takes a file and a place"),
+        (&["at", "note", "x"], "x is not a place, which is a byte, or LINE:COLUMN"),
+        (&["at", "note", "1:"], "1: is not a place"),
+        (&["at", "note", "1:2:3"], "1:2:3 is not a place"),
+        (&["at", "note", "4294967296"], "4294967296 is not a place"),
+        (&["at", "note", "0", "--write"], "--write is an option of amend"),
         (&["check", "note", "--write"], "--write is an option of amend"),
         (&["check", "note", "--loud"], "there is no option --loud"),
         (&["check", "note", "--reserved"], "--reserved needs a file"),
@@ -345,8 +275,9 @@ fn bad_usage_is_told_and_is_2() {
 fn a_file_that_cannot_be_read_is_named_and_is_2() {
     let folder = Folder::new("a_file_that_cannot_be_read_is_named_and_is_2");
     folder.put("note", NOTE);
-    let cases: [&[&str]; 4] = [
+    let cases: [&[&str]; 5] = [
         &["check", "gone"],
+        &["at", "gone", "0"],
         &["show", "--currencies", "gone", "note"],
         &["amend", "note", "0", "gone"],
         &["amend", "gone", "0", "note"],
@@ -364,7 +295,7 @@ fn help_names_each_command() {
     for words in [&["help"][..], &["--help"], &["show", "-h"]] {
         let answer = folder.desk(words);
         assert_eq!((answer.status, answer.complained.as_str()), (0, ""));
-        for command in ["desk show FILE", "desk check FILE", "desk amend FILE N TEXTFILE"] {
+        for command in ["desk show FILE", "desk at FILE PLACE", "desk check FILE", "desk amend FILE N TEXTFILE"] {
             assert!(answer.said.contains(command), "{command}");
         }
     }
@@ -382,7 +313,7 @@ fn dates_are_shown_in_every_kind_that_has_them() {
     ];
     for (script, expected) in cases {
         let answer = folder.desk_on(&["show", "-"], script.as_bytes());
-        assert_eq!(answer.said.lines().last(), Some(format!("  {expected}").as_str()));
+        assert_eq!(answer.said.lines().last(), Some(format!("   0  {expected}").as_str()));
     }
 }
 
@@ -416,7 +347,7 @@ fn every_day_is_shown_as_it_is_written() {
         let parts: Vec<String> = days.iter().map(|day| format!("Df(\"{day}\")")).collect();
         let answer = folder.desk_on(&["show", "-"], format!("[{}];", parts.join(",")).as_bytes());
         assert_eq!((answer.status, answer.complained.as_str()), (0, ""));
-        let shown: Vec<&str> = answer.said.lines().filter_map(|line| line.strip_prefix("    Df ")).collect();
+        let shown: Vec<&str> = answer.said.lines().filter_map(|line| line.split("    Df ").nth(1)).collect();
         assert_eq!(shown, days);
     }
 }

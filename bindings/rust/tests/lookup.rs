@@ -56,17 +56,26 @@ fn what_is_absent_is_empty() {
 }
 
 #[test]
+fn the_place_of_a_record_is_not_asked() {
+    for place in [0, 1, 6, u32::MAX] {
+        let variable = Record::from_words([1, 1, 0, 2, 3, 0, 0, place]);
+        let part = part(b"abcdef", LISTS.currencies, variable, 1, Which::First);
+        assert_eq!(part, Part { source: Source::Script, start: 3, bytes: b"def" });
+    }
+}
+
+#[test]
 fn any_words_are_answered() {
-    let variable = |start, length| Record::from_words([1, 1, 0, start, length, 0, 0]);
+    let variable = |start, length| Record::from_words([1, 1, 0, start, length, 0, 0, 0]);
     let looked = |record, start| part(b"abcdef", LISTS.currencies, record, start, Which::First);
     assert_eq!(looked(variable(2, 3), 1), Part { source: Source::Script, start: 3, bytes: b"def" });
     assert_eq!(looked(variable(2, 4), 1), NOWHERE);
     assert_eq!(looked(variable(u32::MAX, 2), 1), NOWHERE);
     assert_eq!(looked(variable(1, 1), u32::MAX), NOWHERE);
-    assert_eq!(looked(Record::from_words([u32::MAX; 7]), 0), NOWHERE);
-    let spot = Record::from_words([32, 1, 0, 4, 0, 0, 0]);
+    assert_eq!(looked(Record::from_words([u32::MAX; 8]), 0), NOWHERE);
+    let spot = Record::from_words([32, 1, 0, 4, 0, 0, 0, 0]);
     assert_eq!(looked(spot, 0), NOWHERE);
-    let pays = Record::from_words([36, 1, 0, 0, 1, 0, 0]);
+    let pays = Record::from_words([36, 1, 0, 0, 1, 0, 0, 0]);
     assert_eq!(part(b"", b"USD", pays, 0, Which::First), NOWHERE);
     assert_eq!(part(b"", &[], pays, 0, Which::First), NOWHERE);
 }

@@ -53,9 +53,9 @@ fn fields_have_names() {
 
 #[test]
 fn words_that_no_reading_wrote_have_no_kind() {
-    assert_eq!(Record::from_words([0; 7]).kind(), None);
-    assert_eq!(Record::from_words([40, 1, 0, 0, 0, 0, 0]).kind(), None);
-    assert_eq!(Record::from_words([39, 1, 0, 0, 0, 0, 0]).kind(), Some(Kind::ForEach));
+    assert_eq!(Record::from_words([0; 8]).kind(), None);
+    assert_eq!(Record::from_words([40, 1, 0, 0, 0, 0, 0, 0]).kind(), None);
+    assert_eq!(Record::from_words([39, 1, 0, 0, 0, 0, 0, 0]).kind(), Some(Kind::ForEach));
 }
 
 #[test]

@@ -3,13 +3,16 @@
 mod raw;
 
 /// Words of a record, of an entry of the directory, of an answer, and of the totals in which it ends.
-pub const RECORD: usize = 7;
+pub const RECORD: usize = 8;
 pub const ENTRY: usize = 5;
 pub const ANSWER: usize = 9;
 pub const TOTALS: usize = 5;
 
 /// The word of an entry, and of the totals, that has the latest date: a day count, 0 where there is none.
 pub const LATEST: usize = 4;
+
+/// The word of a record that has its place, counted from its statement's first byte.
+pub const PLACE: usize = 7;
 
 /// The most that the archive takes.
 pub const MOST_BYTES: usize = 16_384;

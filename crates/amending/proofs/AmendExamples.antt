@@ -61,7 +61,7 @@ first-of : String → Entry
 first-of s = go (list (readScript usd (bytes s)))
   where
     go : List Entry → Entry
-    go [] = record { start = 0; end = 0; tree = node 0 [] (fields 0 0 0 0) nil; tokens = 0 }
+    go [] = record { start = 0; end = 0; tree = node 0 0 [] (fields 0 0 0 0) nil; tokens = 0 }
     go (e ∷ es) = e
 
 needed : (length (list (readScript usd (bytes "x = 1; # c"))) ≡ 1) × (length (list (readScript usd (bytes "a = 1; b = 2;"))) ≡ 2)
@@ -91,7 +91,7 @@ lent : List Row → List ℕ → ℕ → Lent
 lent rs ws t = record { script = bytes "x;"; rows = rs; words = ws; tokens = t; latest = 0 }
 
 one : List ℕ
-one = 1 ∷ 1 ∷ 0 ∷ 0 ∷ 1 ∷ 0 ∷ 0 ∷ []
+one = 1 ∷ 1 ∷ 0 ∷ 0 ∷ 1 ∷ 0 ∷ 0 ∷ 0 ∷ []
 
 -- the number of a call on the first statement, and the bytes that it leaves
 handedOf : Lent → Handed → ℕ × List ℕ
@@ -164,7 +164,7 @@ new : List ℕ
 new = bytes "# n\na = 4;\nif b { } \n"
 
 at : List Entry → ℕ → Entry
-at [] n = record { start = 0; end = 0; tree = node 0 [] (fields 0 0 0 0) nil; tokens = 0 }
+at [] n = record { start = 0; end = 0; tree = node 0 0 [] (fields 0 0 0 0) nil; tokens = 0 }
 at (e ∷ es) zero = e
 at (e ∷ es) (suc n) = at es n
 

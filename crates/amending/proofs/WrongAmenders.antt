@@ -35,7 +35,7 @@ unfolding computing
 usd = record { reserved = []; currencies = bytes "USD\n"; counters = [] }
 
 of : ℕ → Memory
-of b = memory (b ∷ 59 ∷ []) (1 ∷ 1 ∷ 0 ∷ 0 ∷ 1 ∷ 0 ∷ 0 ∷ []) (0 ∷ 2 ∷ 1 ∷ 2 ∷ 0 ∷ [])
+of b = memory (b ∷ 59 ∷ []) (1 ∷ 1 ∷ 0 ∷ 0 ∷ 1 ∷ 0 ∷ 0 ∷ 0 ∷ []) (0 ∷ 2 ∷ 1 ∷ 2 ∷ 0 ∷ [])
 
 one : Held
 one = record { bytes = 2; statements = 1; records = 1; tokens = 2; latest = 0 }
@@ -96,7 +96,7 @@ keeps-texts f m l M h st k n H z = kept-texts l H (m l M h k n) z
 -- memory that a reading of `a;true;` leaves
 both : Memory
 unfolding computing
-both = memory (bytes "a;true;") (1 ∷ 1 ∷ 0 ∷ 0 ∷ 1 ∷ 0 ∷ 0 ∷ 3 ∷ 1 ∷ 0 ∷ 0 ∷ 0 ∷ 0 ∷ 0 ∷ []) (0 ∷ 2 ∷ 1 ∷ 2 ∷ 0 ∷ 2 ∷ 7 ∷ 1 ∷ 2 ∷ 0 ∷ [])
+both = memory (bytes "a;true;") (1 ∷ 1 ∷ 0 ∷ 0 ∷ 1 ∷ 0 ∷ 0 ∷ 0 ∷ 3 ∷ 1 ∷ 0 ∷ 0 ∷ 0 ∷ 0 ∷ 0 ∷ 0 ∷ []) (0 ∷ 2 ∷ 1 ∷ 2 ∷ 0 ∷ 2 ∷ 7 ∷ 1 ∷ 2 ∷ 0 ∷ [])
 
 two : Held
 two = record { bytes = 7; statements = 2; records = 2; tokens = 4; latest = 0 }
@@ -117,7 +117,7 @@ taken : Outcome → List Entry
 taken (accepted es) = es
 taken (refused f p) = []
 
-alone : (ns : List Entry) → readScript usd (bytes "1;") ≡ accepted ns → (recordsOf ns ≡ (2 ∷ 1 ∷ 0 ∷ 0x3ff00000 ∷ 0 ∷ 0 ∷ 1 ∷ []) ∷ []) × (textsOf (bytes "1;") ns ≡ (49 ∷ 59 ∷ []) ∷ [])
+alone : (ns : List Entry) → readScript usd (bytes "1;") ≡ accepted ns → (recordsOf ns ≡ (2 ∷ 1 ∷ 0 ∷ 0x3ff00000 ∷ 0 ∷ 0 ∷ 1 ∷ 0 ∷ []) ∷ []) × (textsOf (bytes "1;") ns ≡ (49 ∷ 59 ∷ []) ∷ [])
 unfolding computing usd taken
 alone ns e = (sym (ap (λ (x : Outcome). recordsOf (taken x)) e), sym (ap (λ (x : Outcome). textsOf (bytes "1;") (taken x)) e))
 
@@ -127,7 +127,7 @@ first-of i xs = getD (getD xs i []) 0 0
 
 -- its second statement begins with another byte, and the second's records with another word
 abbrev pub spoiled : Memory → Memory
-spoiled M = memory (set (M .script) 2 0) (set (M .records) 7 0) (M .directory)
+spoiled M = memory (set (M .script) 2 0) (set (M .records) 8 0) (M .directory)
 
 module _ (f g : Call) (m : Amending g) where
   -- one that replaces the statement behind the one that it is asked to replace

@@ -9,7 +9,6 @@ use reading::parts::place_of;
 use reading::reading::Answer;
 use reading::reading::read;
 ghost use mathlib.Core.Path.{_≡_};
-ghost use Prim.Native.Nat.{_%_, _^_};
 ghost use Rattle.calendar.specs.Calendar.{dated, countOf, dayOf};
 ghost use Rattle.reading.specs.Judging.{listsIn};
 ghost use Rattle.reading.specs.Parts.{partNamed, placed};
@@ -76,7 +75,7 @@ pub extern "C" fn script_amend(
 pub extern "C" fn script_part(
     script: &[u8],
     currencies: &[u8],
-    record: &[u32; 7],
+    record: &[u32; 8],
     start: u32,
     second: bool,
     place: &mut [u32; 3],

@@ -20,7 +20,7 @@ use Rattle.tokens.specs.Tokens.{Token, Lexed, lexed, refused as faulty, tokens,
 use Rattle.tokens.proofs.DateLaws.{date-none, date-most}
 use Rattle.grammar.specs.Trees.{Tree, Trees, node, nil, _▹_, Fields, fields, none as unused, snoc, join, size, records}
 use Rattle.grammar.specs.Latest.{latestIn, Date, spot, equity, df, from, to, pays, Has, here, below, HasPart, this, other}
-use Rattle.grammar.specs.Readers.{Out, ok, refused, Reader, bind, _>>=_, _>>_, Turn, again, done, follow, turns, loop, first, is, skip, give, fail, failAt, ask, the}
+use Rattle.grammar.specs.Readers.{Out, ok, refused, Reader, bind, _>>=_, _>>_, Turn, again, done, follow, turns, loop, first, is, skip, give, fail, failAt, ask, peek, the}
 use Rattle.grammar.specs.Grammar as G
 use Rattle.grammar.specs.Grammar.{deeper, optional, grouped, sum, comparison, expression, items, arguments, method, postfixes, dateOf, aDate, rateIndex, Words, Inner, deep, nextKind, block, ifOver, ended}
 use Rattle.grammar.specs.Script.{Entry, Outcome, accepted, refused as wrong, front, back, entryOf, onward, turn, upTo, from as fromByte, statements, words, ofTokens, readScript}
@@ -48,14 +48,14 @@ Dates k (fields a b c d) =
 -- and so for each node of a tree
 mutual
   data Dated : Tree → Type 0 where
-    node-dated : {k : ℕ} {s : List ℕ} {f : Fields} {ts : Trees} → Dates k f → DatedAll ts → Dated (node k s f ts)
+    node-dated : {k p : ℕ} {s : List ℕ} {f : Fields} {ts : Trees} → Dates k f → DatedAll ts → Dated (node k p s f ts)
 
   data DatedAll : Trees → Type 0 where
     nil-dated : DatedAll nil
     more-dated : {t : Tree} {ts : Trees} → Dated t → DatedAll ts → DatedAll (t ▹ ts)
 
 -- a node whose fields are unused, whatever its kind
-unused-dated : {k : ℕ} {s : List ℕ} {ts : Trees} → DatedAll ts → Dated (node k s unused ts)
+unused-dated : {k p : ℕ} {s : List ℕ} {ts : Trees} → DatedAll ts → Dated (node k p s unused ts)
 unused-dated {k} h = node-dated (go (eqb k 32 || eqb k 33) (eqb k 34 || eqb k 36) (eqb k 35)) h
   where
     go : (p q r : Bool) → if p then Counted 0 else if q then Counted 0 else if r then Counted 0 × Counted 0 else Unit {0}
@@ -194,13 +194,13 @@ ruleset laws = (then-tree, then-trees, then-date, then-gives, next-gives, give-g
 abbrev Reads : Reader Tree → Type 0
 Reads m = Gives Dated m
 
-groupTurn-dated : (op : Token → Bool) (operand : Reader Tree) → Reads operand → (l : Tree) → Dated l → Gives (Turned Dated) (G.groupTurn op operand l)
+groupTurn-dated : (op : Token → Bool) (operand : Reader Tree) → Reads operand → (b : ℕ) (l : Tree) → Dated l → Gives (Turned Dated) (G.groupTurn op operand b l)
 unfolding G.groupTurn
-groupTurn-dated op operand h l g = search laws depth 9
+groupTurn-dated op operand h b l g = search laws depth 9
 
 grouped-dated : (op : Token → Bool) (operand : Reader Tree) → Reads operand → Reads (grouped op operand)
 unfolding grouped
-grouped-dated op operand h = then-tree h (loop-gives (groupTurn-dated op operand h))
+grouped-dated op operand h = then-gives peek λ t. then-tree h λ l g. loop-gives (groupTurn-dated op operand h _) l g
 
 sum-dated : (p : Reader Tree) → Reads p → Reads (sum p)
 unfolding sum
@@ -226,17 +226,17 @@ arguments-dated : (o : Option (Reader Tree)) → Each Reads o → Gives DatedAll
 unfolding arguments
 arguments-dated o h = search (laws, items-dated) depth 12
 
-method-dated : (x : Tree) → Dated x → (m : Token) (es : Trees) → DatedAll es → Reads (method x m es)
+method-dated : (b : ℕ) (x : Tree) → Dated x → (m : Token) (es : Trees) → DatedAll es → Reads (method b x m es)
 unfolding method
-method-dated x h m es hs = search laws depth 12
+method-dated b x h m es hs = search laws depth 12
 
-postfixTurn-dated : (o : Option (Reader Tree)) → Each Reads o → (x : Tree) → Dated x → Gives (Turned Dated) (G.postfixTurn o x)
+postfixTurn-dated : (o : Option (Reader Tree)) → Each Reads o → (b : ℕ) (x : Tree) → Dated x → Gives (Turned Dated) (G.postfixTurn o b x)
 unfolding G.postfixTurn
-postfixTurn-dated o h x g = search (laws, arguments-dated, method-dated, expression-dated) depth 12
+postfixTurn-dated o h b x g = search (laws, arguments-dated, method-dated, expression-dated) depth 12
 
-postfixes-dated : (o : Option (Reader Tree)) → Each Reads o → (x : Tree) → Dated x → Reads (postfixes o x)
+postfixes-dated : (o : Option (Reader Tree)) → Each Reads o → (b : ℕ) (x : Tree) → Dated x → Reads (postfixes o b x)
 unfolding postfixes
-postfixes-dated o h = loop-gives (postfixTurn-dated o h)
+postfixes-dated o h b = loop-gives (postfixTurn-dated o h b)
 
 dateOf-counted : (t : Token) → Gives Counted (dateOf t)
 unfolding dateOf
@@ -246,13 +246,13 @@ aDate-counted : Gives Counted aDate
 unfolding aDate
 aDate-counted = search (laws, dateOf-counted)
 
-df-dated : Reads G.df
+df-dated : (b : ℕ) → Reads (G.df b)
 unfolding G.df
-df-dated = search (laws, aDate-counted) depth 16
+df-dated b = search (laws, aDate-counted) depth 16
 
-rateIndex-dated : Reads rateIndex
+rateIndex-dated : (b : ℕ) → Reads (rateIndex b)
 unfolding rateIndex
-rateIndex-dated = search (laws, dateOf-counted) depth 20
+rateIndex-dated b = search (laws, dateOf-counted) depth 20
 
 blockTurn-dated : (s : Reader Tree) → Reads s → (ss : Trees) → DatedAll ss → Gives (Turned DatedAll) (G.blockTurn s ss)
 unfolding G.blockTurn
@@ -279,17 +279,17 @@ each-deep none nothing = nothing
 each-deep (some i) (just h) = just (h .primary)
 
 module _ (W : Words) where
-  equity-dated : (t : Token) → Reads (G.equity W t)
+  equity-dated : (b : ℕ) (t : Token) → Reads (G.equity W b t)
   unfolding G.equity
-  equity-dated t = search (laws, aDate-counted) depth 8
+  equity-dated b t = search (laws, aDate-counted) depth 8
 
-  pair-dated : (c : ℕ) → Reads (G.pair W c)
+  pair-dated : (b c : ℕ) → Reads (G.pair W b c)
   unfolding G.pair
-  pair-dated c = search (laws, aDate-counted) depth 12
+  pair-dated b c = search (laws, aDate-counted) depth 12
 
-  spot-dated : Reads (G.spot W)
+  spot-dated : (b : ℕ) → Reads (G.spot W b)
   unfolding G.spot
-  spot-dated = search (laws, equity-dated, pair-dated) depth 14
+  spot-dated b = search (laws, equity-dated, pair-dated) depth 14
 
   cvg-dated : (t : Token) (es : Trees) → DatedAll es → Reads (G.cvg W t es)
   unfolding G.cvg

@@ -242,14 +242,14 @@ module _ {A : Type 0} {K : List Token → Type 0} {k : Reader Tree → Reader A}
 
 ruleset ends = (fine-fine, fine-next, fine-give, fail-ends, failAt-ends, if-ends, ask-ends, peek-ends)
 
-groupTurn-fine : (op : Token → Bool) (p : Reader Tree) → Ends Firm p → (l : Tree) → Ends Fine (G.groupTurn op p l)
+groupTurn-fine : (op : Token → Bool) (p : Reader Tree) → Ends Firm p → (b : ℕ) (l : Tree) → Ends Fine (G.groupTurn op p b l)
 unfolding G.groupTurn
-groupTurn-fine op p f l = ask-ends op (firm-is-fine (then-firm read-some λ t. firm-fine f λ r. fine-give _)) (fine-give _)
+groupTurn-fine op p f b l = ask-ends op (firm-is-fine (then-firm read-some λ t. firm-fine f λ r. fine-give _)) (fine-give _)
 
 pub grouped-firm : (op : Token → Bool) (p : Reader Tree) → Moves p → Ends Firm p → Ends Firm (grouped op p)
 unfolding grouped
 grouped-firm op p h f =
-    firm-fine f λ l. loop-fine (groupTurn-law op p h) (groupTurn-fine op p f) l
+    peek-ends λ t. firm-fine f λ l. loop-fine (groupTurn-law op p h _) (groupTurn-fine op p f _) l
 
 pub sum-firm : (p : Reader Tree) → Moves p → Ends Firm p → Ends Firm (sum p)
 unfolding sum
@@ -258,7 +258,7 @@ sum-firm p h f = search (grouped-firm, grouped-law)
 pub comparison-firm : (p : Reader Tree) → Moves p → Ends Firm p → Ends Firm (comparison p)
 unfolding comparison
 comparison-firm p h f =
-    firm-fine (sum-firm p h f) λ l. ask-ends _ (firm-is-fine (then-firm read-some λ t. firm-fine (sum-firm p h f) λ r. fine-give _)) (fine-give _)
+    peek-ends λ s. firm-fine (sum-firm p h f) λ l. ask-ends _ (firm-is-fine (then-firm read-some λ t. firm-fine (sum-firm p h f) λ r. fine-give _)) (fine-give _)
 
 pub expression-firm : (p : Reader Tree) → Moves p → Ends Firm p → Ends Firm (expression p)
 unfolding expression
@@ -288,26 +288,26 @@ pub arguments-firm : (o : Option (Reader Tree)) → EachFirm o → Ends Firm (ar
 unfolding arguments
 arguments-firm o g = search (firm-last, firm-close, items-some) depth 12
 
-pub method-fine : (x : Tree) (m : Token) (es : Trees) → Ends Fine (method x m es)
+pub method-fine : (b : ℕ) (x : Tree) (m : Token) (es : Trees) → Ends Fine (method b x m es)
 unfolding method
-method-fine x m es = search ends depth 9
+method-fine b x m es = search ends depth 9
 
 pub each-moves : (o : Option (Reader Tree)) → EachFirm o → Each o
 each-moves none shallow = nothing
 each-moves (some p) (inside m f) = just m
 
-postfixTurn-fine : (o : Option (Reader Tree)) → EachFirm o → (x : Tree) → Ends Fine (G.postfixTurn o x)
+postfixTurn-fine : (o : Option (Reader Tree)) → EachFirm o → (b : ℕ) (x : Tree) → Ends Fine (G.postfixTurn o b x)
 unfolding G.postfixTurn
-postfixTurn-fine o g x =
+postfixTurn-fine o g b x =
     peek-ends λ t. if-ends (is "." t)
-    (firm-is-fine (next-firm read-some (then-firm (firm-is-some firm-name) λ m. firm-fine (arguments-firm o g) λ es. fine-fine (method-fine x m es) λ y. fine-give _)))
+    (firm-is-fine (next-firm read-some (then-firm (firm-is-some firm-name) λ m. firm-fine (arguments-firm o g) λ es. fine-fine (method-fine b x m es) λ y. fine-give _)))
     (if-ends (is "[" t)
     (deeper-ends t o g λ p h f. firm-is-fine (next-firm read-some (then-firm (expression-some p h f) λ i. firm-next firm-bracket (fine-give _))))
     (fine-give (done x)))
 
-pub postfixes-fine : (o : Option (Reader Tree)) → EachFirm o → (x : Tree) → Ends Fine (postfixes o x)
+pub postfixes-fine : (o : Option (Reader Tree)) → EachFirm o → (b : ℕ) (x : Tree) → Ends Fine (postfixes o b x)
 unfolding postfixes
-postfixes-fine o g x = loop-fine (postfixTurn-law o (each-moves o g)) (postfixTurn-fine o g) x
+postfixes-fine o g b x = loop-fine (postfixTurn-law o (each-moves o g) b) (postfixTurn-fine o g b) x
 
 dateOf-fine : (t : Token) → Ends Fine (dateOf t)
 unfolding dateOf
@@ -322,15 +322,15 @@ module _ {A : Type 0} where
   unfolding optional
   optional-fine s a m h = ask-ends (is s) (firm-is-fine (next-firm (the-some s) h)) (fine-give a)
 
-df-firm : Ends Firm df
+df-firm : (b : ℕ) → Ends Firm (df b)
 unfolding df
-df-firm =
+df-firm b =
     next-firm (firm-is-some firm-open) (then-firm (firm-is-some aDate-firm) λ d.
     then-firm (fine-is-some (optional-fine "," _ _ (firm-fine firm-string λ s. fine-give _))) λ e. firm-next firm-close (fine-give e))
 
-rateIndex-firm : Ends Firm rateIndex
+rateIndex-firm : (b : ℕ) → Ends Firm (rateIndex b)
 unfolding rateIndex
-rateIndex-firm =
+rateIndex-firm b =
     next-firm (firm-is-some firm-open) (then-firm (firm-is-some firm-string) λ s. next-firm (firm-is-some firm-comma) (then-firm (firm-is-some firm-string) λ t.
     next-firm (firm-is-some firm-comma) (then-firm (firm-is-some firm-string) λ u. firm-next firm-close
     (fine-fine (dateOf-fine t) λ a. fine-fine (dateOf-fine u) λ b. fine-give _))))
@@ -344,19 +344,19 @@ module _ (W : Words) where
   unfolding G.aCurrency
   aCurrency-firm = firm-fine firm-string currencyOf-fine
 
-  equity-fine : (t : Token) → Ends Fine (G.equity W t)
+  equity-fine : (b : ℕ) (t : Token) → Ends Fine (G.equity W b t)
   unfolding G.equity
-  equity-fine t = fine-fine (optional-fine "," 0 aDate aDate-firm) λ d. fine-give _
+  equity-fine b t = fine-fine (optional-fine "," 0 aDate aDate-firm) λ d. fine-give _
 
-  pair-fine : (c : ℕ) → Ends Fine (G.pair W c)
+  pair-fine : (b c : ℕ) → Ends Fine (G.pair W b c)
   unfolding G.pair
-  pair-fine c = optional-fine "," _ _ (firm-fine aCurrency-firm λ k. fine-fine (optional-fine "," 0 aDate aDate-firm) λ d. fine-give _)
+  pair-fine b c = optional-fine "," _ _ (firm-fine aCurrency-firm λ k. fine-fine (optional-fine "," 0 aDate aDate-firm) λ d. fine-give _)
 
-  spot-firm : Ends Firm (G.spot W)
+  spot-firm : (b : ℕ) → Ends Firm (G.spot W b)
   unfolding G.spot
-  spot-firm =
+  spot-firm b =
       next-firm (firm-is-some firm-open) (then-firm (firm-is-some firm-string) λ s.
-      then-firm (search (if-ends, fine-is-some (equity-fine s), fine-is-some (pair-fine (place (W .currencies) (content s))))) λ e. firm-next firm-close (fine-give e))
+      then-firm (search (if-ends, fine-is-some (equity-fine b s), fine-is-some (pair-fine b (place (W .currencies) (content s))))) λ e. firm-next firm-close (fine-give e))
 
   cvg-fine : (t : Token) (es : Trees) → Ends Fine (G.cvg W t es)
   unfolding G.cvg
@@ -376,10 +376,10 @@ module _ (W : Words) where
       search (
         if-ends,
         firm-is-fine (call-firm o g t (G.callOf (t .text) G.calls)),
-        firm-is-fine spot-firm,
-        firm-is-fine df-firm,
-        firm-is-fine rateIndex-firm,
-        fine-fine (named-fine t) (postfixes-fine o g),
+        firm-is-fine (spot-firm (t .from)),
+        firm-is-fine (df-firm (t .from)),
+        firm-is-fine (rateIndex-firm (t .from)),
+        fine-fine (named-fine t) (postfixes-fine o g (t .from)),
       ) depth 8
 
   payTurn-fine : (p : Reader Tree) → Moves p → Ends Firm p → (es : Trees) → Ends Fine (G.payTurn W p es)

@@ -40,7 +40,7 @@ mutual
   unfolding nth computing comma
 
   shown : List ℕ → Tree → List ℕ
-  shown bs (node k s (fields a b c d) ts) =
+  shown bs (node k p s (fields a b c d) ts) =
       if eqb k 1 then take b (drop a bs)
       else if eqb k 2 then (if leb 2147483648 a then 45 ∷ take d (drop c bs) else take d (drop c bs))
       else bytes (nth kindNames k) ++ ((if eqb k 38 then (48 + a) ∷ [] else []) ++ (40 ∷ shownAll bs ts))
@@ -251,9 +251,9 @@ entries (accepted es) = es
 entries (refused n p) = []
 
 -- counting places from the script's start: the second statement's name is at its byte 0, that of a nested one at 7 from `if`
-own-places : (wordsOf (entries (readScript own (bytes "a; bc;"))) ≡ 1 ∷ 1 ∷ 0 ∷ 0 ∷ 1 ∷ 0 ∷ 0 ∷ 1 ∷ 1 ∷ 0 ∷ 0 ∷ 2 ∷ 0 ∷ 0 ∷ [])
+own-places : (wordsOf (entries (readScript own (bytes "a; bc;"))) ≡ 1 ∷ 1 ∷ 0 ∷ 0 ∷ 1 ∷ 0 ∷ 0 ∷ 0 ∷ 1 ∷ 1 ∷ 0 ∷ 0 ∷ 2 ∷ 0 ∷ 0 ∷ 0 ∷ [])
     × (directoryOf (entries (readScript own (bytes "a; bc;"))) ≡ 0 ∷ 2 ∷ 1 ∷ 2 ∷ 0 ∷ 3 ∷ 6 ∷ 1 ∷ 2 ∷ 0 ∷ [])
-    × (wordsOf (entries (readScript own (bytes " if a { b; }"))) ≡ 1 ∷ 1 ∷ 0 ∷ 3 ∷ 1 ∷ 0 ∷ 0 ∷ 1 ∷ 1 ∷ 0 ∷ 7 ∷ 1 ∷ 0 ∷ 0 ∷ 38 ∷ 3 ∷ 2 ∷ 0 ∷ 0 ∷ 0 ∷ 0 ∷ [])
+    × (wordsOf (entries (readScript own (bytes " if a { b; }"))) ≡ 1 ∷ 1 ∷ 0 ∷ 3 ∷ 1 ∷ 0 ∷ 0 ∷ 3 ∷ 1 ∷ 1 ∷ 0 ∷ 7 ∷ 1 ∷ 0 ∷ 0 ∷ 7 ∷ 38 ∷ 3 ∷ 2 ∷ 0 ∷ 0 ∷ 0 ∷ 0 ∷ 0 ∷ [])
 unfolding computing own entries
 own-places = (refl, refl, refl)
 
@@ -266,11 +266,11 @@ listed (refused n p) = n ∷ p ∷ []
 
 listing : listed (readScript own (bytes "x pays;"))
     ≡ 1 ∷ 5 ∷ 3
-    ∷ 1 ∷ 1 ∷ 0 ∷ 0 ∷ 1 ∷ 0 ∷ 0
-    ∷ 1 ∷ 1 ∷ 0 ∷ 0 ∷ 1 ∷ 0 ∷ 0
-    ∷ 0x24 ∷ 1 ∷ 0 ∷ 0 ∷ 0 ∷ 0 ∷ 0
-    ∷ 8 ∷ 3 ∷ 2 ∷ 0 ∷ 0 ∷ 0 ∷ 0
-    ∷ 0x25 ∷ 5 ∷ 2 ∷ 0 ∷ 0 ∷ 0 ∷ 0 ∷ []
+    ∷ 1 ∷ 1 ∷ 0 ∷ 0 ∷ 1 ∷ 0 ∷ 0 ∷ 0
+    ∷ 1 ∷ 1 ∷ 0 ∷ 0 ∷ 1 ∷ 0 ∷ 0 ∷ 0
+    ∷ 0x24 ∷ 1 ∷ 0 ∷ 0 ∷ 0 ∷ 0 ∷ 0 ∷ 2
+    ∷ 8 ∷ 3 ∷ 2 ∷ 0 ∷ 0 ∷ 0 ∷ 0 ∷ 0
+    ∷ 0x25 ∷ 5 ∷ 2 ∷ 0 ∷ 0 ∷ 0 ∷ 0 ∷ 0 ∷ []
 unfolding computing listed own
 listing = refl
 
@@ -284,8 +284,8 @@ places : line (bytes "a\nbc\nd") 4 ∷ column (bytes "a\nbc\nd") 4 ∷ line (byt
 unfolding computing
 places = refl
 
--- capacities: 2,048 records, 512 statements; a record has seven words, an entry five, and what does not fit whole is no room
-rooms : (recordRoom 14335 ∷ recordRoom 14336 ∷ recordRoom 20000 ∷ recordRoom 6 ∷ [] ≡ 2047 ∷ 2048 ∷ 2048 ∷ 0 ∷ [])
+-- capacities: 2,048 records, 512 statements; a record has eight words, an entry five, and what does not fit whole is no room
+rooms : (recordRoom 16383 ∷ recordRoom 16384 ∷ recordRoom 20000 ∷ recordRoom 7 ∷ [] ≡ 2047 ∷ 2048 ∷ 2048 ∷ 0 ∷ [])
     × (statementRoom 2559 ∷ statementRoom 2560 ∷ statementRoom 4000 ∷ statementRoom 4 ∷ [] ≡ 511 ∷ 512 ∷ 512 ∷ 0 ∷ [])
 rooms = (refl, refl)
 

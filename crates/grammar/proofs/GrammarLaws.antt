@@ -104,13 +104,13 @@ module _ {A : Type 0} where
   unfolding optional
   optional-law s a m h = search laws depth 9
 
-pub groupTurn-law : (op : Token → Bool) (operand : Reader Tree) → Moves operand → (l : Tree) → Steps (G.groupTurn op operand l)
+pub groupTurn-law : (op : Token → Bool) (operand : Reader Tree) → Moves operand → (b : ℕ) (l : Tree) → Steps (G.groupTurn op operand b l)
 unfolding G.groupTurn
-groupTurn-law op operand h l = search (laws, moving-stays h) depth 9
+groupTurn-law op operand h b l = search (laws, moving-stays h) depth 9
 
 pub grouped-law : (op : Token → Bool) (operand : Reader Tree) → Moves operand → Moves (grouped op operand)
 unfolding grouped
-grouped-law op operand h = move-then h λ l. loop-law (groupTurn-law op operand h) l
+grouped-law op operand h = peek-then λ t. move-then h λ l. loop-law (groupTurn-law op operand h _) l
 
 pub sum-law : (p : Reader Tree) → Moves p → Moves (sum p)
 unfolding sum
@@ -142,17 +142,17 @@ arguments-law o h = search (laws, items-law) depth 12
 pub arguments-stays : (o : Option (Reader Tree)) → Each o → Stays (arguments o)
 arguments-stays o h = moving-stays (arguments-law o h)
 
-pub method-law : (x : Tree) (m : Token) (es : Trees) → Stays (method x m es)
+pub method-law : (b : ℕ) (x : Tree) (m : Token) (es : Trees) → Stays (method b x m es)
 unfolding method
-method-law x m es = search laws depth 12
+method-law b x m es = search laws depth 12
 
-pub postfixTurn-law : (o : Option (Reader Tree)) → Each o → (x : Tree) → Steps (G.postfixTurn o x)
+pub postfixTurn-law : (o : Option (Reader Tree)) → Each o → (b : ℕ) (x : Tree) → Steps (G.postfixTurn o b x)
 unfolding G.postfixTurn
-postfixTurn-law o h x = search (laws, arguments-stays, method-law, expression-stays) depth 12
+postfixTurn-law o h b x = search (laws, arguments-stays, method-law, expression-stays) depth 12
 
-pub postfixes-law : (o : Option (Reader Tree)) → Each o → (x : Tree) → Stays (postfixes o x)
+pub postfixes-law : (o : Option (Reader Tree)) → Each o → (b : ℕ) (x : Tree) → Stays (postfixes o b x)
 unfolding postfixes
-postfixes-law o h x = loop-law (postfixTurn-law o h) x
+postfixes-law o h b x = loop-law (postfixTurn-law o h b) x
 
 pub dateOf-law : (t : Token) → Stays (dateOf t)
 unfolding dateOf
@@ -162,13 +162,13 @@ pub aDate-law : Moves aDate
 unfolding aDate
 aDate-law = search (laws, dateOf-law)
 
-pub df-law : Moves df
+pub df-law : (b : ℕ) → Moves (df b)
 unfolding df
-df-law = search (laws, moving-stays aDate-law, optional-law) depth 16
+df-law b = search (laws, moving-stays aDate-law, optional-law) depth 16
 
-pub rateIndex-law : Moves rateIndex
+pub rateIndex-law : (b : ℕ) → Moves (rateIndex b)
 unfolding rateIndex
-rateIndex-law =
+rateIndex-law b =
     move-next (the-moves "(") (stay-stay (the-stays "string") λ s. stay-next (the-stays ",") (stay-stay (the-stays "string") λ t. stay-next (the-stays ",")
     (stay-stay (the-stays "string") λ u. search (laws, dateOf-law) depth 9)))
 
@@ -189,17 +189,17 @@ module _ (W : Words) where
   unfolding G.aCurrency
   aCurrency-law = search (laws, currencyOf-law)
 
-  pub equity-law : (t : Token) → Stays (G.equity W t)
+  pub equity-law : (b : ℕ) (t : Token) → Stays (G.equity W b t)
   unfolding G.equity
-  equity-law t = search (laws, optional-law, moving-stays aDate-law) depth 8
+  equity-law b t = search (laws, optional-law, moving-stays aDate-law) depth 8
 
-  pub pair-law : (c : ℕ) → Stays (G.pair W c)
+  pub pair-law : (b c : ℕ) → Stays (G.pair W b c)
   unfolding G.pair
-  pair-law c = search (laws, optional-law, moving-stays aDate-law, moving-stays aCurrency-law) depth 12
+  pair-law b c = search (laws, optional-law, moving-stays aDate-law, moving-stays aCurrency-law) depth 12
 
-  pub spot-law : Moves (G.spot W)
+  pub spot-law : (b : ℕ) → Moves (G.spot W b)
   unfolding G.spot
-  spot-law = search (laws, equity-law, pair-law) depth 14
+  spot-law b = search (laws, equity-law, pair-law) depth 14
 
   pub cvg-law : (t : Token) (es : Trees) → Stays (G.cvg W t es)
   unfolding G.cvg
@@ -218,7 +218,7 @@ module _ (W : Words) where
 
   pub name-law : (o : Option (Reader Tree)) → Each o → (t : Token) → Stays (G.name W o t)
   unfolding G.name
-  name-law o h t = search (laws, call-stays, moving-stays spot-law, moving-stays df-law, moving-stays rateIndex-law, named-law, postfixes-law) depth 10
+  name-law o h t = search (laws, call-stays, moving-stays (spot-law (t .from)), moving-stays (df-law (t .from)), moving-stays (rateIndex-law (t .from)), named-law, postfixes-law) depth 10
 
   pub payTurn-law : (p : Reader Tree) → Moves p → (es : Trees) → Steps (G.payTurn W p es)
   unfolding G.payTurn

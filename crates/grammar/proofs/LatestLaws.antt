@@ -120,20 +120,20 @@ abbrev inTrees : Trees → ℕ
 inTrees ts = latestIn (sizes ts) (recordsOf ts)
 
 -- a node's record stands behind those of its parts, which stand one after the other
-row-latest : (k n m : ℕ) (f : Fields) → latestIn 1 (row k n m f) ≡ dateIn k f
+row-latest : (k n m : ℕ) (f : Fields) (p : ℕ) → latestIn 1 (row k n m f p) ≡ dateIn k f
 unfolding latestIn
-row-latest k n m (fields a b c d) = omega arith
+row-latest k n m (fields a b c d) p = omega arith
 
 nil-latest : inTrees nil ≡ 0
 unfolding size records latestIn
 nil-latest = refl
 
-node-latest : (k : ℕ) (s : List ℕ) (f : Fields) (ts : Trees) → inTree (node k s f ts) ≡ max (inTrees ts) (dateIn k f)
+node-latest : (k p : ℕ) (s : List ℕ) (f : Fields) (ts : Trees) → inTree (node k p s f ts) ≡ max (inTrees ts) (dateIn k f)
 unfolding size records
-node-latest k s f ts =
-    let last : List ℕ = row k (suc (sizes ts)) (parts ts) f in
+node-latest k p s f ts =
+    let last : List ℕ = row k (suc (sizes ts)) (parts ts) f p in
     ap (λ (n : ℕ). latestIn n (recordsOf ts ++ last)) (sym (add-one (sizes ts)))
-    ∙ latest-append (sizes ts) 1 (recordsOf ts) last (all-length ts) ∙ ap (max (inTrees ts)) (row-latest k (suc (sizes ts)) (parts ts) f)
+    ∙ latest-append (sizes ts) 1 (recordsOf ts) last (all-length ts) ∙ ap (max (inTrees ts)) (row-latest k (suc (sizes ts)) (parts ts) f p)
 
 more-latest : (t : Tree) (ts : Trees) → inTrees (t ▹ ts) ≡ max (inTree t) (inTrees ts)
 unfolding size records
@@ -142,8 +142,8 @@ more-latest t ts = latest-append (size t) (sizes ts) (records t) (recordsOf ts) 
 mutual
   -- no date of the tree is later
   pub latest-greatest : (t : Tree) (x : ℕ) → Has x t → x ≤ latestIn (size t) (records t)
-  latest-greatest (node k s f ts) x (here d) = omega (arith, node-latest k s f ts, date-greatest d)
-  latest-greatest (node k s f ts) x (below p) = omega (arith, node-latest k s f ts, latest-greatest-of ts x p)
+  latest-greatest (node k p s f ts) x (here d) = omega (arith, node-latest k p s f ts, date-greatest d)
+  latest-greatest (node k p s f ts) x (below h) = omega (arith, node-latest k p s f ts, latest-greatest-of ts x h)
 
   latest-greatest-of : (ts : Trees) (x : ℕ) → HasPart x ts → x ≤ inTrees ts
   latest-greatest-of (t ▹ ts) x (this h) = omega (arith, more-latest t ts, latest-greatest t x h)
@@ -152,9 +152,9 @@ mutual
 mutual
   -- it is 0, or a date of the tree
   pub latest-had : (t : Tree) → (latestIn (size t) (records t) ≡ 0) ⊎ Has (latestIn (size t) (records t)) t
-  latest-had (node k s f ts) =
-      subst (NoneOr (λ x. Has x (node k s f ts))) (sym (node-latest k s f ts))
-      (none-or-max (λ x. Has x (node k s f ts)) (⊎-map (λ z. z) below (latest-had-of ts)) (⊎-map (λ z. z) here (date-had k f)))
+  latest-had (node k p s f ts) =
+      subst (NoneOr (λ x. Has x (node k p s f ts))) (sym (node-latest k p s f ts))
+      (none-or-max (λ x. Has x (node k p s f ts)) (⊎-map (λ z. z) below (latest-had-of ts)) (⊎-map (λ z. z) here (date-had k f)))
 
   latest-had-of : (ts : Trees) → NoneOr (λ x. HasPart x ts) (inTrees ts)
   latest-had-of nil = inl nil-latest

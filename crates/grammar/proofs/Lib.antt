@@ -20,3 +20,4 @@ pub mod DatedLaws
 pub mod Examples
 pub mod KindExamples
 pub mod LatestExamples
+pub mod PlaceExamples

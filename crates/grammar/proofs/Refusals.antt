@@ -180,13 +180,13 @@ module _ (n : ℕ) where
     unfolding optional
     optional-fair s a m h = search laws depth 9
 
-  groupTurn-fair : (op : Token → Bool) (operand : Reader Tree) → Fair operand → (l : Tree) → Fair (G.groupTurn op operand l)
+  groupTurn-fair : (op : Token → Bool) (operand : Reader Tree) → Fair operand → (b : ℕ) (l : Tree) → Fair (G.groupTurn op operand b l)
   unfolding G.groupTurn
-  groupTurn-fair op operand h l = search laws depth 9
+  groupTurn-fair op operand h b l = search laws depth 9
 
   grouped-fair : (op : Token → Bool) (operand : Reader Tree) → Fair operand → Fair (grouped op operand)
   unfolding grouped
-  grouped-fair op operand h = then-fair h λ l. loop-fair (groupTurn-fair op operand h) l
+  grouped-fair op operand h = then-placed peek-placed λ t k. then-fair h λ l. loop-fair (groupTurn-fair op operand h _) l
 
   sum-fair : (p : Reader Tree) → Fair p → Fair (sum p)
   unfolding sum
@@ -212,17 +212,17 @@ module _ (n : ℕ) where
   unfolding arguments
   arguments-fair o h = search (laws, items-fair) depth 12
 
-  method-fair : (x : Tree) (m : Token) (es : Trees) → m .from ≤ n → Fair (method x m es)
+  method-fair : (b : ℕ) (x : Tree) (m : Token) (es : Trees) → m .from ≤ n → Fair (method b x m es)
   unfolding method
-  method-fair x m es h = search laws depth 12
+  method-fair b x m es h = search laws depth 12
 
-  postfixTurn-fair : (o : Option (Reader Tree)) → Each Fair o → (x : Tree) → Fair (G.postfixTurn o x)
+  postfixTurn-fair : (o : Option (Reader Tree)) → Each Fair o → (b : ℕ) (x : Tree) → Fair (G.postfixTurn o b x)
   unfolding G.postfixTurn
-  postfixTurn-fair o h x = search (laws, arguments-fair, method-fair, expression-fair) depth 12
+  postfixTurn-fair o h b x = search (laws, arguments-fair, method-fair, expression-fair) depth 12
 
-  postfixes-fair : (o : Option (Reader Tree)) → Each Fair o → (x : Tree) → Fair (postfixes o x)
+  postfixes-fair : (o : Option (Reader Tree)) → Each Fair o → (b : ℕ) (x : Tree) → Fair (postfixes o b x)
   unfolding postfixes
-  postfixes-fair o h x = loop-fair (postfixTurn-fair o h) x
+  postfixes-fair o h b x = loop-fair (postfixTurn-fair o h b) x
 
   dateOf-fair : (t : Token) → t .from ≤ n → Fair (dateOf t)
   unfolding dateOf
@@ -232,13 +232,13 @@ module _ (n : ℕ) where
   unfolding aDate
   aDate-fair = search (laws, dateOf-fair)
 
-  df-fair : Fair df
+  df-fair : (b : ℕ) → Fair (df b)
   unfolding df
-  df-fair = search (laws, aDate-fair, optional-fair) depth 16
+  df-fair b = search (laws, aDate-fair, optional-fair) depth 16
 
-  rateIndex-fair : Fair rateIndex
+  rateIndex-fair : (b : ℕ) → Fair (rateIndex b)
   unfolding rateIndex
-  rateIndex-fair = search (laws, dateOf-fair) depth 20
+  rateIndex-fair b = search (laws, dateOf-fair) depth 20
 
   blockTurn-fair : (s : Reader Tree) → Fair s → (ss : Trees) → Fair (G.blockTurn s ss)
   unfolding G.blockTurn
@@ -255,7 +255,7 @@ module _ (n : ℕ) where
   ifOver-fair : (i : Inner) → InnerFair i → Fair (ifOver i)
   unfolding ifOver
   ifOver-fair i h =
-      next-fair read-fair (then-fair (expression-fair (i .primary) (h .primary)) λ e. then-fair (block-fair (i .statement) (h .statement)) λ ss.
+      then-fair read-fair λ t. (then-fair (expression-fair (i .primary) (h .primary)) λ e. then-fair (block-fair (i .statement) (h .statement)) λ ss.
       ask-fair (is "else") (next-fair read-fair (then-fair (block-fair (i .statement) (h .statement)) λ us. give-fair _)) (give-fair _))
 
   ended-fair : (p : Reader Tree) → Fair p → Fair (ended p)
@@ -275,17 +275,17 @@ module _ (n : ℕ) where
     unfolding G.aCurrency
     aCurrency-fair = search (laws, currencyOf-fair)
 
-    equity-fair : (t : Token) → Fair (G.equity W t)
+    equity-fair : (b : ℕ) (t : Token) → Fair (G.equity W b t)
     unfolding G.equity
-    equity-fair t = search (laws, optional-fair, aDate-fair) depth 8
+    equity-fair b t = search (laws, optional-fair, aDate-fair) depth 8
 
-    pair-fair : (c : ℕ) → Fair (G.pair W c)
+    pair-fair : (b c : ℕ) → Fair (G.pair W b c)
     unfolding G.pair
-    pair-fair c = search (laws, optional-fair, aDate-fair, aCurrency-fair) depth 12
+    pair-fair b c = search (laws, optional-fair, aDate-fair, aCurrency-fair) depth 12
 
-    spot-fair : Fair (G.spot W)
+    spot-fair : (b : ℕ) → Fair (G.spot W b)
     unfolding G.spot
-    spot-fair = search (laws, equity-fair, pair-fair) depth 14
+    spot-fair b = search (laws, equity-fair, pair-fair) depth 14
 
     cvg-fair : (t : Token) (es : Trees) → t .from ≤ n → Fair (G.cvg W t es)
     unfolding G.cvg
@@ -335,7 +335,7 @@ module _ (n : ℕ) where
     forOver-fair : (i : Inner) → InnerFair i → Fair (G.forOver W i)
     unfolding G.forOver
     forOver-fair i h =
-        next-fair read-fair (then-placed (the-placed "name") λ v k. next-fair (named-fair v k) (next-fair (the-fair "in")
+        then-fair read-fair λ t. (then-placed (the-placed "name") λ v k. next-fair (named-fair v k) (next-fair (the-fair "in")
         (then-fair (expression-fair (i .primary) (h .primary)) λ e. then-fair (block-fair (i .statement) (h .statement)) λ ss. give-fair _)))
 
     paid-fair : (o : Option (Reader Tree)) → Each Fair o → Fair (G.paid W o)

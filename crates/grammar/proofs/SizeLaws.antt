@@ -203,14 +203,15 @@ module _ {A : Type 0} {k : ℕ} {w : A → ℕ} where
 
 -- ---- expressions
 
-pub groupTurn-pay : (op : Token → Bool) (operand : Reader Tree) → Sized operand → (l : Tree) → Pays (size l) (turned size size) (G.groupTurn op operand l)
+pub groupTurn-pay : (op : Token → Bool) (operand : Reader Tree) → Sized operand → (b : ℕ) (l : Tree) → Pays (size l) (turned size size) (G.groupTurn op operand b l)
 unfolding G.groupTurn size
-groupTurn-pay op operand h l =
+groupTurn-pay op operand h b l =
     ask-pay op (move-pay read-moves λ t. tree-pay h λ r. give-pay _ (omega arith)) (give-pay (done l) (omega arith))
 
 pub grouped-size : (op : Token → Bool) (operand : Reader Tree) → Sized operand → Sized (grouped op operand)
 unfolding grouped
-grouped-size op operand h = pays-sized (tree-pay h λ l. lend (omega arith) (λ a. omega arith) (loop-pay (groupTurn-pay op operand h) l))
+grouped-size op operand h =
+    pays-sized (peek-pay λ t. tree-pay h λ l. lend (omega arith) (λ a. omega arith) (loop-pay (groupTurn-pay op operand h _) l))
 
 pub power-size : (p : Reader Tree) → Sized p → Sized (G.power p)
 power-size p h = grouped-size _ p h
@@ -225,7 +226,7 @@ sum-size p h = grouped-size _ (G.product p) (product-size p h)
 pub comparison-size : (p : Reader Tree) → Sized p → Sized (comparison p)
 unfolding comparison size
 comparison-size p h =
-    pays-sized (tree-pay (sum-size p h) λ l.
+    pays-sized (peek-pay λ s. tree-pay (sum-size p h) λ l.
     ask-pay _ (move-pay read-moves λ t. tree-pay (sum-size p h) λ r. give-pay _ (omega arith)) (give-pay l (omega arith)))
 
 pub expression-size : (p : Reader Tree) → Sized p → Sized (expression p)
@@ -257,48 +258,48 @@ arguments-size o h = pays-all (lend (omega arith) (λ a. omega arith) (arguments
 
 -- ---- postfixes
 
-pub method-size : (x : Tree) (m : Token) (es : Trees) → SizedUp (suc (size x + sizes es)) (method x m es)
+pub method-size : (b : ℕ) (x : Tree) (m : Token) (es : Trees) → SizedUp (suc (size x + sizes es)) (method b x m es)
 unfolding method size
-method-size x m es =
+method-size b x m es =
     pays-up (if-pay (same (bytes "append") (m .text) && eqb (parts es) 1) (give-pay _ (omega arith))
     (if-pay (same (bytes "mean") (m .text) && eqb (parts es) 0) (give-pay _ (omega arith))
     (if-pay (same (bytes "std") (m .text) && eqb (parts es) 0) (give-pay _ (omega arith)) (failAt-pay m 10))))
 
-pub methodOf-pay : (o : Option (Reader Tree)) → EachSized o → (x : Tree) → Pays (size x) (turned size size) (G.methodOf o x)
-methodOf-pay o h x =
+pub methodOf-pay : (o : Option (Reader Tree)) → EachSized o → (b : ℕ) (x : Tree) → Pays (size x) (turned size size) (G.methodOf o b x)
+methodOf-pay o h b x =
     move-pay (the-moves "name") λ m. trees-pay (arguments-size o h) λ es.
-    pay-then (up-last (suc (size x + sizes es)) (omega arith) (method-size x m es)) λ y. give-pay (again y) (omega arith)
+    pay-then (up-last (suc (size x + sizes es)) (omega arith) (method-size b x m es)) λ y. give-pay (again y) (omega arith)
 
-pub indexOf-pay : (p : Reader Tree) → Sized p → (x : Tree) → Pays (size x) (turned size size) (G.indexOf p x)
+pub indexOf-pay : (p : Reader Tree) → Sized p → (b : ℕ) (x : Tree) → Pays (size x) (turned size size) (G.indexOf p b x)
 unfolding size
-indexOf-pay p h x = tree-pay (expression-size p h) λ i. move-next-pay (the-moves "]") (give-pay (again (G.binary 28 x i)) (omega arith))
+indexOf-pay p h b x = tree-pay (expression-size p h) λ i. move-next-pay (the-moves "]") (give-pay (again (G.binary 28 b x i)) (omega arith))
 
-pub postfixTurn-pay : (o : Option (Reader Tree)) → EachSized o → (x : Tree) → Pays (size x) (turned size size) (G.postfixTurn o x)
+pub postfixTurn-pay : (o : Option (Reader Tree)) → EachSized o → (b : ℕ) (x : Tree) → Pays (size x) (turned size size) (G.postfixTurn o b x)
 unfolding G.postfixTurn
-postfixTurn-pay o h x =
-    peek-pay λ t. if-pay (is "." t) (move-next-pay read-moves (lend (omega arith) (λ a. omega arith) (methodOf-pay o h x)))
-    (if-pay (is "[" t) (deeper-pay t o h λ p m. move-next-pay read-moves (lend (omega arith) (λ a. omega arith) (indexOf-pay p m x)))
+postfixTurn-pay o h b x =
+    peek-pay λ t. if-pay (is "." t) (move-next-pay read-moves (lend (omega arith) (λ a. omega arith) (methodOf-pay o h b x)))
+    (if-pay (is "[" t) (deeper-pay t o h λ p m. move-next-pay read-moves (lend (omega arith) (λ a. omega arith) (indexOf-pay p m b x)))
     (give-pay (done x) (omega arith)))
 
-pub postfixes-size : (o : Option (Reader Tree)) → EachSized o → (x : Tree) → SizedUp (size x) (postfixes o x)
+pub postfixes-size : (o : Option (Reader Tree)) → EachSized o → (b : ℕ) (x : Tree) → SizedUp (size x) (postfixes o b x)
 unfolding postfixes
-postfixes-size o h x = pays-up (loop-pay (postfixTurn-pay o h) x)
+postfixes-size o h b x = pays-up (loop-pay (postfixTurn-pay o h b) x)
 
 -- ---- calls
 
-pub df-size : Sized df
+pub df-size : (b : ℕ) → Sized (df b)
 unfolding df size
-df-size =
+df-size b =
     pays-sized (move-next-pay (the-moves "(") (move-pay aDate-law λ d.
     pay-then {v = size} (optional-pay "," _ _ (omega arith) (move-pay (the-moves "string") λ s. give-pay _ (omega arith))) λ e.
     move-next-pay (the-moves ")") (give-pay e (omega arith))))
 
-pub rateIndex-size : Sized rateIndex
+pub rateIndex-size : (b : ℕ) → Sized (rateIndex b)
 unfolding rateIndex size
-rateIndex-size =
+rateIndex-size b =
     pays-sized (move-next-pay (the-moves "(") (move-pay (the-moves "string") λ s. move-next-pay (the-moves ",") (move-pay (the-moves "string") λ t.
     move-next-pay (the-moves ",") (move-pay (the-moves "string") λ u. move-next-pay (the-moves ")")
-    (stay-pay (dateOf-law t) λ a. stay-pay (dateOf-law u) λ b. give-pay _ (omega arith))))))
+    (stay-pay (dateOf-law t) λ c. stay-pay (dateOf-law u) λ d. give-pay _ (omega arith))))))
 
 -- ---- statements over the readers of what is one deeper
 
@@ -319,10 +320,10 @@ block-size s h =
 pub ifOver-size : (i : Inner) → Sized (i .statement) → Sized (i .primary) → Sized (ifOver i)
 unfolding ifOver size
 ifOver-size i hs hp =
-    pays-sized (move-next-pay read-moves (tree-pay (expression-size (i .primary) hp) λ e. trees-pay (block-size (i .statement) hs) λ ss.
+    pays-sized (move-pay read-moves λ t. tree-pay (expression-size (i .primary) hp) λ e. trees-pay (block-size (i .statement) hs) λ ss.
     ask-pay (is "else")
     (move-next-pay read-moves (trees-pay (block-size (i .statement) hs) λ us. give-pay _ (omega (arith, sizes-join ss us))))
-    (give-pay _ (omega arith))))
+    (give-pay _ (omega arith)))
 
 pub ended-size : (p : Reader Tree) → Sized p → Sized (ended p)
 unfolding ended
@@ -331,23 +332,23 @@ ended-size p h = pays-sized (tree-pay (expression-size p h) λ e. move-next-pay 
 module _ (W : Words) where
   -- ---- calls
 
-  pub equity-pay : (t : Token) → Pays 1 size (G.equity W t)
+  pub equity-pay : (b : ℕ) (t : Token) → Pays 1 size (G.equity W b t)
   unfolding G.equity size
-  equity-pay t = stay-pay (optional-law "," 0 aDate (moving-stays aDate-law)) λ d. give-pay _ (omega arith)
+  equity-pay b t = stay-pay (optional-law "," 0 aDate (moving-stays aDate-law)) λ d. give-pay _ (omega arith)
 
-  pub pair-pay : (c : ℕ) → Pays 1 size (G.pair W c)
+  pub pair-pay : (b c : ℕ) → Pays 1 size (G.pair W b c)
   unfolding G.pair size
-  pair-pay c =
+  pair-pay b c =
       optional-pay "," _ _ (omega arith) (move-pay (aCurrency-law W) λ k.
       stay-pay (optional-law "," 0 aDate (moving-stays aDate-law)) λ d. give-pay _ (omega arith))
 
-  pub spot-size : Sized (G.spot W)
+  pub spot-size : (b : ℕ) → Sized (G.spot W b)
   unfolding G.spot
-  spot-size =
+  spot-size b =
       pays-sized (move-next-pay (the-moves "(") (move-pay (the-moves "string") λ s.
       pay-then {v = size} (if-pay (eqb (place (W .currencies) (G.content s)) 0)
-      (lend (omega arith) (λ a. omega arith) (equity-pay s))
-      (lend (omega arith) (λ a. omega arith) (pair-pay (place (W .currencies) (G.content s))))) λ e.
+      (lend (omega arith) (λ a. omega arith) (equity-pay b s))
+      (lend (omega arith) (λ a. omega arith) (pair-pay b (place (W .currencies) (G.content s))))) λ e.
       move-next-pay (the-moves ")") (give-pay e (omega arith))))
 
   pub cvg-size : (t : Token) (es : Trees) → SizedUp (suc (sizes es)) (G.cvg W t es)
@@ -373,10 +374,10 @@ module _ (W : Words) where
   name-size o h t =
       let c : ℕ × ℕ × ℕ = G.callOf (t .text) G.calls in
       pays-up (if-pay (leb 1 (c .0)) (sized-last (call-size o h t c))
-      (if-pay (same (bytes "Spot") (t .text)) (sized-last spot-size)
-      (if-pay (same (bytes "Df") (t .text)) (sized-last df-size)
-      (if-pay (same (bytes "RateIndex") (t .text)) (sized-last rateIndex-size)
-      (pay-then (up-last 1 (omega arith) (named-size t)) λ x. up-last (size x) (omega arith) (postfixes-size o h x))))))
+      (if-pay (same (bytes "Spot") (t .text)) (sized-last (spot-size (t .from)))
+      (if-pay (same (bytes "Df") (t .text)) (sized-last (df-size (t .from)))
+      (if-pay (same (bytes "RateIndex") (t .text)) (sized-last (rateIndex-size (t .from)))
+      (pay-then (up-last 1 (omega arith) (named-size t)) λ x. up-last (size x) (omega arith) (postfixes-size o h (t .from) x))))))
 
   -- ---- pays
 
@@ -389,42 +390,42 @@ module _ (W : Words) where
   unfolding G.payments size
   payments-size p h = pays-all (loop-pay (payTurn-pay p h) nil)
 
-  pub payday-size : (es : Trees) → SizedUp (suc (sizes es)) (G.payday W es)
+  pub payday-size : (b : ℕ) (es : Trees) → SizedUp (suc (sizes es)) (G.payday W b es)
   unfolding size
-  payday-size es =
+  payday-size b es =
       pays-up (stay-pay (optional-law "on" 0 aDate (moving-stays aDate-law)) λ d.
       stay-pay (optional-law "in" 0 (G.aCurrency W) (moving-stays (aCurrency-law W))) λ c. give-pay _ (omega arith))
 
   -- the word `pays` pays for the node
-  pub payment-size : (p : Reader Tree) → Sized p → SizedUp 1 (G.payment W p)
-  payment-size p h = pays-up (trees-pay (payments-size p h) λ es. up-last (suc (sizes es)) (omega arith) (payday-size es))
+  pub payment-size : (b : ℕ) (p : Reader Tree) → Sized p → SizedUp 1 (G.payment W b p)
+  payment-size b p h = pays-up (trees-pay (payments-size p h) λ es. up-last (suc (sizes es)) (omega arith) (payday-size b es))
 
   -- and two are left
   pub pays-spare : (o : Option (Reader Tree)) → EachSized o → Pays 0 (λ t. 2 + size t) (G.pays W o)
   unfolding G.pays
-  pays-spare o h = peek-pay λ t. deeper-pay t o h λ p m. move-next-pay (the-moves "pays") (record { bound = λ ts a r e. omega (arith, payment-size p m ts a r e) })
+  pays-spare o h = peek-pay λ t. deeper-pay t o h λ p m. move-next-pay (the-moves "pays") (record { bound = λ ts a r e. omega (arith, payment-size (t .from) p m ts a r e) })
 
   pub pays-size : (o : Option (Reader Tree)) → EachSized o → Sized (G.pays W o)
   pays-size o h = pays-sized (lend (omega arith) (λ a. omega arith) (pays-spare o h))
 
   -- ---- primaries
 
-  pub negative-size : (p : Reader Tree) → Sized p → SizedUp 1 (G.negative W p)
+  pub negative-size : (b : ℕ) (p : Reader Tree) → Sized p → SizedUp 1 (G.negative W b p)
   unfolding size
-  negative-size p h = pays-up (tree-pay h λ x. give-pay _ (omega arith))
+  negative-size b p h = pays-up (tree-pay h λ x. give-pay _ (omega arith))
 
   pub minus-size : (o : Option (Reader Tree)) → EachSized o → (t : Token) → SizedUp 1 (G.minus W o t)
   unfolding G.minus G.constant size
   minus-size o h s =
       pays-up (peek-pay λ t. if-pay (is "number" t) (move-next-pay (the-moves "number") (give-pay _ (omega arith)))
-      (deeper-pay s o h λ p m. up-last 1 (omega arith) (negative-size p m)))
+      (deeper-pay s o h λ p m. up-last 1 (omega arith) (negative-size _ p m)))
 
   pub parenthesis-size : (p : Reader Tree) → Sized p → Sized (G.parenthesis W p)
   parenthesis-size p h = pays-sized (tree-pay (expression-size p h) λ e. move-next-pay (the-moves ")") (give-pay e (omega arith)))
 
-  pub listed-size : (p : Reader Tree) → Sized p → Sized (G.listed W p)
+  pub listed-size : (b : ℕ) (p : Reader Tree) → Sized p → Sized (G.listed W b p)
   unfolding size
-  listed-size p h = pays-sized (trees-pay (items-size "]" p h) λ es. move-next-pay (the-moves "]") (give-pay _ (omega arith)))
+  listed-size b p h = pays-sized (trees-pay (items-size "]" p h) λ es. move-next-pay (the-moves "]") (give-pay _ (omega arith)))
 
   pub primaryOver-size : (o : Option (Reader Tree)) → EachSized o → Sized (G.primaryOver W o)
   unfolding G.primaryOver G.constant size
@@ -433,7 +434,7 @@ module _ (W : Words) where
       if-pay (is "(" t) (deeper-pay t o h λ p m. move-next-pay read-moves (sized-last (parenthesis-size p m)))
       (if-pay (is "+" t) (deeper-pay t o h λ p m. move-next-pay read-moves (sized-last m))
       (if-pay (is "-" t) (move-next-pay read-moves (up-last 1 (omega arith) (minus-size o h t)))
-      (if-pay (is "[" t) (pay-then {v = size} (deeper-pay t o h λ p m. move-next-pay read-moves (sized-last (listed-size p m))) λ x. up-last (size x) (omega arith) (postfixes-size o h x))
+      (if-pay (is "[" t) (pay-then {v = size} (deeper-pay t o h λ p m. move-next-pay read-moves (sized-last (listed-size (t .from) p m))) λ x. up-last (size x) (omega arith) (postfixes-size o h (t .from) x))
       (if-pay (is "number" t) (move-next-pay (the-moves "number") (give-pay _ (omega arith)))
       (if-pay (is "true" t) (move-next-pay (the-moves "true") (give-pay _ (omega arith)))
       (if-pay (is "false" t) (move-next-pay (the-moves "false") (give-pay _ (omega arith)))
@@ -452,8 +453,8 @@ module _ (W : Words) where
   pub forOver-size : (i : Inner) → Sized (i .statement) → Sized (i .primary) → Sized (G.forOver W i)
   unfolding G.forOver size
   forOver-size i hs hp =
-      pays-sized (move-next-pay read-moves (move-pay (the-moves "name") λ v. stay-next-pay (named-law W v) (move-next-pay (the-moves "in")
-      (tree-pay (expression-size (i .primary) hp) λ e. trees-pay (block-size (i .statement) hs) λ ss. give-pay _ (omega arith)))))
+      pays-sized (move-pay read-moves λ t. move-pay (the-moves "name") λ v. stay-next-pay (named-law W v) (move-next-pay (the-moves "in")
+      (tree-pay (expression-size (i .primary) hp) λ e. trees-pay (block-size (i .statement) hs) λ ss. give-pay _ (omega arith))))
 
   pub paid-spare : (o : Option (Reader Tree)) → EachSized o → Pays 0 (λ t. 2 + size t) (G.paid W o)
   unfolding G.paid

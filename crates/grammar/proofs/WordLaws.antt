@@ -9,14 +9,14 @@ use Rattle.grammar.specs.Trees.{Tree, Trees, node, nil, _▹_, fields, r
 use Rattle.grammar.specs.Script.{Entry, movedEntry, nodes}
 use Rattle.grammar.specs.Words.{wordsOf, Row, rowOf, rowWords, rowsWords, directoryOf}
 
--- ---- seven words a record, five an entry
+-- ---- eight words a record, five an entry
 
 mutual
   unfolding records size
 
   pub records-length : (t : Tree) → length (records t) ≡ recordWidth * size t
-  records-length (node k s (fields a b c d) ts) =
-      length-append (recordsOf ts) (row k (suc (sizes ts)) (parts ts) (fields a b c d)) ∙ omega (arith, all-length ts)
+  records-length (node k p s (fields a b c d) ts) =
+      length-append (recordsOf ts) (row k (suc (sizes ts)) (parts ts) (fields a b c d) p) ∙ omega (arith, all-length ts)
 
   pub all-length : (ts : Trees) → length (recordsOf ts) ≡ recordWidth * sizes ts
   all-length nil = refl

@@ -12,18 +12,22 @@ use Rattle.tokens.specs.Names.{place, member}
 use Rattle.tokens.specs.Numbers.{value, bitsOf}
 use Rattle.tokens.specs.Dates.{date}
 use Rattle.tokens.specs.Tokens.{Token, code}
-use Rattle.grammar.specs.Trees.{Tree, Trees, node, nil, _▹_, Fields, fields, none as unused, snoc, join, parts}
+use Rattle.grammar.specs.Trees.{Tree, Trees, node, nil, _▹_, Fields, fields, none as unused, placeOf, snoc, join, parts}
 use Rattle.grammar.specs.Readers.{Reader, _>>=_, _>>_, Turn, again, done, loop, first, is, give, fail, failAt, ask, peek, read, the}
 
 -- ---- nodes
 
--- a node without parts
-abbrev pub leaf : ℕ → Fields → Tree
-leaf k f = node k [] f nil
+-- a node without parts: its kind and place
+abbrev pub leaf : ℕ → ℕ → Fields → Tree
+leaf k b f = node k b [] f nil
 
--- a node of two parts
-abbrev pub binary : ℕ → Tree → Tree → Tree
-binary k l r = node k [] unused (l ▹ r ▹ nil)
+-- a node without parts that names bytes
+abbrev pub naming : ℕ → ℕ → List ℕ → Fields → Tree
+naming k b w f = node k b w f nil
+
+-- a node of two parts, whose text begins at b
+abbrev pub binary : ℕ → ℕ → Tree → Tree → Tree
+binary k b l r = node k b [] unused (l ▹ r ▹ nil)
 
 -- a string's content: what stands between the quotes
 abbrev pub content : Token → List ℕ
@@ -31,14 +35,14 @@ content t = take (length (t .text) - 2) (drop 1 (t .text))
 
 -- 1, 5: start, length of the name or string content
 abbrev pub variable : Token → Tree
-variable t = leaf 1 (fields (t .from) (length (t .text)) 0 0)
+variable t = naming 1 (t .from) (t .text) (fields (t .from) (length (t .text)) 0 0)
 
 abbrev pub string : Token → Tree
-string t = node 5 (content t) (fields (suc (t .from)) (length (content t)) 0 0) nil
+string t = naming 5 (t .from) (content t) (fields (suc (t .from)) (length (content t)) 0 0)
 
--- 2: f64 bits high, low, literal start, length without sign
-unfoldable pub constant : Float → Token → Tree
-constant x t = leaf 2 (fields (bitsOf x .high) (bitsOf x .low) (t .from) (length (t .text)))
+-- 2: f64 bits high, low, literal start, length without sign. Its place is the sign's, where it has one
+unfoldable pub constant : ℕ → Float → Token → Tree
+constant b x t = leaf 2 b (fields (bitsOf x .high) (bitsOf x .low) (t .from) (length (t .text)))
 
 -- ---- forms that recur
 
@@ -51,13 +55,17 @@ deeper t (some x) k = k x
 unfoldable pub optional : {A : Type 0} → String → A → Reader A → Reader A
 optional sign a m = ask (is sign) (the sign >> m) (give a)
 
--- operands joined by operators, left to right
-unfoldable pub groupTurn : (Token → Bool) → Reader Tree → Tree → Reader (Turn Tree Tree)
-groupTurn op operand l = ask op (do t ← read; r ← operand; give (again (binary (t .kind) l r))) (give (done l))
+-- a chain, by its first operand and what goes on behind it: every node of it is placed where its first token stands, parentheses and plus included
+abbrev pub chain : Reader Tree → (ℕ → Tree → Reader Tree) → Reader Tree
+chain operand rest = do t ← peek; l ← operand; rest (t .from) l
+
+-- operands joined by operators, left to right, in a chain that begins at b
+unfoldable pub groupTurn : (Token → Bool) → Reader Tree → ℕ → Tree → Reader (Turn Tree Tree)
+groupTurn op operand b l = ask op (do t ← read; r ← operand; give (again (binary (t .kind) b l r))) (give (done l))
 
 -- an operand, then operators and operands as long as there are any
 unfoldable pub grouped : (Token → Bool) → Reader Tree → Reader Tree
-grouped op operand = operand >>= loop (groupTurn op operand)
+grouped op operand = chain operand λ b l. loop (groupTurn op operand b) l
 
 -- ---- expressions, over the reader of a primary
 
@@ -73,9 +81,8 @@ sum primary = grouped (λ t. is "+" t || is "-" t) (product primary)
 
 -- at most one comparator between sums: == != > < >= <= are 13 to 18
 unfoldable pub comparison : Reader Tree → Reader Tree
-comparison primary = do
-  l ← sum primary
-  ask (λ t. within 13 18 (t .kind)) (do t ← read; r ← sum primary; give (binary (t .kind) l r)) (give l)
+comparison primary = chain (sum primary) λ b l.
+    ask (λ t. within 13 18 (t .kind)) (do t ← read; r ← sum primary; give (binary (t .kind) b l r)) (give l)
 
 -- comparisons joined by `and` and `or`, one level, left to right
 unfoldable pub expression : Reader Tree → Reader Tree
@@ -105,35 +112,35 @@ arguments inner = do
   t ← peek
   if is "(" t then deeper t inner (λ p. read >> closed ")" p) else fail 8
 
--- ---- postfixes: .append(e), .mean(), .std(), [e]
+-- ---- postfixes: .append(e), .mean(), .std(), [e]. Each node begins where what it stands behind begins, at b
 
 -- arguments are read before method name and count
-unfoldable pub method : Tree → Token → Trees → Reader Tree
-method x m es =
-    if same (bytes "append") (m .text) && eqb (parts es) 1 then give (node 29 [] unused (x ▹ es))
-    else if same (bytes "mean") (m .text) && eqb (parts es) 0 then give (node 30 [] unused (x ▹ nil))
-    else if same (bytes "std") (m .text) && eqb (parts es) 0 then give (node 31 [] unused (x ▹ nil))
+unfoldable pub method : ℕ → Tree → Token → Trees → Reader Tree
+method b x m es =
+    if same (bytes "append") (m .text) && eqb (parts es) 1 then give (node 29 b [] unused (x ▹ es))
+    else if same (bytes "mean") (m .text) && eqb (parts es) 0 then give (node 30 b [] unused (x ▹ nil))
+    else if same (bytes "std") (m .text) && eqb (parts es) 0 then give (node 31 b [] unused (x ▹ nil))
     else failAt m 10
 
 -- a method of x, behind its `.`
-abbrev pub methodOf : Option (Reader Tree) → Tree → Reader (Turn Tree Tree)
-methodOf inner x = do m ← the "name"; es ← arguments inner; y ← method x m es; give (again y)
+abbrev pub methodOf : Option (Reader Tree) → ℕ → Tree → Reader (Turn Tree Tree)
+methodOf inner b x = do m ← the "name"; es ← arguments inner; y ← method b x m es; give (again y)
 
 -- an index of x, behind its `[`
-abbrev pub indexOf : Reader Tree → Tree → Reader (Turn Tree Tree)
-indexOf primary x = do i ← expression primary; the "]"; give (again (binary 28 x i))
+abbrev pub indexOf : Reader Tree → ℕ → Tree → Reader (Turn Tree Tree)
+indexOf primary b x = do i ← expression primary; the "]"; give (again (binary 28 b x i))
 
 -- one postfix of x, if there is one
-unfoldable pub postfixTurn : Option (Reader Tree) → Tree → Reader (Turn Tree Tree)
-postfixTurn inner x = do
+unfoldable pub postfixTurn : Option (Reader Tree) → ℕ → Tree → Reader (Turn Tree Tree)
+postfixTurn inner b x = do
   t ← peek
-  if is "." t then (read >> methodOf inner x)
-      else if is "[" t then deeper t inner (λ p. read >> indexOf p x)
+  if is "." t then (read >> methodOf inner b x)
+      else if is "[" t then deeper t inner (λ p. read >> indexOf p b x)
       else give (done x)
 
 -- all of them
-unfoldable pub postfixes : Option (Reader Tree) → Tree → Reader Tree
-postfixes inner = loop (postfixTurn inner)
+unfoldable pub postfixes : Option (Reader Tree) → ℕ → Tree → Reader Tree
+postfixes inner b = loop (postfixTurn inner b)
 
 -- ---- calls
 
@@ -146,25 +153,27 @@ unfoldable pub aDate : Reader ℕ
 aDate = the "string" >>= dateOf
 
 -- the curve of a Df, or none
-abbrev pub curve : ℕ → Reader Tree
-curve d = optional "," (leaf 34 (fields d 0 0 0)) (do s ← the "string"; give (leaf 34 (fields d (suc (s .from)) (length (content s)) 0)))
+abbrev pub curve : ℕ → ℕ → Reader Tree
+curve b d =
+    optional "," (leaf 34 b (fields d 0 0 0))
+    (do s ← the "string"; give (naming 34 b (content s) (fields d (suc (s .from)) (length (content s)) 0)))
 
--- Df(date[,"curve"])
-unfoldable pub df : Reader Tree
-df = do
+-- Df(date[,"curve"]), its name at b
+unfoldable pub df : ℕ → Reader Tree
+df b = do
   the "("
   d ← aDate
-  e ← curve d
+  e ← curve b d
   the ")"
   give e
 
 -- the strings of a RateIndex: its name and two dates
-abbrev pub rateOf : Token → Token → Token → Reader Tree
-rateOf s t u = do a ← dateOf t; b ← dateOf u; give (leaf 35 (fields (suc (s .from)) (length (content s)) a b))
+abbrev pub rateOf : ℕ → Token → Token → Token → Reader Tree
+rateOf b s t u = do c ← dateOf t; d ← dateOf u; give (naming 35 b (content s) (fields (suc (s .from)) (length (content s)) c d))
 
--- RateIndex("name",date,date), dates judged after `)`
-unfoldable pub rateIndex : Reader Tree
-rateIndex = do
+-- RateIndex("name",date,date), its name at b, dates judged after `)`
+unfoldable pub rateIndex : ℕ → Reader Tree
+rateIndex b = do
   the "("
   s ← the "string"
   the ","
@@ -172,15 +181,15 @@ rateIndex = do
   the ","
   u ← the "string"
   the ")"
-  rateOf s t u
+  rateOf b s t u
 
 -- a String node
 abbrev pub isString : Tree → Bool
-isString (node k s f ts) = eqb k 5
+isString (node k b s f ts) = eqb k 5
 
--- the bytes of a String node
+-- the bytes that a node names: of a String its content
 abbrev pub textOf : Tree → List ℕ
-textOf (node k s f ts) = s
+textOf (node k b s f ts) = s
 
 -- all are String nodes
 abbrev pub strings : Trees → Bool
@@ -241,12 +250,12 @@ block statement = do
 -- `if e { .. }` with optional `else { .. }`
 unfoldable pub ifOver : Inner → Reader Tree
 ifOver i = do
-  read
+  t ← read
   e ← expression (i .primary)
   ss ← block (i .statement)
   ask (is "else")
-      (do read; us ← block (i .statement); give (node 38 [] (fields (suc (parts ss)) 0 0 0) (e ▹ join ss us)))
-      (give (node 38 [] unused (e ▹ ss)))
+      (do read; us ← block (i .statement); give (node 38 (t .from) [] (fields (suc (parts ss)) 0 0 0) (e ▹ join ss us)))
+      (give (node 38 (t .from) [] unused (e ▹ ss)))
 
 -- `e;`
 unfoldable pub ended : Reader Tree → Reader Tree
@@ -262,22 +271,23 @@ module _ (W : Words) where
   aCurrency = the "string" >>= currencyOf
 
   -- a first string that is no currency is an equity, Spot("name"[,date])
-  unfoldable pub equity : Token → Reader Tree
-  equity s = do d ← optional "," 0 aDate; give (leaf 33 (fields (suc (s .from)) (length (content s)) d 0))
+  unfoldable pub equity : ℕ → Token → Reader Tree
+  equity b s = do d ← optional "," 0 aDate; give (naming 33 b (content s) (fields (suc (s .from)) (length (content s)) d 0))
 
   -- Spot("CCY"), second USD; Spot("CCY","CCY"[,date])
-  unfoldable pub pair : ℕ → Reader Tree
-  pair c = optional "," (leaf 32 (fields c 1 0 0)) (do k ← aCurrency; d ← optional "," 0 aDate; give (leaf 32 (fields c k d 0)))
+  unfoldable pub pair : ℕ → ℕ → Reader Tree
+  pair b c = optional "," (leaf 32 b (fields c 1 0 0)) (do k ← aCurrency; d ← optional "," 0 aDate; give (leaf 32 b (fields c k d 0)))
 
   -- the first string decides
-  abbrev pub spotOf : Token → Reader Tree
-  spotOf s = let c = place (W .currencies) (content s) in if eqb c 0 then equity s else pair c
+  abbrev pub spotOf : ℕ → Token → Reader Tree
+  spotOf b s = let c = place (W .currencies) (content s) in if eqb c 0 then equity b s else pair b c
 
-  unfoldable pub spot : Reader Tree
-  spot = do
+  -- the name `Spot` is at b
+  unfoldable pub spot : ℕ → Reader Tree
+  spot b = do
     the "("
     s ← the "string"
-    e ← spotOf s
+    e ← spotOf b s
     the ")"
     give e
 
@@ -286,7 +296,7 @@ module _ (W : Words) where
   cvg t es =
       if not (strings es) then failAt t 14
       else if eqb (date (text es 0)) 0 || eqb (date (text es 1)) 0 then failAt t 11
-      else if member (W .counters) (text es 2) then give (node 25 [] unused es)
+      else if member (W .counters) (text es 2) then give (node 25 (t .from) [] unused es)
       else failAt t 13
 
   -- an ordinary call, behind its name t: count before strings
@@ -295,7 +305,7 @@ module _ (W : Words) where
     es ← arguments inner
     if not (within (c .1) (c .2) (parts es)) then failAt t 10
         else if eqb (c .0) 25 then cvg t es
-        else give (node (c .0) [] unused es)
+        else give (node (c .0) (t .from) [] unused es)
 
   -- a variable may not be reserved (9)
   unfoldable pub named : Token → Reader Tree
@@ -306,10 +316,10 @@ module _ (W : Words) where
   name inner t =
       let c = callOf (t .text) calls in
       if leb 1 (c .0) then call inner t c
-      else if same (bytes "Spot") (t .text) then spot
-      else if same (bytes "Df") (t .text) then df
-      else if same (bytes "RateIndex") (t .text) then rateIndex
-      else (named t >>= postfixes inner)
+      else if same (bytes "Spot") (t .text) then spot (t .from)
+      else if same (bytes "Df") (t .text) then df (t .from)
+      else if same (bytes "RateIndex") (t .text) then rateIndex (t .from)
+      else (named t >>= postfixes inner (t .from))
 
   -- ---- pays
 
@@ -325,36 +335,36 @@ module _ (W : Words) where
   payments primary = loop (payTurn primary) nil
 
   -- then optional `on` date, then optional `in` currency
-  abbrev pub payday : Trees → Reader Tree
-  payday es = do d ← optional "on" 0 aDate; c ← optional "in" 0 aCurrency; give (node 36 [] (fields d c 0 0) es)
+  abbrev pub payday : ℕ → Trees → Reader Tree
+  payday b es = do d ← optional "on" 0 aDate; c ← optional "in" 0 aCurrency; give (node 36 b [] (fields d c 0 0) es)
 
-  -- what stands behind the word `pays`
-  abbrev pub payment : Reader Tree → Reader Tree
-  payment primary = do es ← payments primary; payday es
+  -- what stands behind the word `pays`, which is at b
+  abbrev pub payment : ℕ → Reader Tree → Reader Tree
+  payment b primary = do es ← payments primary; payday b es
 
   unfoldable pub pays : Option (Reader Tree) → Reader Tree
-  pays inner = peek >>= λ t. deeper t inner λ p. the "pays" >> payment p
+  pays inner = peek >>= λ t. deeper t inner λ p. the "pays" >> payment (t .from) p
 
   -- ---- primaries
 
-  -- UnaryMinus of a primary
-  abbrev pub negative : Reader Tree → Reader Tree
-  negative primary = do x ← primary; give (node 7 [] unused (x ▹ nil))
+  -- UnaryMinus of a primary: the minus is at b
+  abbrev pub negative : ℕ → Reader Tree → Reader Tree
+  negative b primary = do x ← primary; give (node 7 b [] unused (x ▹ nil))
 
   -- unary `-`, s, is read: a negated constant if a number follows at once, else UnaryMinus of a primary
   unfoldable pub minus : Option (Reader Tree) → Token → Reader Tree
   minus inner s = do
     t ← peek
-    if is "number" t then (do the "number"; give (constant (neg (value (t .text))) t))
-        else deeper s inner negative
+    if is "number" t then (do the "number"; give (constant (s .from) (neg (value (t .text))) t))
+        else deeper s inner (negative (s .from))
 
   -- an expression and its `)`
   abbrev pub parenthesis : Reader Tree → Reader Tree
   parenthesis primary = do e ← expression primary; the ")"; give e
 
-  -- the elements of a list and its `]`
-  abbrev pub listed : Reader Tree → Reader Tree
-  listed primary = do es ← items "]" primary; the "]"; give (node 6 [] unused es)
+  -- the elements of a list and its `]`; its `[` is at b
+  abbrev pub listed : ℕ → Reader Tree → Reader Tree
+  listed b primary = do es ← items "]" primary; the "]"; give (node 6 b [] unused es)
 
   -- Primary: ( e ), without postfix; unary `+`, which vanishes; unary `-`; list with postfixes; number, true, false, string; pays; call; variable with postfixes
   unfoldable pub primaryOver : Option (Reader Tree) → Reader Tree
@@ -363,10 +373,10 @@ module _ (W : Words) where
     if is "(" t then deeper t inner (λ p. read >> parenthesis p)
         else if is "+" t then deeper t inner (λ p. read >> p)
         else if is "-" t then (read >> minus inner t)
-        else if is "[" t then (deeper t inner (λ p. read >> listed p) >>= postfixes inner)
-        else if is "number" t then (do the "number"; give (constant (value (t .text)) t))
-        else if is "true" t then (do the "true"; give (leaf 3 unused))
-        else if is "false" t then (do the "false"; give (leaf 4 unused))
+        else if is "[" t then (deeper t inner (λ p. read >> listed (t .from) p) >>= postfixes inner (t .from))
+        else if is "number" t then (do the "number"; give (constant (t .from) (value (t .text)) t))
+        else if is "true" t then (do the "true"; give (leaf 3 (t .from) unused))
+        else if is "false" t then (do the "false"; give (leaf 4 (t .from) unused))
         else if is "string" t then (do the "string"; give (string t))
         else if is "pays" t then pays inner
         else if is "name" t then (do the "name"; name inner t)
@@ -382,13 +392,13 @@ module _ (W : Words) where
   -- `for v in e { .. }`
   unfoldable pub forOver : Inner → Reader Tree
   forOver i = do
-    read
+    t ← read
     v ← the "name"
     named v
     the "in"
     e ← expression (i .primary)
     ss ← block (i .statement)
-    give (node 39 [] (fields (v .from) (length (v .text)) 0 0) (e ▹ ss))
+    give (node 39 (t .from) (v .text) (fields (v .from) (length (v .text)) 0 0) (e ▹ ss))
 
   -- a `;` after a statement's pays is optional
   unfoldable pub paid : Option (Reader Tree) → Reader Tree
@@ -398,17 +408,21 @@ module _ (W : Words) where
   unfoldable pub target : Reader Tree
   target = the "name" >>= named
 
+  -- x is assigned e, at x's place
+  abbrev pub assigned : Tree → Tree → Tree
+  assigned x e = binary 37 (placeOf x) x e
+
   -- `x = e;`
   unfoldable pub assign : Reader Tree → Reader Tree
-  assign primary = do x ← target; read; e ← ended primary; give (binary 37 x e)
+  assign primary = do x ← target; read; e ← ended primary; give (assigned x e)
 
-  -- `x += e` is Assign(x, Add(x, e)); so -= *= /=
+  -- `x += e` is Assign(x, Add(x, e)), all but e at the name's place; so -= *= /=
   unfoldable pub compound : Reader Tree → Reader Tree
-  compound primary = do x ← target; o ← read; e ← ended primary; give (binary 37 x (binary (o .kind - 20) x e))
+  compound primary = do x ← target; o ← read; e ← ended primary; give (assigned x (binary (o .kind - 20) (placeOf x) x e))
 
-  -- `x pays ..` is Assign(x, Add(x, Pays))
+  -- `x pays ..` is Assign(x, Add(x, Pays)), so too
   unfoldable pub assignPaid : Option (Reader Tree) → Reader Tree
-  assignPaid inner = do x ← target; e ← paid inner; give (binary 37 x (binary 8 x e))
+  assignPaid inner = do x ← target; e ← paid inner; give (assigned x (binary 8 (placeOf x) x e))
 
   -- a name that begins a statement is an assignment, compound assignment or `x pays` only if the very next token, of the kind k, is that sign
   unfoldable pub nameFirst : Reader Tree → Option (Reader Tree) → ℕ → Reader Tree

@@ -38,8 +38,8 @@ pub data Date : ℕ → Fields → ℕ → Type 0 where
 -- a date of a tree: of its node, or of one of its parts
 mutual
   pub data Has (x : ℕ) : Tree → Type 0 where
-    here : {k : ℕ} {s : List ℕ} {f : Fields} {ts : Trees} → Date k f x → Has x (node k s f ts)
-    below : {k : ℕ} {s : List ℕ} {f : Fields} {ts : Trees} → HasPart x ts → Has x (node k s f ts)
+    here : {k p : ℕ} {s : List ℕ} {f : Fields} {ts : Trees} → Date k f x → Has x (node k p s f ts)
+    below : {k p : ℕ} {s : List ℕ} {f : Fields} {ts : Trees} → HasPart x ts → Has x (node k p s f ts)
 
   pub data HasPart (x : ℕ) : Trees → Type 0 where
     this : {t : Tree} {ts : Trees} → Has x t → HasPart x (t ▹ ts)

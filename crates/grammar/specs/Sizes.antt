@@ -3,9 +3,9 @@ use Prim.Native.Nat.{ℕ, _/_}
 use lib.Dec.{ltb}
 use Rattle.tokens.specs.Text.{if_then_else_}
 
--- a record has seven words
+-- a record has eight words
 abbrev pub recordWidth : ℕ
-recordWidth = 7
+recordWidth = 8
 
 -- the directory has five words per top-level statement
 abbrev pub entryWidth : ℕ

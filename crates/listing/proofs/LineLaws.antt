@@ -5,9 +5,10 @@ use Prim.Native.Nat.{ℕ, zero, suc, _+_, _-_, _*_, _/_, _%_, _≤_, _<_}
 use native.Mathlib.Numerals.{add-one}
 use native.Mathlib.Omega.{arith}
 use lib.ListN.{length, getD, take, drop, set, length-append, length-take, length-drop, length-set, drop-of-length-le}
-use lib.Seq.{take-suc-set, drop-cons, getD-set-same, drop-set-lt, take-add, drop-drop, length-take-le}
+use lib.Seq.{take-suc, take-suc-set, take-all, drop-cons, getD-set-same, getD-drop, drop-set-lt, take-add, drop-drop, length-take-le}
 use Rattle.io.specs.Digits.{glyph, digits}
-use Rattle.listing.specs.Lines.{word, gapOf, line, recordLines, Appended}
+use Rattle.grammar.specs.Sizes.{recordWidth}
+use Rattle.listing.specs.Lines.{wordBytes, recordBytes, word, gapOf, line, recordLines, Appended}
 
 -- ---- text behind text
 
@@ -113,7 +114,7 @@ pub gap-more : (n : ℕ) → (n ≡ 0 → ⊥) → 32 ≡ gapOf n
 gap-more zero h = absurd (h refl)
 gap-more (suc n) h = refl
 
-pub line-length : (ws : List ℕ) → length (line ws) ≡ 9 * length ws
+pub line-length : (ws : List ℕ) → length (line ws) ≡ wordBytes * length ws
 unfolding line
 line-length [] = refl
 line-length (w ∷ ws) = length-append (word w) (gapOf (length ws) ∷ line ws) ∙ omega (arith, word-length w, line-length ws)
@@ -131,7 +132,7 @@ line-more ws i h =
 
 -- there is room for a word and what stands behind it
 pub line-room : {o o′ : List ℕ} {n m : ℕ} (ws : List ℕ) (i : ℕ) → Going o n (line ws) m o′ (line (drop i ws)) → i < length ws
-    → n + 9 * length ws ≤ length o → m + 9 ≤ length o′
+    → n + wordBytes * length ws ≤ length o → m + wordBytes ≤ length o′
 line-room ws i g h fits = omega (arith, g .size, g .left, line-length ws, line-length (drop i ws), length-drop i ws)
 
 pub line-done : (ws : List ℕ) (i : ℕ) → length ws ≤ i → line (drop i ws) ≡ []
@@ -140,56 +141,52 @@ line-done ws i h = ap line (drop-of-length-le ws h)
 
 -- ---- records
 
-pub seven : (ws : List ℕ) (n : ℕ) → n + 7 ≤ length ws
-    → take 7 (drop n ws)
-    ≡ getD ws n 0 ∷ getD ws (n + 1) 0 ∷ getD ws (n + 2) 0 ∷ getD ws (n + 3) 0 ∷ getD ws (n + 4) 0 ∷ getD ws (n + 5) 0 ∷ getD ws (n + 6) 0 ∷ []
-seven ws n h =
-    let none : n + 0 ≡ n = omega arith in
-    let more = getD ws (n + 1) 0 ∷ getD ws (n + 2) 0 ∷ getD ws (n + 3) 0 ∷ getD ws (n + 4) 0 ∷ getD ws (n + 5) 0 ∷ getD ws (n + 6) 0 ∷ [] in
-    subst (λ (j : ℕ). take 7 (drop j ws) ≡ getD ws j 0 ∷ more) none (at 0 7 (omega arith))
-  where
-    -- the next k words from the ith on
-    from : ℕ → ℕ → List ℕ
-    from i zero = []
-    from i (suc k) = getD ws (n + i) 0 ∷ from (suc i) k
+-- the first words of a record stand in ws, and then the next too
+pub copied-on : (ws rs : List ℕ) (n i : ℕ) → i < length ws → n + i < length rs → take i ws ≡ take i (drop n rs)
+    → take (i + 1) (set ws i (getD rs (n + i) 0)) ≡ take (i + 1) (drop n rs)
+copied-on ws rs n i h more e =
+    let w = getD rs (n + i) 0 in
+    let inside : i < length (drop n rs) = omega (arith, length-drop n rs) in
+    rw add-one
+    (take-suc-set ws i w h ∙ ap (λ (u : List ℕ). u ++ (w ∷ [])) e
+    ∙ ap (λ (v : ℕ). take i (drop n rs) ++ (v ∷ [])) (sym (getD-drop n rs i 0)) ∙ sym (take-suc (drop n rs) i 0 inside))
 
-    at : (i k : ℕ) → n + i + k ≤ length ws → take k (drop (n + i) ws) ≡ from i k
-    at i zero h = refl
-    at i (suc k) h =
-        let next : suc (n + i) ≡ n + suc i = omega arith in
-        ap (λ (u : List ℕ). take (suc k) u) (drop-cons ws (n + i) 0 (omega arith))
-        ∙ ap (λ (j : ℕ). getD ws (n + i) 0 ∷ take k (drop j ws)) next ∙ ap (λ (u : List ℕ). getD ws (n + i) 0 ∷ u) (at (suc i) k (omega arith))
+-- all of them
+pub copied-all : (ws rs : List ℕ) (n m i : ℕ) → m ≤ i → i ≤ m → length ws ≡ m → take i ws ≡ take i (drop n rs) → ws ≡ take m (drop n rs)
+copied-all ws rs n m i least most size e =
+    let all : i ≡ m = omega arith in
+    sym (take-all m ws (omega (arith, size))) ∙ subst (λ (j : ℕ). take j ws ≡ take j (drop n rs)) all e
 
-pub records-length : (n : ℕ) (ws : List ℕ) → 7 * n ≤ length ws → length (recordLines n ws) ≡ 63 * n
+pub records-length : (n : ℕ) (ws : List ℕ) → recordWidth * n ≤ length ws → length (recordLines n ws) ≡ recordBytes * n
 unfolding recordLines
 records-length zero ws h = refl
 records-length (suc n) ws h =
-    length-append (line (take 7 ws)) (recordLines n (drop 7 ws))
-    ∙ omega (arith, line-length (take 7 ws), length-take-le 7 ws (omega arith), records-length n (drop 7 ws) (omega (arith, length-drop 7 ws)))
+    length-append (line (take recordWidth ws)) (recordLines n (drop recordWidth ws))
+    ∙ omega (arith, line-length (take recordWidth ws), length-take-le recordWidth ws (omega arith), records-length n (drop recordWidth ws) (omega (arith, length-drop recordWidth ws)))
 
 -- the rest of the records begins with a record's line
 pub records-more : (ws : List ℕ) (n i : ℕ) → i < n
-    → recordLines (n - i) (drop (i * 7) ws) ≡ line (take 7 (drop (i * 7) ws)) ++ recordLines (n - (i + 1)) (drop ((i + 1) * 7) ws)
+    → recordLines (n - i) (drop (i * recordWidth) ws) ≡ line (take recordWidth (drop (i * recordWidth) ws)) ++ recordLines (n - (i + 1)) (drop ((i + 1) * recordWidth) ws)
 unfolding recordLines
 records-more ws n i h =
     let left : n - i ≡ suc (n - (i + 1)) = omega arith in
-    let at : i * 7 + 7 ≡ (i + 1) * 7 = omega arith in
-    ap (λ (k : ℕ). recordLines k (drop (i * 7) ws)) left
-    ∙ ap (λ (u : List ℕ). line (take 7 (drop (i * 7) ws)) ++ recordLines (n - (i + 1)) u)
-    (drop-drop 7 (i * 7) ws ∙ ap (λ (j : ℕ). drop j ws) at)
+    let at : i * recordWidth + recordWidth ≡ (i + 1) * recordWidth = omega arith in
+    ap (λ (k : ℕ). recordLines k (drop (i * recordWidth) ws)) left
+    ∙ ap (λ (u : List ℕ). line (take recordWidth (drop (i * recordWidth) ws)) ++ recordLines (n - (i + 1)) u)
+    (drop-drop recordWidth (i * recordWidth) ws ∙ ap (λ (j : ℕ). drop j ws) at)
 
 -- there is room for a record's line
-pub records-room : {o o′ : List ℕ} {n m : ℕ} (ws : List ℕ) (k i : ℕ) → Going o n (recordLines k ws) m o′ (recordLines (k - i) (drop (i * 7) ws)) → i < k
-    → n + 63 * k ≤ length o → 7 * k ≤ length ws → m + 63 ≤ length o′
+pub records-room : {o o′ : List ℕ} {n m : ℕ} (ws : List ℕ) (k i : ℕ) → Going o n (recordLines k ws) m o′ (recordLines (k - i) (drop (i * recordWidth) ws)) → i < k
+    → n + recordBytes * k ≤ length o → recordWidth * k ≤ length ws → m + recordBytes ≤ length o′
 records-room ws k i g h fits held =
-    let rest : 7 * (k - i) ≤ length (drop (i * 7) ws) = omega (arith, length-drop (i * 7) ws) in
-    omega (arith, g .size, g .left, records-length k ws held, records-length (k - i) (drop (i * 7) ws) rest)
+    let rest : recordWidth * (k - i) ≤ length (drop (i * recordWidth) ws) = omega (arith, length-drop (i * recordWidth) ws) in
+    omega (arith, g .size, g .left, records-length k ws held, records-length (k - i) (drop (i * recordWidth) ws) rest)
 
-pub records-start : (o : List ℕ) (n : ℕ) (ws : List ℕ) (k : ℕ) → Going o n (recordLines k ws) n o (recordLines (k - 0) (drop (0 * 7) ws))
+pub records-start : (o : List ℕ) (n : ℕ) (ws : List ℕ) (k : ℕ) → Going o n (recordLines k ws) n o (recordLines (k - 0) (drop (0 * recordWidth) ws))
 records-start o n ws k =
     let all : k ≡ k - 0 = omega arith in
     subst (λ (j : ℕ). Going o n (recordLines k ws) n o (recordLines j ws)) all (going-start o n (recordLines k ws))
 
-pub records-done : (ws : List ℕ) (n i : ℕ) → n ≤ i → recordLines (n - i) (drop (i * 7) ws) ≡ []
+pub records-done : (ws : List ℕ) (n i : ℕ) → n ≤ i → recordLines (n - i) (drop (i * recordWidth) ws) ≡ []
 unfolding recordLines
-records-done ws n i h = let none : n - i ≡ 0 = omega arith in ap (λ (k : ℕ). recordLines k (drop (i * 7) ws)) none
+records-done ws n i h = let none : n - i ≡ 0 = omega arith in ap (λ (k : ℕ). recordLines k (drop (i * recordWidth) ws)) none

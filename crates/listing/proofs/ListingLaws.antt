@@ -19,14 +19,14 @@ use Rattle.listing.specs.Lines.{line, recordLines}
 use Rattle.listing.specs.Listing.{ownLists, acceptedLines, refusedLine, answerLines, wordsRead, readingLines, listing}
 
 -- the words past the records are not looked at
-records-front : (n : ℕ) (ws rest : List ℕ) → 7 * n ≤ length ws → recordLines n (ws ++ rest) ≡ recordLines n ws
+records-front : (n : ℕ) (ws rest : List ℕ) → recordWidth * n ≤ length ws → recordLines n (ws ++ rest) ≡ recordLines n ws
 unfolding recordLines
 records-front zero ws rest h = refl
 records-front (suc n) ws rest h =
-    let seven : 7 ≤ length ws = omega arith in
-    ap (λ (u : List ℕ). line u ++ recordLines n (drop 7 (ws ++ rest))) (take-append-le 7 ws rest seven)
-    ∙ ap (λ (u : List ℕ). line (take 7 ws) ++ recordLines n u) (drop-append-le 7 ws rest seven)
-    ∙ ap (λ (u : List ℕ). line (take 7 ws) ++ u) (records-front n (drop 7 ws) rest (omega (arith, length-drop 7 ws)))
+    let whole : recordWidth ≤ length ws = omega arith in
+    ap (λ (u : List ℕ). line u ++ recordLines n (drop recordWidth (ws ++ rest))) (take-append-le recordWidth ws rest whole)
+    ∙ ap (λ (u : List ℕ). line (take recordWidth ws) ++ recordLines n u) (drop-append-le recordWidth ws rest whole)
+    ∙ ap (λ (u : List ℕ). line (take recordWidth ws) ++ u) (records-front n (drop recordWidth ws) rest (omega (arith, length-drop recordWidth ws)))
 
 module _ (bs : List ℕ) where
   records-left : (o : List ℕ) (R : Outcome) → recordLines (answerTo bs R .records) (leftBy wordsOf o R) ≡ recordLines (answerTo bs R .records) (wordsRead R)
@@ -55,7 +55,7 @@ module _ (bs o d o′ d′ : List ℕ) (a : Answer) (records-lent : length o ≡
   room : reading ownLists (recordRoom (length o)) (statementRoom (length d)) bs ≡ reading ownLists mostRecords mostStatements bs
   room = rw (records-lent, directory-lent)
 
-  pub records-few : a .records ≤ 2048
+  pub records-few : a .records ≤ mostRecords
   unfolding reading room
   records-few =
       rw (L .answer, room) (fitting-few bs (length (script bs)) mostRecords mostStatements (readScript ownLists bs))

@@ -1,7 +1,7 @@
 -- Words as text, a line at a time.
 use mathlib.Core.Path.{_≡_}
 use mathlib.Core.List.{List, [], _∷_, _++_}
-use Prim.Native.Nat.{ℕ, zero, suc, _+_}
+use Prim.Native.Nat.{ℕ, zero, suc, _+_, _*_}
 use lib.ListN.{length, take, drop}
 use Rattle.io.specs.Digits.{digits}
 use Rattle.grammar.specs.Sizes.{recordWidth}
@@ -9,6 +9,14 @@ use Rattle.grammar.specs.Sizes.{recordWidth}
 -- eight hexadecimal digits, lowercase, the most significant first
 unfoldable pub word : ℕ → List ℕ
 word w = digits 16 8 w
+
+-- a word has nine bytes of its line, with what stands behind it
+abbrev pub wordBytes : ℕ
+wordBytes = 9
+
+-- the line of a record
+abbrev pub recordBytes : ℕ
+recordBytes = wordBytes * recordWidth
 
 -- behind a word: a line feed if no word follows on its line, else a space
 abbrev pub gapOf : ℕ → ℕ

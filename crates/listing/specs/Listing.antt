@@ -1,6 +1,6 @@
 -- The listing of a script.
 use mathlib.Core.List.{List, [], _∷_, _++_}
-use Prim.Native.Nat.{ℕ}
+use Prim.Native.Nat.{ℕ, _+_, _*_}
 use lib.Dec.{eqb}
 use Rattle.tokens.specs.Text.{if_then_else_}
 use Rattle.tokens.specs.Names.{Lists}
@@ -10,7 +10,7 @@ use Rattle.grammar.specs.Words.{wordsOf}
 use Rattle.reading.specs.Judging.{listsIn}
 use Rattle.reading.specs.Reading.{answerTo}
 use Rattle.reading.specs.declared.reading.Answer.{Answer}
-use Rattle.listing.specs.Lines.{line, recordLines}
+use Rattle.listing.specs.Lines.{wordBytes, recordBytes, line, recordLines}
 
 -- "no reserved words; USD, EUR; no day counters"
 abbrev pub ownLists : Lists
@@ -40,3 +40,7 @@ readingLines bs R = answerLines (answerTo bs R) (wordsRead R)
 -- of a script, with room for all that the capacities allow
 unfoldable pub listing : List ℕ → List ℕ
 listing bs = readingLines bs (reading ownLists mostRecords mostStatements bs)
+
+-- how long a listing can be: the line of three words, and one for each record that there may be
+abbrev pub longest : ℕ
+longest = wordBytes * 3 + recordBytes * mostRecords

@@ -1,10 +1,15 @@
 // Lines of words. Each function puts text behind the first `at` bytes of `out`, and answers how many bytes there are then.
+use reading::rooms::RECORD_WIDTH;
 ghost use mathlib.Core.List.{[], _∷_};
 ghost use mathlib.Core.Path.{_≡_};
 ghost use Prim.Native.Nat.{_+_, _*_, _≤_, _<_};
 ghost use lib.ListN.{length, take, drop};
 ghost use Rattle.io.specs.Digits.{glyph};
-ghost use Rattle.listing.specs.Lines.{word, gapOf, line, recordLines, Appended};
+ghost use Rattle.grammar.specs.Sizes.{recordWidth};
+ghost use Rattle.listing.specs.Lines.{wordBytes, recordBytes, word, gapOf, line, recordLines, Appended};
+
+// The bytes of a word on its line, with what stands behind it.
+pub const WORD_BYTES: usize = 9;
 
 fn put(out: &mut [u8], at: usize, b: u8) -> usize
     requires { ⌜ at < length (now out) ⌝ }
@@ -44,7 +49,7 @@ fn gap(words: usize) -> u8
 }
 
 pub fn put_line(out: &mut [u8], at: usize, words: &[u64]) -> usize
-    requires { ⌜ at + 9 * length (now words) ≤ length (now out) ⌝ }
+    requires { ⌜ at + wordBytes * length (now words) ≤ length (now out) ⌝ }
     ensures { λ r. ⌜ Appended (now (out .entry)) at (line (now (words .entry))) r (now (out .exit)) ⌝ }
 {
     let mut k = at;
@@ -63,31 +68,29 @@ fn wide(word: u32) -> u64
     word as u64
 }
 
+// A line of the words of the record that begins at the word `from`.
 fn put_record(out: &mut [u8], at: usize, records: &[u32], from: usize) -> usize
-    requires { ⌜ (at + 63 ≤ length (now out)) × (from + 7 ≤ length (now records)) ⌝ }
-    ensures { λ r. ⌜ Appended (now (out .entry)) at (line (take 7 (drop from (now (records .entry))))) r (now (out .exit)) ⌝ }
+    requires { ⌜ (at + recordBytes ≤ length (now out)) × (from + recordWidth ≤ length (now records)) ⌝ }
+    ensures { λ r. ⌜ Appended (now (out .entry)) at (line (take recordWidth (drop from (now (records .entry))))) r (now (out .exit)) ⌝ }
 {
-    let words = [
-        wide(records[from]),
-        wide(records[from + 1]),
-        wide(records[from + 2]),
-        wide(records[from + 3]),
-        wide(records[from + 4]),
-        wide(records[from + 5]),
-        wide(records[from + 6]),
-    ];
+    let mut words = [0u64; RECORD_WIDTH];
+    let mut i: usize = 0;
+    while i < RECORD_WIDTH {
+        words[i] = wide(records[from + i]);
+        i += 1;
+    }
     put_line(out, at, &words)
 }
 
 // A line for each of the first `count` records.
 pub fn put_records(out: &mut [u8], at: usize, records: &[u32], count: usize) -> usize
-    requires { ⌜ (at + 63 * count ≤ length (now out)) × (7 * count ≤ length (now records)) ⌝ }
+    requires { ⌜ (at + recordBytes * count ≤ length (now out)) × (recordWidth * count ≤ length (now records)) ⌝ }
     ensures { λ r. ⌜ Appended (now (out .entry)) at (recordLines count (now (records .entry))) r (now (out .exit)) ⌝ }
 {
     let mut k = at;
     let mut i: usize = 0;
     while i < count {
-        k = put_record(out, k, records, i * 7);
+        k = put_record(out, k, records, i * RECORD_WIDTH);
         i += 1;
     }
     k

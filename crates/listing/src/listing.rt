@@ -9,8 +9,9 @@ use reading::rooms::MOST_STATEMENTS;
 use reading::rooms::RECORD_WIDTH;
 ghost use Prim.Native.Nat.{_+_, _*_, _≤_};
 ghost use lib.ListN.{length};
-ghost use Rattle.listing.specs.Lines.{Appended};
-ghost use Rattle.listing.specs.Listing.{acceptedLines, refusedLine, listing};
+ghost use Rattle.grammar.specs.Sizes.{recordWidth};
+ghost use Rattle.listing.specs.Lines.{wordBytes, recordBytes, Appended};
+ghost use Rattle.listing.specs.Listing.{acceptedLines, refusedLine, listing, longest};
 
 // Room for all records and statements that the capacities allow.
 const RECORD_WORDS: usize = RECORD_WIDTH * MOST_RECORDS;
@@ -18,7 +19,7 @@ const RECORD_WORDS: usize = RECORD_WIDTH * MOST_RECORDS;
 const DIRECTORY_WORDS: usize = ENTRY_WIDTH * MOST_STATEMENTS;
 
 fn list_refusal(a: Answer, out: &mut [u8]) -> usize
-    requires { ⌜ 36 ≤ length (now out) ⌝ }
+    requires { ⌜ wordBytes * 4 ≤ length (now out) ⌝ }
     ensures { λ r. ⌜ Appended (now (out .entry)) 0 (refusedLine a) r (now (out .exit)) ⌝ }
 {
     let words = [
@@ -31,7 +32,7 @@ fn list_refusal(a: Answer, out: &mut [u8]) -> usize
 }
 
 fn list_acceptance(a: Answer, records: &[u32], out: &mut [u8]) -> usize
-    requires { ⌜ (27 + 63 * a .records ≤ length (now out)) × (7 * a .records ≤ length (now records)) ⌝ }
+    requires { ⌜ (wordBytes * 3 + recordBytes * a .records ≤ length (now out)) × (recordWidth * a .records ≤ length (now records)) ⌝ }
     ensures { λ r. ⌜ Appended (now (out .entry)) 0 (acceptedLines a (now (records .entry))) r (now (out .exit)) ⌝ }
 {
     let words = [a.statements as u64, a.records as u64, a.tokens as u64];
@@ -42,7 +43,7 @@ fn list_acceptance(a: Answer, records: &[u32], out: &mut [u8]) -> usize
 
 // Puts the listing of a script at the start of `out`, and answers its length.
 pub fn list(script: &[u8], out: &mut [u8]) -> usize
-    requires { ⌜ 27 + 63 * 2048 ≤ length (now out) ⌝ }
+    requires { ⌜ longest ≤ length (now out) ⌝ }
     ensures { λ r. ⌜ Appended (now (out .entry)) 0 (listing (now (script .entry))) r (now (out .exit)) ⌝ }
 {
     let mut records = [0u32; RECORD_WORDS];

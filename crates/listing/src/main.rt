@@ -3,20 +3,24 @@
 mod lines;
 mod listing;
 
+use crate::lines::WORD_BYTES;
 use crate::listing::list;
 use libc::STDIN_FILENO;
 use libc::STDOUT_FILENO;
+use reading::rooms::MOST_RECORDS;
+use reading::rooms::RECORD_WIDTH;
 use tokens::text::equal;
 ghost use mathlib.Core.Path.{_≡_};
-ghost use Prim.Native.Nat.{_+_, _*_, _≤_};
+ghost use Prim.Native.Nat.{_≤_};
 ghost use lib.ListN.{length};
+ghost use Rattle.listing.specs.Listing.{longest};
 ghost use Rattle.listing.specs.Inputs.{Within, ListsInput};
 
 // One byte more than a script may have: enough to tell that it is too long.
 const SCRIPT_ROOM: usize = 16385;
 
-// The longest listing: a line of three words, and one of seven for each of 2,048 records.
-const TEXT_ROOM: usize = 129051;
+// The longest listing: a line of three words, and one for each record that there may be.
+const TEXT_ROOM: usize = WORD_BYTES * (3 + RECORD_WIDTH * MOST_RECORDS);
 
 // What came of an input: so many bytes, or a failed read.
 enum Input {
@@ -51,7 +55,7 @@ fn take_input(fd: i32, out: &mut [u8]) -> Input
 
 // Takes an input into `script`, and puts its listing at the start of `text`.
 fn list_input(fd: i32, script: &mut [u8], text: &mut [u8]) -> Listed
-    requires { ⌜ (length (now script) ≡ 16385) × (27 + 63 * 2048 ≤ length (now text)) ⌝ }
+    requires { ⌜ (length (now script) ≡ 16385) × (longest ≤ length (now text)) ⌝ }
     ensures { λ r. ⌜ ListsInput r (now (script .exit)) (now (text .exit)) ⌝ }
 {
     let Input::Got(n) = take_input(fd, script) else {

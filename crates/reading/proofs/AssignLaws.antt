@@ -12,7 +12,7 @@ use Rattle.tokens.specs.Text.{if_then_else_}
 use Rattle.tokens.specs.Names.{place, member}
 use Rattle.tokens.specs.Tokens.{Token, code}
 use Rattle.tokens.specs.declared.cursor.Cursor.{Cursor}
-use Rattle.grammar.specs.Trees.{Tree, fields, none as unused, size, row}
+use Rattle.grammar.specs.Trees.{Tree, placeOf, fields, none as unused, size, row}
 use Rattle.grammar.specs.Readers.{Out, ok, refused, Reader, bind, _>>=_, _>>_, is, give, failAt, the}
 use Rattle.grammar.specs.Grammar.{Words, binary, variable, optional, expression, pays, ended, named, paid, target, assign, compound, assignPaid, nameFirst, nextKind}
 use Rattle.reading.specs.Rows.{rows, putRow, putRows, nodeRow}
@@ -139,7 +139,7 @@ named-is W u ts x us e = go (member (W .reserved) (u .text)) e
     go false q = (cc, cc)
 
 pub named-one : (W : Words) (u : Token) (ts : List Token) (x : Tree) (us : List Token) → named W u ts ≡ ok x us → size x ≡ 1
-named-one W u ts x us e = ap size (sym (named-is W u ts x us e .0)) ∙ size-leaf 1 [] (fields (u .from) (length (u .text)) 0 0)
+named-one W u ts x us e = ap size (sym (named-is W u ts x us e .0)) ∙ size-leaf 1 (u .from) (u .text) (fields (u .from) (length (u .text)) 0 0)
 
 -- ---- a variable that is written twice
 
@@ -159,41 +159,41 @@ token-length {t} {c} h = omega (arith, length-take (c .end - c .start) (drop (c 
 
 pub twice-reads : (W : Words) (t : List ℕ) (c d : Cursor) (n : ℕ) (o : List ℕ) → Holds t c → (e : Cursor) (m q : ℕ) (o₁ : List ℕ)
     → Reads t (named W (tokenAt t c) (toksAt t (d .start))) n o e m q o₁
-    → (x : Node) → x ≡ record { kind = 1; nodes = 1; parts = 0; f1 = c .start; f2 = c .end - c .start; f3 = 0; f4 = 0 }
+    → (x : Node) → x ≡ record { kind = 1; nodes = 1; parts = 0; f1 = c .start; f2 = c .end - c .start; f3 = 0; f4 = 0; place = c .start }
     → (o₂ : List ℕ) → o₂ ≡ putRow o₁ m (nodeRow x)
     → ReadsTwice t (named W (tokenAt t c) (toksAt t (d .start))) n o e (m + 1) o₂
 twice-reads W t c d n o h e m q o₁ r x z o₂ g =
     let one : size (r .tree) ≡ 1 = named-one W (tokenAt t c) (toksAt t (d .start)) (r .tree) (toksAt t (e .start)) (r .is) in
     let v : variable (tokenAt t c) ≡ r .tree = named-is W (tokenAt t c) (toksAt t (d .start)) (r .tree) (toksAt t (e .start)) (r .is) .0 in
-    let p : o₂ ≡ putRow o₁ m (row 1 1 0 (fields (c .start) (c .end - c .start) 0 0)) = g ∙ ap (λ (y : Node). putRow o₁ m (nodeRow y)) z in
+    let p : o₂ ≡ putRow o₁ m (row 1 1 0 (fields (c .start) (c .end - c .start) 0 0) (c .start)) = g ∙ ap (λ (y : Node). putRow o₁ m (nodeRow y)) z in
     let l : length (tokenAt t c .text) ≡ c .end - c .start = token-length h in
-    let p′ : o₂ ≡ putRow o₁ m (row 1 1 0 (fields (c .start) (length (tokenAt t c .text)) 0 0)) = p ∙ ap (λ (y : ℕ). putRow o₁ m (row 1 1 0 (fields (c .start) y 0 0))) (sym l) in
+    let p′ : o₂ ≡ putRow o₁ m (row 1 1 0 (fields (c .start) (length (tokenAt t c .text)) 0 0) (c .start)) = p ∙ ap (λ (y : ℕ). putRow o₁ m (row 1 1 0 (fields (c .start) y 0 0) (c .start))) (sym l) in
     let m-is : m ≡ n + 1 = omega (arith, r .counts, one) in
     record {
       tree = r .tree;
       is = r .is;
       one = one;
       counts = omega (arith, m-is);
-      writes = after-leaf o₁ m 1 [] (fields (c .start) (length (tokenAt t c .text)) 0 0) p′ ∙ put-rows-same (r .writes) m-is (ap rows v);
+      writes = after-leaf o₁ m 1 (c .start) (tokenAt t c .text) (fields (c .start) (length (tokenAt t c .text)) 0 0) p′ ∙ put-rows-same (r .writes) m-is (ap rows v);
       holds = r .holds;
     }
 
--- the records behind it: the sign's and that of the assignment
-pub twice-assigned : (t : List ℕ) (R : Out Tree) (n : ℕ) (o : List ℕ) (k : ℕ) (x e : Tree) (g : Cursor) (m m₂ : ℕ) (o₁ o₂ o₃ o₄ : List ℕ)
+-- the records behind it: the sign's and that of the assignment, both at the place l
+pub twice-assigned : (t : List ℕ) (R : Out Tree) (n : ℕ) (o : List ℕ) (k l : ℕ) (x e : Tree) (g : Cursor) (m m₂ : ℕ) (o₁ o₂ o₃ o₄ : List ℕ)
     → size x ≡ 1 → m ≡ n + 2 → o₁ ≡ putRows (putRows o n (rows x)) (n + 1) (rows x) → m₂ ≡ m + size e → o₂ ≡ putRows o₁ m (rows e)
-    → o₃ ≡ putRow o₂ m₂ (row k (m₂ - n) 2 unused) → o₄ ≡ putRow o₃ (m₂ + 1) (row 37 (m₂ - n + 2) 2 unused) → Holds t g
-    → R ≡ ok (binary 37 x (binary k x e)) (toksAt t (g .start)) → Reads t R n o g (m₂ + 2) 0 o₄
-twice-assigned t R n o k x e g m m₂ o₁ o₂ o₃ o₄ one p q p₂ q₂ q₃ q₄ holds is =
-    let s = size-two k [] unused x e in
-    let s₂ = size-two 37 [] unused x (binary k x e) in
-    let b = binary-plain t 37 x (binary k x e) (λ z. omega arith) in
-    let w : o₃ ≡ putRows (putRows o n (rows x)) (n + 1) (rows (binary k x e))
-    = after-two (putRows o n (rows x)) (n + 1) k [] unused x e (omega (arith, p, one)) q p₂ q₂ (omega (arith, p, p₂, one)) q₃ in
+    → o₃ ≡ putRow o₂ m₂ (row k (m₂ - n) 2 unused l) → o₄ ≡ putRow o₃ (m₂ + 1) (row 37 (m₂ - n + 2) 2 unused l) → Holds t g
+    → R ≡ ok (binary 37 l x (binary k l x e)) (toksAt t (g .start)) → Reads t R n o g (m₂ + 2) 0 o₄
+twice-assigned t R n o k l x e g m m₂ o₁ o₂ o₃ o₄ one p q p₂ q₂ q₃ q₄ holds is =
+    let s = size-two k l [] unused x e in
+    let s₂ = size-two 37 l [] unused x (binary k l x e) in
+    let b = binary-plain t 37 l x (binary k l x e) (λ z. omega arith) in
+    let w : o₃ ≡ putRows (putRows o n (rows x)) (n + 1) (rows (binary k l x e))
+    = after-two (putRows o n (rows x)) (n + 1) k l [] unused x e (omega (arith, p, one)) q p₂ q₂ (omega (arith, p, p₂, one)) q₃ in
     record {
-      tree = binary 37 x (binary k x e);
+      tree = binary 37 l x (binary k l x e);
       is = is;
       counts = omega (arith, s, s₂, one, p, p₂);
-      writes = after-two o n 37 [] unused x (binary k x e) (omega (arith, one)) refl (omega (arith, s, one, p, p₂)) w (omega (arith, s, one, p, p₂)) q₄;
+      writes = after-two o n 37 l [] unused x (binary k l x e) (omega (arith, one)) refl (omega (arith, s, one, p, p₂)) w (omega (arith, s, one, p, p₂)) q₄;
       holds = holds;
       string = b .0;
       quoted = b .1;
@@ -219,6 +219,10 @@ module _ (L W : Words) (same : (u : Token) → named L u ≡ named W u) (t : Lis
   target-then f x us e =
       ap (bind f) (target-is ∙ e) ∙ ap (f x) (sym (named-is L (tokenAt t c) (toksAt t (d .start)) x us e .1))
 
+  -- its place is where the name stands
+  placed-at : (x : Tree) (us : List Token) → N ≡ ok x us → placeOf x ≡ c .start
+  placed-at x us e = ap placeOf (sym (named-is L (tokenAt t c) (toksAt t (d .start)) x us e .0))
+
   pub assign-unnamed : (p : Reader Tree) (k b : ℕ) → N ≡ refused k b → assign W p (toksAt t (c .start)) ≡ refused k b
   unfolding assign
   assign-unnamed p k b e = bind-refused (target W) _ (toksAt t (c .start)) k b (target-is ∙ e)
@@ -240,9 +244,11 @@ module _ (L W : Words) (same : (u : Token) → named L u ≡ named W u) (t : Lis
     pub assign-ready : Ready t f m
     assign-ready = (v .holds, omega (arith, ready .1, r .counts, one, w .fewer some-name, v .fewer some-sign))
 
-    assigning : assign W p (toksAt t (c .start)) ≡ (ended p >>= λ e. give (binary 37 (r .tree) e)) (toksAt t (f .start))
+    assigning : assign W p (toksAt t (c .start)) ≡ (ended p >>= λ e. give (binary 37 (c .start) (r .tree) e)) (toksAt t (f .start))
     unfolding assign
-    assigning = target-then _ (r .tree) (toksAt t (e₀ .start)) (r .is) ∙ read-next v some-sign (ended p >>= λ e. give (binary 37 (r .tree) e))
+    assigning =
+        target-then _ (r .tree) (toksAt t (e₀ .start)) (r .is) ∙ read-next v some-sign (ended p >>= λ e. give (binary 37 (placeOf (r .tree)) (r .tree) e))
+        ∙ ap (λ (l : ℕ). (ended p >>= λ e. give (binary 37 l (r .tree) e)) (toksAt t (f .start))) (placed-at (r .tree) (toksAt t (e₀ .start)) (r .is))
 
     pub assign-wrong : (k b : ℕ) → ended p (toksAt t (f .start)) ≡ refused k b → assign W p (toksAt t (c .start)) ≡ refused k b
     assign-wrong k b e = assigning ∙ bind-refused (ended p) _ (toksAt t (f .start)) k b e
@@ -251,30 +257,34 @@ module _ (L W : Words) (same : (u : Token) → named L u ≡ named W u) (t : Lis
       pub assign-numbers : (n ≤ m₂) × (m₂ ≤ 50000)
       assign-numbers = omega (arith, reads-within t (ended p) (ended-size p short) f m o₁ g m₂ q₂ o₂ r₂ (assign-ready .1), assign-ready .1, r .counts, r₂ .counts)
 
-      pub assign-reads : (o₃ : List ℕ) → o₃ ≡ putRow o₂ m₂ (row 37 (m₂ - n + 1) 2 unused) → Reads t (assign W p (toksAt t (c .start))) n o g (m₂ + 1) 0 o₃
+      pub assign-reads : (o₃ : List ℕ) → o₃ ≡ putRow o₂ m₂ (row 37 (m₂ - n + 1) 2 unused (c .start)) → Reads t (assign W p (toksAt t (c .start))) n o g (m₂ + 1) 0 o₃
       unfolding _>>=_ give
       assign-reads o₃ z =
-          let b = binary-plain t 37 (r .tree) (r₂ .tree) (λ y. omega arith) in
+          let b = binary-plain t 37 (c .start) (r .tree) (r₂ .tree) (λ y. omega arith) in
           record {
-            tree = binary 37 (r .tree) (r₂ .tree);
+            tree = binary 37 (c .start) (r .tree) (r₂ .tree);
             is = assigning ∙ (rw (r₂ .is));
-            counts = omega (arith, size-two 37 [] unused (r .tree) (r₂ .tree), r .counts, r₂ .counts);
-            writes = after-two o n 37 [] unused (r .tree) (r₂ .tree) (r .counts) (r .writes) (r₂ .counts) (r₂ .writes) (omega (arith, r .counts, r₂ .counts)) z;
+            counts = omega (arith, size-two 37 (c .start) [] unused (r .tree) (r₂ .tree), r .counts, r₂ .counts);
+            writes = after-two o n 37 (c .start) [] unused (r .tree) (r₂ .tree) (r .counts) (r .writes) (r₂ .counts) (r₂ .writes) (omega (arith, r .counts, r₂ .counts)) z;
             holds = r₂ .holds;
             string = b .0;
             quoted = b .1;
           }
 
   module _ (e₀ : Cursor) (m : ℕ) (o₁ : List ℕ) (r : ReadsTwice t N n o e₀ m o₁) (some-sign : d .code ≡ 0 → ⊥) (f : Cursor) (v : Follows t d f) where
+    at-name : placeOf (r .tree) ≡ c .start
+    at-name = placed-at (r .tree) (toksAt t (e₀ .start)) (r .is)
+
     -- `x += e;`
     module _ (p : Reader Tree) (short : Sized p) where
       pub compound-ready : Ready t f m
       compound-ready = (v .holds, omega (arith, ready .1, r .counts, w .fewer some-name, v .fewer some-sign))
 
-      compounding : compound W p (toksAt t (c .start)) ≡ (ended p >>= λ e. give (binary 37 (r .tree) (binary (d .code - 20) (r .tree) e))) (toksAt t (f .start))
+      compounding : compound W p (toksAt t (c .start)) ≡ (ended p >>= λ e. give (binary 37 (c .start) (r .tree) (binary (d .code - 20) (c .start) (r .tree) e))) (toksAt t (f .start))
       unfolding compound
       compounding = target-then _ (r .tree) (toksAt t (e₀ .start)) (r .is)
-          ∙ read-then v some-sign (λ u. ended p >>= λ e. give (binary 37 (r .tree) (binary (u .kind - 20) (r .tree) e)))
+          ∙ read-then v some-sign (λ u. ended p >>= λ e. give (binary 37 (placeOf (r .tree)) (r .tree) (binary (u .kind - 20) (placeOf (r .tree)) (r .tree) e)))
+          ∙ ap (λ (l : ℕ). (ended p >>= λ e. give (binary 37 l (r .tree) (binary (d .code - 20) l (r .tree) e))) (toksAt t (f .start))) at-name
 
       pub compound-wrong : (k b : ℕ) → ended p (toksAt t (f .start)) ≡ refused k b → compound W p (toksAt t (c .start)) ≡ refused k b
       compound-wrong k b e = compounding ∙ bind-refused (ended p) _ (toksAt t (f .start)) k b e
@@ -283,11 +293,11 @@ module _ (L W : Words) (same : (u : Token) → named L u ≡ named W u) (t : Lis
         pub compound-numbers : (n ≤ m₂) × (m₂ ≤ 50000)
         compound-numbers = omega (arith, reads-within t (ended p) (ended-size p short) f m o₁ g m₂ q₂ o₂ r₂ (compound-ready .1), compound-ready .1, r .counts, r₂ .counts)
 
-        pub compound-reads : (o₃ o₄ : List ℕ) → o₃ ≡ putRow o₂ m₂ (row (d .code - 20) (m₂ - n) 2 unused) → o₄ ≡ putRow o₃ (m₂ + 1) (row 37 (m₂ - n + 2) 2 unused)
+        pub compound-reads : (o₃ o₄ : List ℕ) → o₃ ≡ putRow o₂ m₂ (row (d .code - 20) (m₂ - n) 2 unused (c .start)) → o₄ ≡ putRow o₃ (m₂ + 1) (row 37 (m₂ - n + 2) 2 unused (c .start))
             → Reads t (compound W p (toksAt t (c .start))) n o g (m₂ + 2) 0 o₄
         unfolding _>>=_ give
         compound-reads o₃ o₄ y z =
-            twice-assigned t (compound W p (toksAt t (c .start))) n o (d .code - 20) (r .tree) (r₂ .tree) g m m₂ o₁ o₂ o₃ o₄ (r .one) (r .counts) (r .writes) (r₂ .counts)
+            twice-assigned t (compound W p (toksAt t (c .start))) n o (d .code - 20) (c .start) (r .tree) (r₂ .tree) g m m₂ o₁ o₂ o₃ o₄ (r .one) (r .counts) (r .writes) (r₂ .counts)
             (r₂ .writes) y z (r₂ .holds) (compounding ∙ (rw (r₂ .is)))
 
     -- `x pays ..`
@@ -295,9 +305,10 @@ module _ (L W : Words) (same : (u : Token) → named L u ≡ named W u) (t : Lis
       pub assignPaid-ready : Ready t d m
       assignPaid-ready = (w .holds, omega (arith, ready .1, r .counts, w .fewer some-name))
 
-      paying-for : assignPaid W i (toksAt t (c .start)) ≡ (paid W i >>= λ e. give (binary 37 (r .tree) (binary 8 (r .tree) e))) (toksAt t (d .start))
+      paying-for : assignPaid W i (toksAt t (c .start)) ≡ (paid W i >>= λ e. give (binary 37 (c .start) (r .tree) (binary 8 (c .start) (r .tree) e))) (toksAt t (d .start))
       unfolding assignPaid
       paying-for = target-then _ (r .tree) (toksAt t (e₀ .start)) (r .is)
+          ∙ ap (λ (l : ℕ). (paid W i >>= λ e. give (binary 37 l (r .tree) (binary 8 l (r .tree) e))) (toksAt t (d .start))) at-name
 
       pub assignPaid-wrong : (k b : ℕ) → paid W i (toksAt t (d .start)) ≡ refused k b → assignPaid W i (toksAt t (c .start)) ≡ refused k b
       assignPaid-wrong k b e = paying-for ∙ bind-refused (paid W i) _ (toksAt t (d .start)) k b e
@@ -307,11 +318,11 @@ module _ (L W : Words) (same : (u : Token) → named L u ≡ named W u) (t : Lis
         assignPaid-numbers =
             omega (arith, reads-within t (paid W i) (paid-size W i short) d m o₁ g m₂ q₂ o₂ r₂ (assignPaid-ready .1), assignPaid-ready .1, r .counts, r₂ .counts)
 
-        pub assignPaid-reads : (o₃ o₄ : List ℕ) → o₃ ≡ putRow o₂ m₂ (row 8 (m₂ - n) 2 unused) → o₄ ≡ putRow o₃ (m₂ + 1) (row 37 (m₂ - n + 2) 2 unused)
+        pub assignPaid-reads : (o₃ o₄ : List ℕ) → o₃ ≡ putRow o₂ m₂ (row 8 (m₂ - n) 2 unused (c .start)) → o₄ ≡ putRow o₃ (m₂ + 1) (row 37 (m₂ - n + 2) 2 unused (c .start))
             → Reads t (assignPaid W i (toksAt t (c .start))) n o g (m₂ + 2) 0 o₄
         unfolding _>>=_ give
         assignPaid-reads o₃ o₄ y z =
-            twice-assigned t (assignPaid W i (toksAt t (c .start))) n o 8 (r .tree) (r₂ .tree) g m m₂ o₁ o₂ o₃ o₄ (r .one) (r .counts) (r .writes) (r₂ .counts) (r₂ .writes) y z
+            twice-assigned t (assignPaid W i (toksAt t (c .start))) n o 8 (c .start) (r .tree) (r₂ .tree) g m m₂ o₁ o₂ o₃ o₄ (r .one) (r .counts) (r .writes) (r₂ .counts) (r₂ .writes) y z
             (r₂ .holds) (paying-for ∙ (rw (r₂ .is)))
 
 -- ---- what a name begins, by the very next token

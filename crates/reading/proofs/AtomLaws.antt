@@ -20,7 +20,7 @@ use Rattle.tokens.proofs.Joins.{body}
 use Rattle.tokens.proofs.Shapes.{entry-every}
 use Rattle.tokens.proofs.LexLaws.{front}
 use Rattle.tokens.proofs.ScanLaws.{Stands, over, token, faulty, stands}
-use Rattle.grammar.specs.Trees.{Tree, fields, none, row}
+use Rattle.grammar.specs.Trees.{Tree, node, nil, Fields, fields, none, row}
 use Rattle.grammar.specs.Readers.{Out, ok, refused, Reader, _>>_, is, give, fail, failAt, the}
 use Rattle.grammar.specs.Grammar.{Words, leaf, content, string, constant, named}
 use Rattle.reading.specs.Atoms.{atom, literal}
@@ -167,13 +167,13 @@ module _ {t : List ℕ} {c : Cursor} (h : Holds t c) where
 -- ---- a leaf that is written
 
 -- no String node
-pub leaf-reads : {t : List ℕ} {R : Out Tree} {n : ℕ} {o o′ : List ℕ} {e : Cursor} (k a b c d : ℕ) → (k ≡ 5 → ⊥) → Holds t e
-    → R ≡ ok (leaf k (fields a b c d)) (toksAt t (e .start)) → o′ ≡ putRow o n (row k 1 0 (fields a b c d)) → Reads t R n o e (n + 1) 0 o′
-leaf-reads {n = n} {o = o} k a b c d z h r w = record {
-  tree = leaf k (fields a b c d);
+pub leaf-reads : {t : List ℕ} {R : Out Tree} {n : ℕ} {o o′ : List ℕ} {e : Cursor} (k y : ℕ) (x : List ℕ) (f : Fields) → (k ≡ 5 → ⊥) → Holds t e
+    → R ≡ ok (node k y x f nil) (toksAt t (e .start)) → o′ ≡ putRow o n (row k 1 0 f y) → Reads t R n o e (n + 1) 0 o′
+leaf-reads {n = n} {o = o} k y x (fields a b c d) z h r w = record {
+  tree = node k y x (fields a b c d) nil;
   is = r;
-  counts = omega (arith, size-leaf k [] (fields a b c d));
-  writes = after-leaf o n k [] (fields a b c d) w;
+  counts = omega (arith, size-leaf k y x (fields a b c d));
+  writes = after-leaf o n k y x (fields a b c d) w;
   holds = h;
   string = rw (ne-eqb k 5 z);
   quoted = λ e. absurd (z e);
@@ -182,28 +182,28 @@ leaf-reads {n = n} {o = o} k a b c d z h r w = record {
 -- ---- the readers
 
 module _ {t : List ℕ} {c d : Cursor} (h : Holds t c) (w : Follows t c d) where
-  literal-is : (minus : Bool) → c .code ≡ 2
-      → literal minus (toksAt t (c .start)) ≡ ok (constant (signed minus (value (tokenAt t c .text))) (tokenAt t c)) (toksAt t (d .start))
+  literal-is : (y : ℕ) (minus : Bool) → c .code ≡ 2
+      → literal y minus (toksAt t (c .start)) ≡ ok (constant y (signed minus (value (tokenAt t c .text))) (tokenAt t c)) (toksAt t (d .start))
   unfolding code entry give
-  literal-is minus k =
-      peek-is h (λ u. the "number" >> give (constant (signed minus (value (u .text))) u))
-      ∙ the-next h w (λ z. omega arith) "number" (sym k) (give (constant (signed minus (value (tokenAt t c .text))) (tokenAt t c)))
+  literal-is y minus k =
+      peek-is h (λ u. the "number" >> give (constant y (signed minus (value (u .text))) u))
+      ∙ the-next h w (λ z. omega arith) "number" (sym k) (give (constant y (signed minus (value (tokenAt t c .text))) (tokenAt t c)))
 
   -- a number and its record
-  pub constant-reads : (minus : Bool) → c .code ≡ 2 → (x : Bits) → x ≡ bitsOf (signed minus (valueOf (tokenAt t c .text))) → {n : ℕ} {o o′ : List ℕ}
-      → o′ ≡ putRow o n (row 2 1 0 (fields (x .high) (x .low) (c .start) (c .end - c .start)))
-      → Reads t (literal minus (toksAt t (c .start))) n o d (n + 1) 0 o′
+  pub constant-reads : (y : ℕ) (minus : Bool) → c .code ≡ 2 → (x : Bits) → x ≡ bitsOf (signed minus (valueOf (tokenAt t c .text))) → {n : ℕ} {o o′ : List ℕ}
+      → o′ ≡ putRow o n (row 2 1 0 (fields (x .high) (x .low) (c .start) (c .end - c .start)) y)
+      → Reads t (literal y minus (toksAt t (c .start))) n o d (n + 1) 0 o′
   unfolding constant
-  constant-reads minus k x e q =
+  constant-reads y minus k x e q =
       let b : x ≡ bitsOf (signed minus (value (tokenAt t c .text))) = e ∙ ap (λ v. bitsOf (signed minus v)) (number-value h k) in
-      leaf-reads 2 (x .high) (x .low) (c .start) (c .end - c .start) (λ z. omega arith) (w .holds)
-      (literal-is minus k ∙ (rw (b, text-length h))) q
+      leaf-reads 2 y [] (fields (x .high) (x .low) (c .start) (c .end - c .start)) (λ z. omega arith) (w .holds)
+      (literal-is y minus k ∙ (rw (b, text-length h))) q
 
 abbrev atomBy : Token → Reader Tree
 atomBy t =
-    if is "number" t then (the "number" >> give (constant (value (t .text)) t))
-    else if is "true" t then (the "true" >> give (leaf 3 none))
-    else if is "false" t then (the "false" >> give (leaf 4 none))
+    if is "number" t then (the "number" >> give (constant (t .from) (value (t .text)) t))
+    else if is "true" t then (the "true" >> give (leaf 3 (t .from) none))
+    else if is "false" t then (the "false" >> give (leaf 4 (t .from) none))
     else if is "string" t then (the "string" >> give (string t))
     else fail 8
 
@@ -213,10 +213,10 @@ module _ {t : List ℕ} {c : Cursor} (h : Holds t c) where
   atom-peek = peek-is h atomBy
 
   -- a number
-  pub atom-number : c .code ≡ 2 → atom (toksAt t (c .start)) ≡ literal false (toksAt t (c .start))
+  pub atom-number : c .code ≡ 2 → atom (toksAt t (c .start)) ≡ literal (c .start) false (toksAt t (c .start))
   unfolding code entry
   atom-number k =
-      atom-peek ∙ (rw (eq-eqb 2 (c .code) (sym k)) (sym (peek-is h (λ u. the "number" >> give (constant (signed false (value (u .text))) u)))))
+      atom-peek ∙ (rw (eq-eqb 2 (c .code) (sym k)) (sym (peek-is h (λ u. the "number" >> give (constant (c .start) (signed false (value (u .text))) u)))))
 
   -- no atom
   pub atom-not : (c .code ≡ 2 → ⊥) → (c .code ≡ 5 → ⊥) → (c .code ≡ 3 → ⊥) → (c .code ≡ 4 → ⊥) → atom (toksAt t (c .start)) ≡ refused 8 (c .start)
@@ -239,33 +239,33 @@ module _ {t : List ℕ} {c d : Cursor} (h : Holds t c) (w : Follows t c d) where
       (the-next h w (λ z. omega arith) "string" (sym k) (give (string (tokenAt t c)))))
 
   -- a string and its record
-  pub string-reads : c .code ≡ 5 → {n : ℕ} {o o′ : List ℕ} → o′ ≡ putRow o n (row 5 1 0 (fields (c .start + 1) (c .end - c .start - 2) 0 0))
+  pub string-reads : c .code ≡ 5 → {n : ℕ} {o o′ : List ℕ} → o′ ≡ putRow o n (row 5 1 0 (fields (c .start + 1) (c .end - c .start - 2) 0 0) (c .start))
       → Reads t (atom (toksAt t (c .start))) n o d (n + 1) (c .start + 1) o′
   string-reads k {n} {o} {o′} q = record {
     tree = string (tokenAt t c);
     is = atom-string k;
-    counts = omega (arith, size-leaf 5 (content (tokenAt t c)) (fields (suc (c .start)) (length (content (tokenAt t c))) 0 0));
-    writes = after-leaf o n 5 (content (tokenAt t c)) (fields (suc (c .start)) (length (content (tokenAt t c))) 0 0) (rw (content-length h k, ← add-one (c .start)) q);
+    counts = omega (arith, size-leaf 5 (c .start) (content (tokenAt t c)) (fields (suc (c .start)) (length (content (tokenAt t c))) 0 0));
+    writes = after-leaf o n 5 (c .start) (content (tokenAt t c)) (fields (suc (c .start)) (length (content (tokenAt t c))) 0 0) (rw (content-length h k, ← add-one (c .start)) q);
     holds = w .holds;
     string = add-one (c .start);
     quoted = string-quoted h k;
   }
 
   -- a truth value and its record
-  pub truth-reads : 3 ≤ c .code → c .code ≤ 4 → {n : ℕ} {o o′ : List ℕ} → o′ ≡ putRow o n (row (c .code) 1 0 none)
+  pub truth-reads : 3 ≤ c .code → c .code ≤ 4 → {n : ℕ} {o o′ : List ℕ} → o′ ≡ putRow o n (row (c .code) 1 0 none (c .start))
       → Reads t (atom (toksAt t (c .start))) n o d (n + 1) 0 o′
   unfolding code entry give
-  truth-reads l m q = leaf-reads (c .code) 0 0 0 0 (λ z. omega arith) (w .holds) (atom-peek h ∙ go (eqb 3 (c .code)) refl) q
+  truth-reads l m q = leaf-reads (c .code) (c .start) [] none (λ z. omega arith) (w .holds) (atom-peek h ∙ go (eqb 3 (c .code)) refl) q
     where
-      go : (b : Bool) → eqb 3 (c .code) ≡ b → atomBy (tokenAt t c) (toksAt t (c .start)) ≡ ok (leaf (c .code) none) (toksAt t (d .start))
+      go : (b : Bool) → eqb 3 (c .code) ≡ b → atomBy (tokenAt t c) (toksAt t (c .start)) ≡ ok (leaf (c .code) (c .start) none) (toksAt t (d .start))
       go true e =
           let k : 3 ≡ c .code = eqb-true 3 (c .code) e in
           rw (ne-eqb 2 (c .code) (λ z. omega arith), e)
-          (the-next h w (λ z. omega arith) "true" k (give (leaf 3 none)) ∙ ap (λ x. ok (leaf x none) (toksAt t (d .start))) k)
+          (the-next h w (λ z. omega arith) "true" k (give (leaf 3 (c .start) none)) ∙ ap (λ x. ok (leaf x (c .start) none) (toksAt t (d .start))) k)
       go false e =
           let k : 4 ≡ c .code = omega (arith, eqb-false 3 (c .code) e) in
           rw (ne-eqb 2 (c .code) (λ z. omega arith), e, eq-eqb 4 (c .code) k)
-          (the-next h w (λ z. omega arith) "false" k (give (leaf 4 none)) ∙ ap (λ x. ok (leaf x none) (toksAt t (d .start))) k)
+          (the-next h w (λ z. omega arith) "false" k (give (leaf 4 (c .start) none)) ∙ ap (λ x. ok (leaf x (c .start) none) (toksAt t (d .start))) k)
 
 -- ---- names
 
@@ -276,6 +276,6 @@ module _ (W : Words) {t : List ℕ} {c : Cursor} (h : Holds t c) where
 
   -- a variable and its record
   pub variable-reads : {d : Cursor} → Follows t c d → place (W .reserved) (tokenAt t c .text) ≡ 0 → {n : ℕ} {o o′ : List ℕ}
-      → o′ ≡ putRow o n (row 1 1 0 (fields (c .start) (c .end - c .start) 0 0)) → Reads t (named W (tokenAt t c) (toksAt t (d .start))) n o d (n + 1) 0 o′
+      → o′ ≡ putRow o n (row 1 1 0 (fields (c .start) (c .end - c .start) 0 0) (c .start)) → Reads t (named W (tokenAt t c) (toksAt t (d .start))) n o d (n + 1) 0 o′
   unfolding named give
-  variable-reads w z q = leaf-reads 1 (c .start) (c .end - c .start) 0 0 (λ e. omega arith) (w .holds) (rw (z, text-length h)) q
+  variable-reads w z q = leaf-reads 1 (c .start) (tokenAt t c .text) (fields (c .start) (c .end - c .start) 0 0) (λ e. omega arith) (w .holds) (rw (z, text-length h)) q

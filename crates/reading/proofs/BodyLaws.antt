@@ -30,7 +30,7 @@ use Rattle.grammar.proofs.Laws.{loop-eq}
 use Rattle.grammar.proofs.GrammarLaws.{Moves, move-then, stay-next, the-moves, the-stays, give-stays, named-law, blockTurn-law}
 use Rattle.grammar.proofs.StatementLaws.{near-tail, statement-tail}
 use Rattle.grammar.proofs.SizeLaws.{Sized, expression-size, primary-size, block-size, statement-size, moves-less}
-use Rattle.reading.proofs.HoldLaws.{first-kind, start-in, end-in, ask-yes, ask-no, peek-is, read-next, the-next, the-next-not}
+use Rattle.reading.proofs.HoldLaws.{first-kind, start-in, end-in, ask-yes, ask-no, peek-is, read-then, read-next, the-next, the-next-not}
 use Rattle.grammar.proofs.TreeLaws.{sizes-join, parts-snoc, parts-join}
 use Rattle.reading.proofs.RowLaws.{size-node, size-some, sizes-front, parts-few, put-rows-same, put-front, put-join, before-none, before-more, before-node}
 use Rattle.reading.proofs.ChainLaws.{reads-within}
@@ -280,11 +280,11 @@ module _ (W : Words) (depth : ℕ) (t : List ℕ) (c d : Cursor) (w : Follows t 
 
     abbrev branches : Tree → Trees → Reader Tree
     branches x ss =
-        ask (is "else") (read >> (B >>= λ us. give (node 38 [] (fields (suc (parts ss)) 0 0 0) (x ▹ join ss us)))) (give (node 38 [] unused (x ▹ ss)))
+        ask (is "else") (read >> (B >>= λ us. give (node 38 (c .start) [] (fields (suc (parts ss)) 0 0 0) (x ▹ join ss us)))) (give (node 38 (c .start) [] unused (x ▹ ss)))
 
     inside : C ≡ (expression P >>= λ x. B >>= branches x) (toksAt t (d .start))
     unfolding ifOver
-    inside = body-some (tokenAt t c) W depth ifOver (toksAt t (c .start)) left ∙ read-next w some-if _
+    inside = body-some (tokenAt t c) W depth ifOver (toksAt t (c .start)) left ∙ read-then w some-if _
 
     pub if-refused : (k b : ℕ) → expression P (toksAt t (d .start)) ≡ refused k b → C ≡ refused k b
     if-refused k b q = inside ∙ bind-refused (expression P) _ (toksAt t (d .start)) k b q
@@ -319,14 +319,14 @@ module _ (W : Words) (depth : ℕ) (t : List ℕ) (c d : Cursor) (w : Follows t 
         both = before-front (r .tree) (s .items) (r .counts) (r .writes) (s .counts) (s .writes)
 
         -- no `else`
-        pub if-done : (g .code ≡ 49 → ⊥) → (o₃ : List ℕ) → o₃ ≡ putRow o₂ k (row 38 (k - n + 1) (count + 1) unused) → Reads t C n o g (k + 1) 0 o₃
+        pub if-done : (g .code ≡ 49 → ⊥) → (o₃ : List ℕ) → o₃ ≡ putRow o₂ k (row 38 (k - n + 1) (count + 1) unused (c .start)) → Reads t C n o g (k + 1) 0 o₃
         unfolding give code
         if-done z o₃ v =
             record {
-              tree = node 38 [] unused (r .tree ▹ s .items);
+              tree = node 38 (c .start) [] unused (r .tree ▹ s .items);
               is = third ∙ ask-no (s .holds) (is "else") _ _ (ne-eqb 49 (g .code) (λ y. z (sym y)));
-              counts = omega (arith, size-node 38 [] unused (r .tree ▹ s .items), both .counts);
-              writes = before-node 38 [] unused both (omega (arith, both .counts)) (omega (arith, s .parts-are)) v;
+              counts = omega (arith, size-node 38 (c .start) [] unused (r .tree ▹ s .items), both .counts);
+              writes = before-node 38 (c .start) [] unused both (omega (arith, both .counts)) (omega (arith, s .parts-are)) v;
               holds = s .holds;
               string = refl;
               quoted = λ y. absurd (omega arith);
@@ -339,7 +339,7 @@ module _ (W : Words) (depth : ℕ) (t : List ℕ) (c d : Cursor) (w : Follows t 
           pub else-ready : Ready t h k
           else-ready = (u .holds, omega (arith, body-within, if-body-ready .1, u .fewer some-else))
 
-          fourth : C ≡ (B >>= λ us. give (node 38 [] (fields (suc (parts (s .items))) 0 0 0) (r .tree ▹ join (s .items) us))) (toksAt t (h .start))
+          fourth : C ≡ (B >>= λ us. give (node 38 (c .start) [] (fields (suc (parts (s .items))) 0 0 0) (r .tree ▹ join (s .items) us))) (toksAt t (h .start))
           unfolding code
           fourth = third ∙ (ask-yes (s .holds) (is "else") _ _ (eq-eqb 49 (g .code) (sym z)) ∙ read-next u some-else _)
 
@@ -356,17 +356,17 @@ module _ (W : Words) (depth : ℕ) (t : List ℕ) (c d : Cursor) (w : Follows t 
             all : Before n o (r .tree ▹ join (s .items) (s₂ .items)) j o₃
             all = before-join (s₂ .items) both (s₂ .counts) (s₂ .writes)
 
-            pub else-done : (o₄ : List ℕ) → o₄ ≡ putRow o₃ j (row 38 (j - n + 1) (count + more + 1) (fields (count + 1) 0 0 0)) → Reads t C n o l (j + 1) 0 o₄
+            pub else-done : (o₄ : List ℕ) → o₄ ≡ putRow o₃ j (row 38 (j - n + 1) (count + more + 1) (fields (count + 1) 0 0 0) (c .start)) → Reads t C n o l (j + 1) 0 o₄
             unfolding give _>>=_
             else-done o₄ v =
                 let x : count + 1 ≡ suc (parts (s .items)) = omega (arith, s .parts-are) in
                 record {
-                  tree = node 38 [] (fields (suc (parts (s .items))) 0 0 0) (r .tree ▹ join (s .items) (s₂ .items));
+                  tree = node 38 (c .start) [] (fields (suc (parts (s .items))) 0 0 0) (r .tree ▹ join (s .items) (s₂ .items));
                   is = fourth ∙ (rw (s₂ .is));
-                  counts = omega (arith, size-node 38 [] (fields (suc (parts (s .items))) 0 0 0) (r .tree ▹ join (s .items) (s₂ .items)), all .counts);
-                  writes = before-node 38 [] (fields (suc (parts (s .items))) 0 0 0) all (omega (arith, all .counts))
+                  counts = omega (arith, size-node 38 (c .start) [] (fields (suc (parts (s .items))) 0 0 0) (r .tree ▹ join (s .items) (s₂ .items)), all .counts);
+                  writes = before-node 38 (c .start) [] (fields (suc (parts (s .items))) 0 0 0) all (omega (arith, all .counts))
                       (omega (arith, s .parts-are, s₂ .parts-are, parts-join (s .items) (s₂ .items)))
-                      (v ∙ ap (λ (y : ℕ). putRow o₃ j (row 38 (j - n + 1) (count + more + 1) (fields y 0 0 0))) x);
+                      (v ∙ ap (λ (y : ℕ). putRow o₃ j (row 38 (j - n + 1) (count + more + 1) (fields y 0 0 0) (c .start))) x);
                   holds = s₂ .holds;
                   string = refl;
                   quoted = λ y. absurd (omega arith);
@@ -427,7 +427,7 @@ module _ (a b y : List ℕ) (depth : ℕ) (t : List ℕ) (c d : Cursor) (w : Fol
     Bl = block (statement W (depth - 1))
 
     abbrev loopNode : Token → Tree → Trees → Tree
-    loopNode v x ss = node 39 [] (fields (v .from) (length (v .text)) 0 0) (x ▹ ss)
+    loopNode v x ss = node 39 (c .start) (v .text) (fields (v .from) (length (v .text)) 0 0) (x ▹ ss)
 
     abbrev rest : Token → Reader Tree
     rest v = expression Pr >>= λ x. Bl >>= λ ss. give (loopNode v x ss)
@@ -436,7 +436,7 @@ module _ (a b y : List ℕ) (depth : ℕ) (t : List ℕ) (c d : Cursor) (w : Fol
     unfolding forOver
     headed =
         body-some (tokenAt t c) W depth (forOver W) (toksAt t (c .start)) left
-        ∙ (read-next w some-for _
+        ∙ (read-then w some-for _
         ∙ (head-first W rest (toksAt t (d .start)) ∙ ap (λ (x : Reader Token). (x >>= rest) (toksAt t (d .start))) (head-words a b y)))
 
     pub for-head-refused : (k j : ℕ) → H ≡ refused k j → L ≡ refused k j
@@ -481,7 +481,7 @@ module _ (a b y : List ℕ) (depth : ℕ) (t : List ℕ) (c d : Cursor) (w : Fol
           looped : Before n o (r .tree ▹ s .items) k o₂
           looped = before-front (r .tree) (s .items) (r .counts) (r .writes) (s .counts) (s .writes)
 
-          pub for-done : (o₃ : List ℕ) → o₃ ≡ putRow o₂ k (row 39 (k - n + 1) (count + 1) (fields (d .start) (d .end - d .start) 0 0)) → Reads t L n o u (k + 1) 0 o₃
+          pub for-done : (o₃ : List ℕ) → o₃ ≡ putRow o₂ k (row 39 (k - n + 1) (count + 1) (fields (d .start) (d .end - d .start) 0 0) (c .start)) → Reads t L n o u (k + 1) 0 o₃
           unfolding give _>>=_
           for-done o₃ v =
               let x : d .end - d .start ≡ length (take (d .end - d .start) (drop (d .start) t))
@@ -490,9 +490,9 @@ module _ (a b y : List ℕ) (depth : ℕ) (t : List ℕ) (c d : Cursor) (w : Fol
               record {
                 tree = loopNode (tokenAt t d) (r .tree) (s .items);
                 is = bodied ∙ (rw (s .is));
-                counts = omega (arith, size-node 39 [] fs (r .tree ▹ s .items), looped .counts);
-                writes = before-node 39 [] fs looped (omega (arith, looped .counts)) (omega (arith, s .parts-are))
-                    (v ∙ ap (λ (z : ℕ). putRow o₂ k (row 39 (k - n + 1) (count + 1) (fields (d .start) z 0 0))) x);
+                counts = omega (arith, size-node 39 (c .start) (tokenAt t d .text) fs (r .tree ▹ s .items), looped .counts);
+                writes = before-node 39 (c .start) (tokenAt t d .text) fs looped (omega (arith, looped .counts)) (omega (arith, s .parts-are))
+                    (v ∙ ap (λ (z : ℕ). putRow o₂ k (row 39 (k - n + 1) (count + 1) (fields (d .start) z 0 0) (c .start))) x);
                 holds = s .holds;
                 string = refl;
                 quoted = λ z. absurd (omega arith);

@@ -66,9 +66,9 @@ leaf-holds t R (leaf.Is d x) h = h .0
 leaf-holds t R (leaf.Refused k b) h = tt
 
 -- a node of these words
-pub leaf-is : {t : List ℕ} {R : Out Tree} {d : Cursor} (k a b e f : ℕ) (x : Node) → x ≡ record { kind = k; nodes = 1; parts = 0; f1 = a; f2 = b; f3 = e; f4 = f }
-    → (k ≡ 5 → ⊥) → Holds t d → R ≡ ok (node k [] (fields a b e f) nil) (toksAt t (d .start)) → MeetsLeaf t R (leaf.Is d x)
-leaf-is {t} {R} {d} k a b e f x p z h q = subst (λ (y : Node). MeetsLeaf t R (leaf.Is d y)) (sym p) (h, refl, refl, z, q)
+pub leaf-is : {t : List ℕ} {R : Out Tree} {d : Cursor} (k l : ℕ) (s : List ℕ) (a b e f : ℕ) (x : Node) → x ≡ record { kind = k; nodes = 1; parts = 0; f1 = a; f2 = b; f3 = e; f4 = f; place = l }
+    → (k ≡ 5 → ⊥) → Holds t d → R ≡ ok (node k l s (fields a b e f) nil) (toksAt t (d .start)) → MeetsLeaf t R (leaf.Is d x)
+leaf-is {t} {R} {d} k l s a b e f x p z h q = subst (λ (y : Node). MeetsLeaf t R (leaf.Is d y)) (sym p) (h, refl, refl, z, (s, q))
 
 -- ---- where a sign may stand
 
@@ -164,80 +164,83 @@ place-fits l f x n e = omega (arith, place-le (names l) n)
 abbrev lateDate : Reader ℕ
 lateDate = optionalBy 46 0 aDate
 
-abbrev pairBehind : Words → ℕ → Reader Tree
-pairBehind W a = aCurrency W >>= λ x. lateDate >>= λ y. give (node 32 [] (fields a x y 0) nil)
+abbrev pairBehind : Words → ℕ → ℕ → Reader Tree
+pairBehind W l a = aCurrency W >>= λ x. lateDate >>= λ y. give (node 32 l [] (fields a x y 0) nil)
 
-pub equity-no : (t : List ℕ) (W : Words) (u : Token) (ts : List Token) {r : Number} {k b : ℕ} → r ≡ number.Refused k b → MeetsNumber t (optionalBy 46 0 aDate ts) r → equity W u ts ≡ refused k b
+pub equity-no : (t : List ℕ) (W : Words) (l : ℕ) (u : Token) (ts : List Token) {r : Number} {k b : ℕ} → r ≡ number.Refused k b → MeetsNumber t (optionalBy 46 0 aDate ts) r → equity W l u ts ≡ refused k b
 unfolding equity optional the code
-equity-no t W u ts q y =
-    bind-refused lateDate (λ d. give (node 33 [] (fields (suc (u .from)) (length (content u)) d 0) nil)) ts _ _ (numbers-as t (lateDate ts) q y)
+equity-no t W l u ts q y =
+    bind-refused lateDate (λ d. give (node 33 l (content u) (fields (suc (u .from)) (length (content u)) d 0) nil)) ts _ _ (numbers-as t (lateDate ts) q y)
 
-pub equity-is : {t : List ℕ} {c : Cursor} (h : Holds t c) (s : c .code ≡ 5) (W : Words) (ts : List Token) {r : Number} {e : Cursor} {x : ℕ} → r ≡ number.Is e x → MeetsNumber t (optionalBy 46 0 aDate ts) r
-    → MeetsLeaf t (equity W (tokenAt t c) ts) (leaf.Is e (record { kind = 33; nodes = 1; parts = 0; f1 = c .start + 1; f2 = c .end - c .start - 2; f3 = x; f4 = 0 }))
+pub equity-is : {t : List ℕ} {c : Cursor} (h : Holds t c) (s : c .code ≡ 5) (W : Words) (l : ℕ) (ts : List Token) {r : Number} {e : Cursor} {x : ℕ} → r ≡ number.Is e x → MeetsNumber t (optionalBy 46 0 aDate ts) r
+    → MeetsLeaf t (equity W l (tokenAt t c) ts) (leaf.Is e (record { kind = 33; nodes = 1; parts = 0; f1 = c .start + 1; f2 = c .end - c .start - 2; f3 = x; f4 = 0; place = l }))
 unfolding equity optional the code give
-equity-is {t} {c} h s W ts {r} {e} {x} q y =
+equity-is {t} {c} h s W l ts {r} {e} {x} q y =
     let n = numbers-as t (lateDate ts) q y in
     let p : suc (c .start) ≡ c .start + 1 = omega arith in (
       n .0,
       refl,
       refl,
       (λ z. omega arith),
-      then-ok lateDate ts (λ d. give (node 33 [] (fields (suc (c .start)) (length (content (tokenAt t c))) d 0) nil)) (n .1)
-          ∙ (λ i. ok (node 33 [] (fields (p i) (content-length h s i) x 0) nil) (toksAt t (e .start))),
+      (
+        content (tokenAt t c),
+        then-ok lateDate ts (λ d. give (node 33 l (content (tokenAt t c)) (fields (suc (c .start)) (length (content (tokenAt t c))) d 0) nil)) (n .1)
+            ∙ (λ i. ok (node 33 l (content (tokenAt t c)) (fields (p i) (content-length h s i) x 0) nil) (toksAt t (e .start))),
+      ),
     )
 
-module _ {t : List ℕ} {c : Cursor} (h : Holds t c) (W : Words) (a : ℕ) where
-  pub pair-alone : (c .code ≡ 46 → ⊥) → (x : Node) → x ≡ record { kind = 32; nodes = 1; parts = 0; f1 = a; f2 = 1; f3 = 0; f4 = 0 } → MeetsLeaf t (pair W a (toksAt t (c .start))) (leaf.Is c x)
+module _ {t : List ℕ} {c : Cursor} (h : Holds t c) (W : Words) (l a : ℕ) where
+  pub pair-alone : (c .code ≡ 46 → ⊥) → (x : Node) → x ≡ record { kind = 32; nodes = 1; parts = 0; f1 = a; f2 = 1; f3 = 0; f4 = 0; place = l } → MeetsLeaf t (pair W l a (toksAt t (c .start))) (leaf.Is c x)
   unfolding pair optional the code
-  pair-alone z x e = leaf-is 32 a 1 0 0 x e (λ p. omega arith) h (optional-no h 46 (node 32 [] (fields a 1 0 0) nil) (pairBehind W a) z)
+  pair-alone z x e = leaf-is 32 l [] a 1 0 0 x e (λ p. omega arith) h (optional-no h 46 (node 32 l [] (fields a 1 0 0) nil) (pairBehind W l a) z)
 
   module _ {n : Cursor} (w : Follows t c n) (s : c .code ≡ 46) where
-    pair-on : pair W a (toksAt t (c .start)) ≡ pairBehind W a (toksAt t (n .start))
+    pair-on : pair W l a (toksAt t (c .start)) ≡ pairBehind W l a (toksAt t (n .start))
     unfolding pair optional the code
-    pair-on = optional-yes h 46 (node 32 [] (fields a 1 0 0) nil) (pairBehind W a) w (λ p. omega arith) s
+    pair-on = optional-yes h 46 (node 32 l [] (fields a 1 0 0) nil) (pairBehind W l a) w (λ p. omega arith) s
 
-    pub pair-no : {r : Number} {k b : ℕ} → r ≡ number.Refused k b → MeetsNumber t (aCurrency W (toksAt t (n .start))) r → pair W a (toksAt t (c .start)) ≡ refused k b
+    pub pair-no : {r : Number} {k b : ℕ} → r ≡ number.Refused k b → MeetsNumber t (aCurrency W (toksAt t (n .start))) r → pair W l a (toksAt t (c .start)) ≡ refused k b
     pair-no q y =
         pair-on
-        ∙ bind-refused (aCurrency W) (λ x. lateDate >>= λ y. give (node 32 [] (fields a x y 0) nil)) (toksAt t (n .start)) _ _ (numbers-as t (aCurrency W (toksAt t (n .start))) q y)
+        ∙ bind-refused (aCurrency W) (λ x. lateDate >>= λ y. give (node 32 l [] (fields a x y 0) nil)) (toksAt t (n .start)) _ _ (numbers-as t (aCurrency W (toksAt t (n .start))) q y)
 
     module _ {r : Number} {d : Cursor} {x : ℕ} (q : r ≡ number.Is d x) (y : MeetsNumber t (aCurrency W (toksAt t (n .start))) r) where
       pub pair-holds : Holds t d
       pair-holds = numbers-as t (aCurrency W (toksAt t (n .start))) q y .0
 
-      pair-first : pair W a (toksAt t (c .start)) ≡ (lateDate >>= λ y. give (node 32 [] (fields a x y 0) nil)) (toksAt t (d .start))
+      pair-first : pair W l a (toksAt t (c .start)) ≡ (lateDate >>= λ y. give (node 32 l [] (fields a x y 0) nil)) (toksAt t (d .start))
       pair-first =
           pair-on
-          ∙ then-ok (aCurrency W) (toksAt t (n .start)) (λ x. lateDate >>= λ y. give (node 32 [] (fields a x y 0) nil)) (numbers-as t (aCurrency W (toksAt t (n .start))) q y .1)
+          ∙ then-ok (aCurrency W) (toksAt t (n .start)) (λ x. lateDate >>= λ y. give (node 32 l [] (fields a x y 0) nil)) (numbers-as t (aCurrency W (toksAt t (n .start))) q y .1)
 
-      pub pair-late : {r′ : Number} {k b : ℕ} → r′ ≡ number.Refused k b → MeetsNumber t (optionalBy 46 0 aDate (toksAt t (d .start))) r′ → pair W a (toksAt t (c .start)) ≡ refused k b
+      pub pair-late : {r′ : Number} {k b : ℕ} → r′ ≡ number.Refused k b → MeetsNumber t (optionalBy 46 0 aDate (toksAt t (d .start))) r′ → pair W l a (toksAt t (c .start)) ≡ refused k b
       pair-late q′ y′ =
-          pair-first ∙ bind-refused lateDate (λ y. give (node 32 [] (fields a x y 0) nil)) (toksAt t (d .start)) _ _ (numbers-as t (lateDate (toksAt t (d .start))) q′ y′)
+          pair-first ∙ bind-refused lateDate (λ y. give (node 32 l [] (fields a x y 0) nil)) (toksAt t (d .start)) _ _ (numbers-as t (lateDate (toksAt t (d .start))) q′ y′)
 
       pub pair-is : {r′ : Number} {e : Cursor} {z : ℕ} → r′ ≡ number.Is e z → MeetsNumber t (optionalBy 46 0 aDate (toksAt t (d .start))) r′
-          → (v : Node) → v ≡ record { kind = 32; nodes = 1; parts = 0; f1 = a; f2 = x; f3 = z; f4 = 0 } → MeetsLeaf t (pair W a (toksAt t (c .start))) (leaf.Is e v)
+          → (v : Node) → v ≡ record { kind = 32; nodes = 1; parts = 0; f1 = a; f2 = x; f3 = z; f4 = 0; place = l } → MeetsLeaf t (pair W l a (toksAt t (c .start))) (leaf.Is e v)
       unfolding give
       pair-is {r′} {e} {z} q′ y′ v g =
           let m = numbers-as t (lateDate (toksAt t (d .start))) q′ y′ in
-          leaf-is 32 a x z 0 v g (λ p. omega arith) (m .0)
-          (pair-first ∙ then-ok lateDate (toksAt t (d .start)) (λ y. give (node 32 [] (fields a x y 0) nil)) (m .1))
+          leaf-is 32 l [] a x z 0 v g (λ p. omega arith) (m .0)
+          (pair-first ∙ then-ok lateDate (toksAt t (d .start)) (λ y. give (node 32 l [] (fields a x y 0) nil)) (m .1))
 
 -- the first string decides
-module _ {t : List ℕ} {c : Cursor} (h : Holds t c) (s : c .code ≡ 5) (W : Words) (x : ℕ) (e : x ≡ place (W .currencies) (take (c .end - 1 - (c .start + 1)) (drop (c .start + 1) t))) (ts : List Token) where
+module _ {t : List ℕ} {c : Cursor} (h : Holds t c) (s : c .code ≡ 5) (W : Words) (l x : ℕ) (e : x ≡ place (W .currencies) (take (c .end - 1 - (c .start + 1)) (drop (c .start + 1) t))) (ts : List Token) where
   place-of : x ≡ place (W .currencies) (content (tokenAt t c))
   place-of = e ∙ ap (place (W .currencies)) (sym (content-is h s))
 
-  pub spot-equity : (X : Words) → x ≡ 0 → spotOf W (tokenAt t c) ts ≡ equity X (tokenAt t c) ts
+  pub spot-equity : (X : Words) → x ≡ 0 → spotOf W l (tokenAt t c) ts ≡ equity X l (tokenAt t c) ts
   unfolding equity
   spot-equity X z =
-      ap (λ (b : Bool). (if b then equity W (tokenAt t c) else pair W (place (W .currencies) (content (tokenAt t c)))) ts)
+      ap (λ (b : Bool). (if b then equity W l (tokenAt t c) else pair W l (place (W .currencies) (content (tokenAt t c)))) ts)
       (eq-eqb (place (W .currencies) (content (tokenAt t c))) 0 (sym place-of ∙ z))
 
-  pub spot-pair : (x ≡ 0 → ⊥) → spotOf W (tokenAt t c) ts ≡ pair W x ts
+  pub spot-pair : (x ≡ 0 → ⊥) → spotOf W l (tokenAt t c) ts ≡ pair W l x ts
   spot-pair z =
-      ap (λ (b : Bool). (if b then equity W (tokenAt t c) else pair W (place (W .currencies) (content (tokenAt t c)))) ts)
+      ap (λ (b : Bool). (if b then equity W l (tokenAt t c) else pair W l (place (W .currencies) (content (tokenAt t c)))) ts)
       (ne-eqb (place (W .currencies) (content (tokenAt t c))) 0 (λ p. z (place-of ∙ p)))
-      ∙ ap (λ (y : ℕ). pair W y ts) (sym place-of)
+      ∙ ap (λ (y : ℕ). pair W l y ts) (sym place-of)
 
 -- a closing sign behind a leaf
 pub closed-refused : (t : List ℕ) {r : Leaf} {k b : ℕ} → r ≡ leaf.Refused k b → (R : Out Tree) → MeetsLeaf t R r → MeetsLeaf t (bind ending R) r
@@ -252,8 +255,9 @@ module _ (t : List ℕ) {r : Leaf} {c : Cursor} {x : Node} (q : r ≡ leaf.Is c 
   pub closed-not : {a : Took} {b : ℕ} → a ≡ took.Not b → Takes t 41 c a → (R : Out Tree) → MeetsLeaf t R r → bind ending R ≡ refused 8 b
   unfolding the code
   closed-not p w R y =
-      ap (bind ending) (leaves-as t R q y .4)
-      ∙ next-no (theBy 41) (toksAt t (c .start)) (give (node (x .kind) [] (fields (x .f1) (x .f2) (x .f3) (x .f4)) nil)) (takes-as t 41 c p w)
+      let m = leaves-as t R q y in
+      ap (bind ending) (m .4 .1)
+      ∙ next-no (theBy 41) (toksAt t (c .start)) (give (node (x .kind) (x .place) (m .4 .0) (fields (x .f1) (x .f2) (x .f3) (x .f4)) nil)) (takes-as t 41 c p w)
 
   pub closed-is : {a : Took} {d : Cursor} → a ≡ took.Next d → Takes t 41 c a → (R : Out Tree) → MeetsLeaf t R r → MeetsLeaf t (bind ending R) (leaf.Is d x)
   unfolding the code give
@@ -264,15 +268,18 @@ module _ (t : List ℕ) {r : Leaf} {c : Cursor} {x : Node} (q : r ≡ leaf.Is c 
         m .1,
         m .2,
         m .3,
-        ap (bind ending) (m .4)
-            ∙ next-ok (theBy 41) (toksAt t (c .start)) (give (node (x .kind) [] (fields (x .f1) (x .f2) (x .f3) (x .f4)) nil)) (v .2),
+        (
+          m .4 .0,
+          ap (bind ending) (m .4 .1)
+              ∙ next-ok (theBy 41) (toksAt t (c .start)) (give (node (x .kind) (x .place) (m .4 .0) (fields (x .f1) (x .f2) (x .f3) (x .f4)) nil)) (v .2),
+        ),
       )
 
-module _ (t : List ℕ) (W : Words) (c : Cursor) where
+module _ (t : List ℕ) (W : Words) (l : ℕ) (c : Cursor) where
   abbrev spotBehind : Reader Tree
-  spotBehind = theBy 5 >>= λ u. spotOf W u >>= ending
+  spotBehind = theBy 5 >>= λ u. spotOf W l u >>= ending
 
-  pub spot-no : {r : Took} {b : ℕ} → r ≡ took.Not b → Takes t 40 c r → spot W (toksAt t (c .start)) ≡ refused 8 b
+  pub spot-no : {r : Took} {b : ℕ} → r ≡ took.Not b → Takes t 40 c r → spot W l (toksAt t (c .start)) ≡ refused 8 b
   unfolding spot the code
   spot-no q y = next-no (theBy 40) (toksAt t (c .start)) spotBehind (takes-as t 40 c q y)
 
@@ -280,55 +287,55 @@ module _ (t : List ℕ) (W : Words) (c : Cursor) where
     pub spot-inner : Holds t n
     spot-inner = takes-as t 40 c q y .0 .holds
 
-    pub spot-not : {r′ : Took} {b : ℕ} → r′ ≡ took.Not b → Takes t 5 n r′ → spot W (toksAt t (c .start)) ≡ refused 8 b
+    pub spot-not : {r′ : Took} {b : ℕ} → r′ ≡ took.Not b → Takes t 5 n r′ → spot W l (toksAt t (c .start)) ≡ refused 8 b
     unfolding spot the code
     spot-not q′ y′ =
         next-ok (theBy 40) (toksAt t (c .start)) spotBehind (takes-as t 40 c q y .2)
-        ∙ bind-refused (theBy 5) (λ u. spotOf W u >>= ending) (toksAt t (n .start)) _ _ (takes-as t 5 n q′ y′)
+        ∙ bind-refused (theBy 5) (λ u. spotOf W l u >>= ending) (toksAt t (n .start)) _ _ (takes-as t 5 n q′ y′)
 
-    pub spot-is : {r′ : Took} {d : Cursor} → r′ ≡ took.Next d → Takes t 5 n r′ → spot W (toksAt t (c .start)) ≡ bind ending (spotOf W (tokenAt t n) (toksAt t (d .start)))
+    pub spot-is : {r′ : Took} {d : Cursor} → r′ ≡ took.Next d → Takes t 5 n r′ → spot W l (toksAt t (c .start)) ≡ bind ending (spotOf W l (tokenAt t n) (toksAt t (d .start)))
     unfolding spot the code _>>=_
     spot-is q′ y′ =
         next-ok (theBy 40) (toksAt t (c .start)) spotBehind (takes-as t 40 c q y .2)
-        ∙ then-ok (theBy 5) (toksAt t (n .start)) (λ u. spotOf W u >>= ending) (takes-as t 5 n q′ y′ .2)
+        ∙ then-ok (theBy 5) (toksAt t (n .start)) (λ u. spotOf W l u >>= ending) (takes-as t 5 n q′ y′ .2)
 
 -- ---- Df
 
-module _ {t : List ℕ} {c : Cursor} (h : Holds t c) (a : ℕ) where
+module _ {t : List ℕ} {c : Cursor} (h : Holds t c) (l a : ℕ) where
   abbrev curveBehind : Reader Tree
-  curveBehind = theBy 5 >>= λ u. give (node 34 [] (fields a (suc (u .from)) (length (content u)) 0) nil)
+  curveBehind = theBy 5 >>= λ u. give (node 34 l (content u) (fields a (suc (u .from)) (length (content u)) 0) nil)
 
-  pub curve-none : (c .code ≡ 46 → ⊥) → (x : Node) → x ≡ record { kind = 34; nodes = 1; parts = 0; f1 = a; f2 = 0; f3 = 0; f4 = 0 } → MeetsLeaf t (curve a (toksAt t (c .start))) (leaf.Is c x)
+  pub curve-none : (c .code ≡ 46 → ⊥) → (x : Node) → x ≡ record { kind = 34; nodes = 1; parts = 0; f1 = a; f2 = 0; f3 = 0; f4 = 0; place = l } → MeetsLeaf t (curve l a (toksAt t (c .start))) (leaf.Is c x)
   unfolding optional the code
-  curve-none z x e = leaf-is 34 a 0 0 0 x e (λ p. omega arith) h (optional-no h 46 (node 34 [] (fields a 0 0 0) nil) curveBehind z)
+  curve-none z x e = leaf-is 34 l [] a 0 0 0 x e (λ p. omega arith) h (optional-no h 46 (node 34 l [] (fields a 0 0 0) nil) curveBehind z)
 
   module _ {n : Cursor} (w : Follows t c n) (s : c .code ≡ 46) where
-    curve-on : curve a (toksAt t (c .start)) ≡ curveBehind (toksAt t (n .start))
+    curve-on : curve l a (toksAt t (c .start)) ≡ curveBehind (toksAt t (n .start))
     unfolding optional the code
-    curve-on = optional-yes h 46 (node 34 [] (fields a 0 0 0) nil) curveBehind w (λ p. omega arith) s
+    curve-on = optional-yes h 46 (node 34 l [] (fields a 0 0 0) nil) curveBehind w (λ p. omega arith) s
 
-    pub curve-no : {r : Took} {b : ℕ} → r ≡ took.Not b → Takes t 5 n r → curve a (toksAt t (c .start)) ≡ refused 8 b
+    pub curve-no : {r : Took} {b : ℕ} → r ≡ took.Not b → Takes t 5 n r → curve l a (toksAt t (c .start)) ≡ refused 8 b
     curve-no q y =
         curve-on
-        ∙ bind-refused (theBy 5) (λ u. give (node 34 [] (fields a (suc (u .from)) (length (content u)) 0) nil)) (toksAt t (n .start)) _ _ (takes-as t 5 n q y)
+        ∙ bind-refused (theBy 5) (λ u. give (node 34 l (content u) (fields a (suc (u .from)) (length (content u)) 0) nil)) (toksAt t (n .start)) _ _ (takes-as t 5 n q y)
 
     pub curve-is : {r : Took} {d : Cursor} → r ≡ took.Next d → Takes t 5 n r
-        → (x : Node) → x ≡ record { kind = 34; nodes = 1; parts = 0; f1 = a; f2 = n .start + 1; f3 = n .end - n .start - 2; f4 = 0 }
-        → MeetsLeaf t (curve a (toksAt t (c .start))) (leaf.Is d x)
+        → (x : Node) → x ≡ record { kind = 34; nodes = 1; parts = 0; f1 = a; f2 = n .start + 1; f3 = n .end - n .start - 2; f4 = 0; place = l }
+        → MeetsLeaf t (curve l a (toksAt t (c .start))) (leaf.Is d x)
     unfolding give
     curve-is {r} {d} q y x e =
         let v = takes-as t 5 n q y in
         let p : suc (n .start) ≡ n .start + 1 = omega arith in
-        leaf-is 34 a (n .start + 1) (n .end - n .start - 2) 0 x e (λ z. omega arith) (v .0 .holds)
+        leaf-is 34 l (content (tokenAt t n)) a (n .start + 1) (n .end - n .start - 2) 0 x e (λ z. omega arith) (v .0 .holds)
         (curve-on
-        ∙ (then-ok (theBy 5) (toksAt t (n .start)) (λ u. give (node 34 [] (fields a (suc (u .from)) (length (content u)) 0) nil)) (v .2)
-        ∙ (λ i. ok (node 34 [] (fields a (p i) (content-length (w .holds) (v .1) i) 0) nil) (toksAt t (d .start)))))
+        ∙ (then-ok (theBy 5) (toksAt t (n .start)) (λ u. give (node 34 l (content u) (fields a (suc (u .from)) (length (content u)) 0) nil)) (v .2)
+        ∙ (λ i. ok (node 34 l (content (tokenAt t n)) (fields a (p i) (content-length (w .holds) (v .1) i) 0) nil) (toksAt t (d .start)))))
 
-module _ (t : List ℕ) (c : Cursor) where
+module _ (t : List ℕ) (l : ℕ) (c : Cursor) where
   abbrev dfBehind : Reader Tree
-  dfBehind = aDate >>= λ x. curve x >>= ending
+  dfBehind = aDate >>= λ x. curve l x >>= ending
 
-  pub df-no : {r : Took} {b : ℕ} → r ≡ took.Not b → Takes t 40 c r → df (toksAt t (c .start)) ≡ refused 8 b
+  pub df-no : {r : Took} {b : ℕ} → r ≡ took.Not b → Takes t 40 c r → df l (toksAt t (c .start)) ≡ refused 8 b
   unfolding df the code
   df-no q y = next-no (theBy 40) (toksAt t (c .start)) dfBehind (takes-as t 40 c q y)
 
@@ -336,17 +343,17 @@ module _ (t : List ℕ) (c : Cursor) where
     pub df-inner : Holds t d
     df-inner = takes-as t 40 c q y .0 .holds
 
-    pub df-date : {r′ : Number} {k b : ℕ} → r′ ≡ number.Refused k b → MeetsNumber t (aDate (toksAt t (d .start))) r′ → df (toksAt t (c .start)) ≡ refused k b
+    pub df-date : {r′ : Number} {k b : ℕ} → r′ ≡ number.Refused k b → MeetsNumber t (aDate (toksAt t (d .start))) r′ → df l (toksAt t (c .start)) ≡ refused k b
     unfolding df the code
     df-date q′ y′ =
         next-ok (theBy 40) (toksAt t (c .start)) dfBehind (takes-as t 40 c q y .2)
-        ∙ bind-refused aDate (λ x. curve x >>= ending) (toksAt t (d .start)) _ _ (numbers-as t (aDate (toksAt t (d .start))) q′ y′)
+        ∙ bind-refused aDate (λ x. curve l x >>= ending) (toksAt t (d .start)) _ _ (numbers-as t (aDate (toksAt t (d .start))) q′ y′)
 
-    pub df-is : {r′ : Number} {e : Cursor} {x : ℕ} → r′ ≡ number.Is e x → MeetsNumber t (aDate (toksAt t (d .start))) r′ → df (toksAt t (c .start)) ≡ bind ending (curve x (toksAt t (e .start)))
+    pub df-is : {r′ : Number} {e : Cursor} {x : ℕ} → r′ ≡ number.Is e x → MeetsNumber t (aDate (toksAt t (d .start))) r′ → df l (toksAt t (c .start)) ≡ bind ending (curve l x (toksAt t (e .start)))
     unfolding df the code _>>=_
     df-is q′ y′ =
         next-ok (theBy 40) (toksAt t (c .start)) dfBehind (takes-as t 40 c q y .2)
-        ∙ then-ok aDate (toksAt t (d .start)) (λ x. curve x >>= ending) (numbers-as t (aDate (toksAt t (d .start))) q′ y′ .1)
+        ∙ then-ok aDate (toksAt t (d .start)) (λ x. curve l x >>= ending) (numbers-as t (aDate (toksAt t (d .start))) q′ y′ .1)
 
 -- ---- RateIndex
 
@@ -372,80 +379,83 @@ module _ (t : List ℕ) (k : ℕ) (c : Cursor) where
       l .2 f ∙ then-ok (theBy 5) (toksAt t (d .start)) f (by-yes (l .0) w (λ p. omega (arith, l .1)) 5 (l .1))
 
 -- the dates are judged when all of it is read
-module _ (u v w : Token) (x : ℕ) (e : x ≡ date (content v)) (ts : List Token) where
+module _ (l : ℕ) (u v w : Token) (x : ℕ) (e : x ≡ date (content v)) (ts : List Token) where
   abbrev rateBehind : ℕ → Reader Tree
-  rateBehind a = dateOf w >>= λ b. give (node 35 [] (fields (suc (u .from)) (length (content u)) a b) nil)
+  rateBehind a = dateOf w >>= λ b. give (node 35 l (content u) (fields (suc (u .from)) (length (content u)) a b) nil)
 
-  pub rate-first : x ≡ 0 → rateOf u v w ts ≡ refused 11 (v .from)
+  pub rate-first : x ≡ 0 → rateOf l u v w ts ≡ refused 11 (v .from)
   rate-first z = bind-refused (dateOf v) rateBehind ts _ _ (day-bad v x e ts z)
 
   module _ (o : x ≡ 0 → ⊥) (y : ℕ) (g : y ≡ date (content w)) where
-    pub rate-second : y ≡ 0 → rateOf u v w ts ≡ refused 11 (w .from)
+    pub rate-second : y ≡ 0 → rateOf l u v w ts ≡ refused 11 (w .from)
     rate-second z =
         then-ok (dateOf v) ts rateBehind (day-is v x e ts o)
-        ∙ bind-refused (dateOf w) (λ b. give (node 35 [] (fields (suc (u .from)) (length (content u)) x b) nil)) ts _ _ (day-bad w y g ts z)
+        ∙ bind-refused (dateOf w) (λ b. give (node 35 l (content u) (fields (suc (u .from)) (length (content u)) x b) nil)) ts _ _ (day-bad w y g ts z)
 
-    pub rate-both : (y ≡ 0 → ⊥) → rateOf u v w ts ≡ ok (node 35 [] (fields (suc (u .from)) (length (content u)) x y) nil) ts
+    pub rate-both : (y ≡ 0 → ⊥) → rateOf l u v w ts ≡ ok (node 35 l (content u) (fields (suc (u .from)) (length (content u)) x y) nil) ts
     unfolding give
     rate-both z =
         then-ok (dateOf v) ts rateBehind (day-is v x e ts o)
-        ∙ then-ok (dateOf w) ts (λ b. give (node 35 [] (fields (suc (u .from)) (length (content u)) x b) nil)) (day-is w y g ts z)
+        ∙ then-ok (dateOf w) ts (λ b. give (node 35 l (content u) (fields (suc (u .from)) (length (content u)) x b) nil)) (day-is w y g ts z)
 
-pub rate-is : {t : List ℕ} {a d : Cursor} → Holds t a → a .code ≡ 5 → Holds t d → (v w : Token) (x y : ℕ) → x ≡ date (content v) → (x ≡ 0 → ⊥) → y ≡ date (content w) → (y ≡ 0 → ⊥)
-    → MeetsLeaf t (rateOf (tokenAt t a) v w (toksAt t (d .start))) (leaf.Is d (record { kind = 35; nodes = 1; parts = 0; f1 = a .start + 1; f2 = a .end - a .start - 2; f3 = x; f4 = y }))
-rate-is {t} {a} {d} h s k v w x y e o g z =
+pub rate-is : {t : List ℕ} {a d : Cursor} → Holds t a → a .code ≡ 5 → Holds t d → (l : ℕ) (v w : Token) (x y : ℕ) → x ≡ date (content v) → (x ≡ 0 → ⊥) → y ≡ date (content w) → (y ≡ 0 → ⊥)
+    → MeetsLeaf t (rateOf l (tokenAt t a) v w (toksAt t (d .start))) (leaf.Is d (record { kind = 35; nodes = 1; parts = 0; f1 = a .start + 1; f2 = a .end - a .start - 2; f3 = x; f4 = y; place = l }))
+rate-is {t} {a} {d} h s k l v w x y e o g z =
     let p : suc (a .start) ≡ a .start + 1 = omega arith in (
       k,
       refl,
       refl,
       (λ q. omega arith),
-      rate-both (tokenAt t a) v w x e (toksAt t (d .start)) o y g z
-          ∙ (λ i. ok (node 35 [] (fields (p i) (content-length h s i) x y) nil) (toksAt t (d .start))),
+      (
+        content (tokenAt t a),
+        rate-both l (tokenAt t a) v w x e (toksAt t (d .start)) o y g z
+            ∙ (λ i. ok (node 35 l (content (tokenAt t a)) (fields (p i) (content-length h s i) x y) nil) (toksAt t (d .start))),
+      ),
     )
 
 pub date-in : {t : List ℕ} {c : Cursor} → Holds t c → c .code ≡ 5 → (x : ℕ) → x ≡ date (take (c .end - 1 - (c .start + 1)) (drop (c .start + 1) t)) → x ≡ date (content (tokenAt t c))
 date-in h s x e = e ∙ ap date (sym (content-is h s))
 
 -- what stands behind each of its strings
-abbrev behindLast : Token → Token → Token → Reader Tree
-behindLast u v w = theBy 41 >> rateOf u v w
+abbrev behindLast : ℕ → Token → Token → Token → Reader Tree
+behindLast l u v w = theBy 41 >> rateOf l u v w
 
-abbrev behindSecond : Token → Token → Reader Tree
-behindSecond u v = theBy 46 >> (theBy 5 >>= behindLast u v)
+abbrev behindSecond : ℕ → Token → Token → Reader Tree
+behindSecond l u v = theBy 46 >> (theBy 5 >>= behindLast l u v)
 
-abbrev behindFirst : Token → Reader Tree
-behindFirst u = theBy 46 >> (theBy 5 >>= behindSecond u)
+abbrev behindFirst : ℕ → Token → Reader Tree
+behindFirst l u = theBy 46 >> (theBy 5 >>= behindSecond l u)
 
-module _ (t : List ℕ) (c : Cursor) where
-  pub index-name : {r : Took} {b : ℕ} → r ≡ took.Not b → Leads t 40 c r → rateIndex (toksAt t (c .start)) ≡ refused 8 b
+module _ (t : List ℕ) (y : ℕ) (c : Cursor) where
+  pub index-name : {r : Took} {b : ℕ} → r ≡ took.Not b → Leads t 40 c r → rateIndex y (toksAt t (c .start)) ≡ refused 8 b
   unfolding rateIndex the code
-  index-name q l = leads-as t 40 c q l behindFirst
+  index-name q l = leads-as t 40 c q l (behindFirst y)
 
   module _ {r : Took} {n n′ : Cursor} (q : r ≡ took.Next n) (l : Leads t 40 c r) (w : Follows t n n′) where
-    index-one : rateIndex (toksAt t (c .start)) ≡ behindFirst (tokenAt t n) (toksAt t (n′ .start))
+    index-one : rateIndex y (toksAt t (c .start)) ≡ behindFirst y (tokenAt t n) (toksAt t (n′ .start))
     unfolding rateIndex the code
-    index-one = lead-on t 40 c (leads-as t 40 c q l) w behindFirst
+    index-one = lead-on t 40 c (leads-as t 40 c q l) w (behindFirst y)
 
-    pub index-from : {r′ : Took} {b : ℕ} → r′ ≡ took.Not b → Leads t 46 n′ r′ → rateIndex (toksAt t (c .start)) ≡ refused 8 b
-    index-from q′ l′ = index-one ∙ leads-as t 46 n′ q′ l′ (behindSecond (tokenAt t n))
+    pub index-from : {r′ : Took} {b : ℕ} → r′ ≡ took.Not b → Leads t 46 n′ r′ → rateIndex y (toksAt t (c .start)) ≡ refused 8 b
+    index-from q′ l′ = index-one ∙ leads-as t 46 n′ q′ l′ (behindSecond y (tokenAt t n))
 
     module _ {r′ : Took} {m m′ : Cursor} (q′ : r′ ≡ took.Next m) (l′ : Leads t 46 n′ r′) (w′ : Follows t m m′) where
-      index-two : rateIndex (toksAt t (c .start)) ≡ behindSecond (tokenAt t n) (tokenAt t m) (toksAt t (m′ .start))
-      index-two = index-one ∙ lead-on t 46 n′ (leads-as t 46 n′ q′ l′) w′ (behindSecond (tokenAt t n))
+      index-two : rateIndex y (toksAt t (c .start)) ≡ behindSecond y (tokenAt t n) (tokenAt t m) (toksAt t (m′ .start))
+      index-two = index-one ∙ lead-on t 46 n′ (leads-as t 46 n′ q′ l′) w′ (behindSecond y (tokenAt t n))
 
-      pub index-to : {r″ : Took} {b : ℕ} → r″ ≡ took.Not b → Leads t 46 m′ r″ → rateIndex (toksAt t (c .start)) ≡ refused 8 b
-      index-to q″ l″ = index-two ∙ leads-as t 46 m′ q″ l″ (behindLast (tokenAt t n) (tokenAt t m))
+      pub index-to : {r″ : Took} {b : ℕ} → r″ ≡ took.Not b → Leads t 46 m′ r″ → rateIndex y (toksAt t (c .start)) ≡ refused 8 b
+      index-to q″ l″ = index-two ∙ leads-as t 46 m′ q″ l″ (behindLast y (tokenAt t n) (tokenAt t m))
 
       module _ {r″ : Took} {o o′ : Cursor} (q″ : r″ ≡ took.Next o) (l″ : Leads t 46 m′ r″) (w″ : Follows t o o′) where
-        index-three : rateIndex (toksAt t (c .start)) ≡ behindLast (tokenAt t n) (tokenAt t m) (tokenAt t o) (toksAt t (o′ .start))
-        index-three = index-two ∙ lead-on t 46 m′ (leads-as t 46 m′ q″ l″) w″ (behindLast (tokenAt t n) (tokenAt t m))
+        index-three : rateIndex y (toksAt t (c .start)) ≡ behindLast y (tokenAt t n) (tokenAt t m) (tokenAt t o) (toksAt t (o′ .start))
+        index-three = index-two ∙ lead-on t 46 m′ (leads-as t 46 m′ q″ l″) w″ (behindLast y (tokenAt t n) (tokenAt t m))
 
-        pub index-close : {a : Took} {b : ℕ} → a ≡ took.Not b → Takes t 41 o′ a → rateIndex (toksAt t (c .start)) ≡ refused 8 b
-        index-close p y = index-three ∙ next-no (theBy 41) (toksAt t (o′ .start)) (rateOf (tokenAt t n) (tokenAt t m) (tokenAt t o)) (takes-as t 41 o′ p y)
+        pub index-close : {a : Took} {b : ℕ} → a ≡ took.Not b → Takes t 41 o′ a → rateIndex y (toksAt t (c .start)) ≡ refused 8 b
+        index-close p g = index-three ∙ next-no (theBy 41) (toksAt t (o′ .start)) (rateOf y (tokenAt t n) (tokenAt t m) (tokenAt t o)) (takes-as t 41 o′ p g)
 
         pub index-is : {a : Took} {d : Cursor} → a ≡ took.Next d → Takes t 41 o′ a
-            → rateIndex (toksAt t (c .start)) ≡ rateOf (tokenAt t n) (tokenAt t m) (tokenAt t o) (toksAt t (d .start))
-        index-is p y = index-three ∙ next-ok (theBy 41) (toksAt t (o′ .start)) (rateOf (tokenAt t n) (tokenAt t m) (tokenAt t o)) (takes-as t 41 o′ p y .2)
+            → rateIndex y (toksAt t (c .start)) ≡ rateOf y (tokenAt t n) (tokenAt t m) (tokenAt t o) (toksAt t (d .start))
+        index-is p g = index-three ∙ next-ok (theBy 41) (toksAt t (o′ .start)) (rateOf y (tokenAt t n) (tokenAt t m) (tokenAt t o)) (takes-as t 41 o′ p g .2)
 
 -- ---- names by their keys
 

@@ -55,7 +55,7 @@ module _ {t : List ℕ} {c : Cursor} (h : Holds t c) (k : ℕ) (es : Trees) wher
 
 -- a node whose string stands nowhere is no String node
 string-not : (t : List ℕ) (e : Tree) → Quoted t e → stringAt e ≡ 0 → isString e ≡ false
-string-not t (node k s (fields a b c d) ts) q z = go (eqb k 5) refl z
+string-not t (node k l s (fields a b c d) ts) q z = go (eqb k 5) refl z
   where
     go : (x : Bool) → eqb k 5 ≡ x → _≡_ {A = ℕ} (if x then a else 0) 0 → x ≡ false
     go true e w = absurd (omega (arith, w, q (eqb-true k 5 e) .0))
@@ -63,7 +63,7 @@ string-not t (node k s (fields a b c d) ts) q z = go (eqb k 5) refl z
 
 -- one whose string stands somewhere is a String node, and has its bytes
 string-yes : (t : List ℕ) (e : Tree) → Quoted t e → (stringAt e ≡ 0 → ⊥) → (isString e ≡ true) × (textOf e ≡ contentAt t (stringAt e))
-string-yes t (node k s (fields a b c d) ts) q z = go (eqb k 5) refl z
+string-yes t (node k l s (fields a b c d) ts) q z = go (eqb k 5) refl z
   where
     go : (x : Bool) → eqb k 5 ≡ x → (_≡_ {A = ℕ} (if x then a else 0) 0 → ⊥) → (x ≡ true) × (s ≡ contentAt t (if x then a else 0))
     go true e w = (refl, q (eqb-true k 5 e) .1)
@@ -166,16 +166,16 @@ module _ (C : List (List ℕ)) (k n : ℕ) (es : Trees) (e : n ≡ parts es) whe
 pub leaf-written : {t : List ℕ} {R : Out Tree} {n : ℕ} {o o′ : List ℕ} {d : Cursor} (x : Node) → MeetsLeaf t R (leaf.Is d x) → o′ ≡ putRow o n (nodeRow x)
     → Reads t R n o d (n + 1) 0 o′
 leaf-written x h w =
-    leaf-reads (x .kind) (x .f1) (x .f2) (x .f3) (x .f4) (h .3) (h .0) (h .4) (w ∙ (rw (h .1, h .2)))
+    leaf-reads (x .kind) (x .place) (h .4 .0) (fields (x .f1) (x .f2) (x .f3) (x .f4)) (h .3) (h .0) (h .4 .1) (w ∙ (rw (h .1, h .2)))
 
 -- ---- the date and the currency of a pays
 
-module _ (t : List ℕ) (W : Words) (es : Trees) (p : ℕ) where
+module _ (t : List ℕ) (W : Words) (l : ℕ) (es : Trees) (p : ℕ) where
   abbrev Pays : Out Tree
-  Pays = payday W es (toksAt t p)
+  Pays = payday W l es (toksAt t p)
 
   abbrev paid : ℕ → ℕ → Tree
-  paid x y = node 36 [] (fields x y 0 0) es
+  paid x y = node 36 l [] (fields x y 0 0) es
 
   -- the date is refused
   pub pays-no-date : {k b : ℕ} → optionalBy 50 0 aDate (toksAt t p) ≡ refused k b → Pays ≡ refused k b
@@ -193,14 +193,14 @@ module _ (t : List ℕ) (W : Words) (es : Trees) (p : ℕ) where
 
     -- the record of a pays, behind its parts
     pub pays-reads : (f : Cursor) (y : ℕ) → Holds t f → optionalBy 51 0 (aCurrency W) (toksAt t q) ≡ ok y (toksAt t (f .start))
-        → {n m v : ℕ} {o o₁ o₂ : List ℕ} → Before n o es m o₁ → v ≡ parts es → o₂ ≡ putRow o₁ m (row 36 (m - n + 1) v (fields x y 0 0))
+        → {n m v : ℕ} {o o₁ o₂ : List ℕ} → Before n o es m o₁ → v ≡ parts es → o₂ ≡ putRow o₁ m (row 36 (m - n + 1) v (fields x y 0 0) l)
         → Reads t Pays n o f (m + 1) 0 o₂
     unfolding give
     pays-reads f y h r b v w = record {
       tree = paid x y;
       is = pays-on ∙ ap (bind (λ y. give (paid x y))) r;
-      counts = omega (arith, b .counts, size-node 36 [] (fields x y 0 0) es);
-      writes = before-node 36 [] (fields x y 0 0) b (omega (arith, b .counts)) v w;
+      counts = omega (arith, b .counts, size-node 36 l [] (fields x y 0 0) es);
+      writes = before-node 36 l [] (fields x y 0 0) b (omega (arith, b .counts)) v w;
       holds = h;
       string = refl;
       quoted = λ z. absurd (omega arith);

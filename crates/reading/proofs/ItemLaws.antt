@@ -115,7 +115,7 @@ shown-more t es x n p e s q w h =
     }
 
 string-inside : (t : List ℕ) (e : Tree) → Quoted t e → stringAt e ≤ length t
-string-inside t (node k x (fields a b c d) ts) h = go (eqb k 5) refl
+string-inside t (node k l x (fields a b c d) ts) h = go (eqb k 5) refl
   where
     go : (z : Bool) → eqb k 5 ≡ z → (if z then a else 0) ≤ length t
     go true q = h (eqb-true k 5 q) .2
@@ -329,7 +329,7 @@ module _ (W : Words) (depth : ℕ) (t : List ℕ) (c : Cursor) (h : Holds t c) w
 module _ (W : Words) (depth : ℕ) (t : List ℕ) (c d : Cursor) (w : Follows t c d) (e : c .code ≡ 44) where
   pub list-0 : depth ≡ 0 → listPostfixed W depth (tokenAt t c) (toksAt t (c .start)) ≡ refused 15 (c .start)
   unfolding _>>=_
-  list-0 z = ap (bind (postfixes (inner W depth))) (deeper-none (tokenAt t c) W depth _ (toksAt t (c .start)) z)
+  list-0 z = ap (bind (postfixes (inner W depth) (c .start))) (deeper-none (tokenAt t c) W depth _ (toksAt t (c .start)) z)
 
   module _ (z : depth ≡ 0 → ⊥) where
     some-list : c .code ≡ 0 → ⊥
@@ -338,9 +338,9 @@ module _ (W : Words) (depth : ℕ) (t : List ℕ) (c d : Cursor) (w : Follows t 
     pub list-ready : (n : ℕ) → Room t c n → Ready t d n
     list-ready n room = (w .holds, omega (arith, room, w .fewer some-list))
 
-    list-is : listPostfixed W depth (tokenAt t c) (toksAt t (c .start)) ≡ (listed W (primary W (depth - 1)) >>= postfixes (inner W depth)) (toksAt t (d .start))
+    list-is : listPostfixed W depth (tokenAt t c) (toksAt t (c .start)) ≡ (listed W (c .start) (primary W (depth - 1)) >>= postfixes (inner W depth) (c .start)) (toksAt t (d .start))
     unfolding _>>=_
-    list-is = ap (bind (postfixes (inner W depth))) (deeper-some (tokenAt t c) W depth _ (toksAt t (c .start)) z ∙ read-next w some-list _)
+    list-is = ap (bind (postfixes (inner W depth) (c .start))) (deeper-some (tokenAt t c) W depth _ (toksAt t (c .start)) z ∙ read-next w some-list _)
 
     pub list-refused : (j b : ℕ) → itemsBy 45 (primary W (depth - 1)) (toksAt t (d .start)) ≡ refused j b
         → listPostfixed W depth (tokenAt t c) (toksAt t (c .start)) ≡ refused j b
@@ -363,17 +363,17 @@ module _ (W : Words) (depth : ℕ) (t : List ℕ) (c d : Cursor) (w : Follows t 
         pub list-after : Ready t g (m + 1)
         list-after = (u .holds, omega (arith, list-numbers, u .fewer (λ y. omega (arith, q))))
 
-        pub list-done : listPostfixed W depth (tokenAt t c) (toksAt t (c .start)) ≡ postfixes (inner W depth) (node 6 [] unused (r .items)) (toksAt t (g .start))
+        pub list-done : listPostfixed W depth (tokenAt t c) (toksAt t (c .start)) ≡ postfixes (inner W depth) (c .start) (node 6 (c .start) [] unused (r .items)) (toksAt t (g .start))
         unfolding _>>=_ give
         list-done =
             list-is ∙ ((rw (← items-by-bracket (primary W (depth - 1)), r .is))
-            ∙ ap (bind (postfixes (inner W depth))) (the-next (r .holds) u (λ y. omega (arith, q)) "]" (bracket-code ∙ sym q) (give (node 6 [] unused (r .items)))))
+            ∙ ap (bind (postfixes (inner W depth) (c .start))) (the-next (r .holds) u (λ y. omega (arith, q)) "]" (bracket-code ∙ sym q) (give (node 6 (c .start) [] unused (r .items)))))
 
-      pub list-tops : (o₂ : List ℕ) → o₂ ≡ putRow o′ m (row 6 (m - n + 1) k unused) → Tops n o (node 6 [] unused (r .items)) (m + 1) o₂
+      pub list-tops : (o₂ : List ℕ) → o₂ ≡ putRow o′ m (row 6 (m - n + 1) k unused (c .start)) → Tops n o (node 6 (c .start) [] unused (r .items)) (m + 1) o₂
       list-tops o₂ v =
           record {
-            counts = omega (arith, size-node 6 [] unused (r .items), r .counts);
-            writes = before-node 6 [] unused (record { counts = r .counts; writes = r .writes }) (omega (arith, r .counts)) (r .parts-are) v;
+            counts = omega (arith, size-node 6 (c .start) [] unused (r .items), r .counts);
+            writes = before-node 6 (c .start) [] unused (record { counts = r .counts; writes = r .writes }) (omega (arith, r .counts)) (r .parts-are) v;
             unquoted = λ y. omega arith;
           }
 
@@ -453,11 +453,11 @@ module _ (W : Words) (depth : ℕ) (tok : Token) (k : ℕ) (e : k ≡ callKind (
 
   module _ (es : Trees) (ts : List Token) where
     abbrev judged : ℕ → Out Tree
-    judged f = if eqb f 0 then ok (node k [] unused es) ts else refused f (tok .from)
+    judged f = if eqb f 0 then ok (node k (tok .from) [] unused es) ts else refused f (tok .from)
 
     shape : (r b s d m : Bool) → (b ≡ true → k ≡ 25)
-        → (if not r then failAt tok 10 else if b then (if not s then failAt tok 14 else if d then failAt tok 11 else if m then give (node 25 [] unused es) else failAt tok 13)
-        else give (node k [] unused es)) ts
+        → (if not r then failAt tok 10 else if b then (if not s then failAt tok 14 else if d then failAt tok 11 else if m then give (node 25 (tok .from) [] unused es) else failAt tok 13)
+        else give (node k (tok .from) [] unused es)) ts
         ≡ judged (if not r then 10 else if b then (if not s then 14 else if d then 11 else if m then 0 else 13) else 0)
     unfolding failAt give
     shape false b s d m h = refl
@@ -465,16 +465,16 @@ module _ (W : Words) (depth : ℕ) (tok : Token) (k : ℕ) (e : k ≡ callKind (
     shape true true false d m h = refl
     shape true true true true m h = refl
     shape true true true false false h = refl
-    shape true true true false true h = ap (λ (x : ℕ). ok (node x [] unused es) ts) (sym (h refl))
+    shape true true true false true h = ap (λ (x : ℕ). ok (node x (tok .from) [] unused es) ts) (sym (h refl))
 
     abbrev body : Reader Tree
-    body = if not (within (Row .1) (Row .2) (parts es)) then failAt tok 10 else if eqb (Row .0) 25 then cvg W tok es else give (node (Row .0) [] unused es)
+    body = if not (within (Row .1) (Row .2) (parts es)) then failAt tok 10 else if eqb (Row .0) 25 then cvg W tok es else give (node (Row .0) (tok .from) [] unused es)
 
     body-is : body ts ≡ judged (callFault (W .counters) k es)
     unfolding cvg
     body-is =
-        ap (λ (b : Bool). (if not b then failAt tok 10 else if eqb (Row .0) 25 then cvg W tok es else give (node (Row .0) [] unused es)) ts) (row-right .1 (parts es))
-        ∙ (ap (λ (x : ℕ). (if not (rightCount x (parts es)) then failAt tok 10 else if eqb x 25 then cvg W tok es else give (node x [] unused es)) ts) row-kind
+        ap (λ (b : Bool). (if not b then failAt tok 10 else if eqb (Row .0) 25 then cvg W tok es else give (node (Row .0) (tok .from) [] unused es)) ts) (row-right .1 (parts es))
+        ∙ (ap (λ (x : ℕ). (if not (rightCount x (parts es)) then failAt tok 10 else if eqb x 25 then cvg W tok es else give (node x (tok .from) [] unused es)) ts) row-kind
         ∙ shape (rightCount k (parts es)) (eqb k 25) (G.strings es) (eqb (date (G.text es 0)) 0 || eqb (date (G.text es 1)) 0) (member (W .counters) (G.text es 2)) (λ q. eqb-true k 25 q))
 
   module _ (t : List ℕ) (c : Cursor) where
@@ -492,14 +492,14 @@ module _ (W : Words) (depth : ℕ) (tok : Token) (k : ℕ) (e : k ≡ callKind (
       pub call-faulty : (f ≡ 0 → ⊥) → call W (inner W depth) tok (callOf (tok .text) calls) (toksAt t (c .start)) ≡ refused f (tok .from)
       call-faulty z = call-is ∙ (rw (ne-eqb f 0 z))
 
-      pub call-done : f ≡ 0 → (o₂ : List ℕ) → o₂ ≡ putRow o′ m (row k (m - n + 1) cnt unused)
+      pub call-done : f ≡ 0 → (o₂ : List ℕ) → o₂ ≡ putRow o′ m (row k (m - n + 1) cnt unused (tok .from))
           → Reads t (call W (inner W depth) tok (callOf (tok .text) calls) (toksAt t (c .start))) n o d (m + 1) 0 o₂
       call-done z o₂ v =
           record {
-            tree = node k [] unused (r .items);
+            tree = node k (tok .from) [] unused (r .items);
             is = call-is ∙ (rw (eq-eqb f 0 z));
-            counts = omega (arith, size-node k [] unused (r .items), r .counts);
-            writes = before-node k [] unused (record { counts = r .counts; writes = r .writes }) (omega (arith, r .counts)) (r .parts-are) v;
+            counts = omega (arith, size-node k (tok .from) [] unused (r .items), r .counts);
+            writes = before-node k (tok .from) [] unused (record { counts = r .counts; writes = r .writes }) (omega (arith, r .counts)) (r .parts-are) v;
             holds = r .holds;
             string = rw (ne-eqb k 5 call-plain);
             quoted = λ q. absurd (call-plain q);
@@ -571,9 +571,9 @@ module _ (W : Words) (p : Reader Tree) (moves : Moves p) (short : Sized p) (t : 
             }
 
 -- of the lists, the currencies alone matter behind the parts
-pub payday-same : (a b cu : List ℕ) (es : Trees) → payday (wordsIn a cu b) es ≡ payday (wordsIn [] cu []) es
+pub payday-same : (a b cu : List ℕ) (l : ℕ) (es : Trees) → payday (wordsIn a cu b) l es ≡ payday (wordsIn [] cu []) l es
 unfolding aCurrency currencyOf
-payday-same a b cu es = refl
+payday-same a b cu l es = refl
 
 module _ (W : Words) (depth : ℕ) (t : List ℕ) (c d : Cursor) (h : Holds t c) (w : Follows t c d) (e : c .code ≡ 36) where
   pub pays-0 : depth ≡ 0 → pays W (inner W depth) (toksAt t (c .start)) ≡ refused 15 (c .start)
@@ -587,7 +587,7 @@ module _ (W : Words) (depth : ℕ) (t : List ℕ) (c d : Cursor) (h : Holds t c)
   pays-ready n room = (w .holds, omega (arith, room, w .fewer some-pays))
 
   module _ (z : depth ≡ 0 → ⊥) where
-    pays-are : pays W (inner W depth) (toksAt t (c .start)) ≡ payment W (primary W (depth - 1)) (toksAt t (d .start))
+    pays-are : pays W (inner W depth) (toksAt t (c .start)) ≡ payment W (c .start) (primary W (depth - 1)) (toksAt t (d .start))
     unfolding pays
     pays-are = peek-is h _ ∙ (deeper-some (tokenAt t c) W depth _ (toksAt t (c .start)) z ∙ the-next h w some-pays "pays" (pays-code ∙ sym e) _)
 
@@ -596,7 +596,7 @@ module _ (W : Words) (depth : ℕ) (t : List ℕ) (c d : Cursor) (h : Holds t c)
     pays-refused j b q = pays-are ∙ (rw q)
 
     pub pays-payday : (es : Trees) (f : Cursor) → payments W (primary W (depth - 1)) (toksAt t (d .start)) ≡ ok es (toksAt t (f .start))
-        → pays W (inner W depth) (toksAt t (c .start)) ≡ payday W es (toksAt t (f .start))
+        → pays W (inner W depth) (toksAt t (c .start)) ≡ payday W (c .start) es (toksAt t (f .start))
     unfolding _>>=_
     pays-payday es f q = pays-are ∙ (rw q)
 
@@ -605,10 +605,10 @@ pub pays-done : (a b cu : List ℕ) (depth : ℕ) (t : List ℕ) (c d : Cursor) 
     → (n : ℕ) (o : List ℕ) (f : Cursor) (m count : ℕ) (o′ : List ℕ)
     → PayChain (wordsIn a cu b) (primary (wordsIn a cu b) (depth - 1)) t (payments (wordsIn a cu b) (primary (wordsIn a cu b) (depth - 1)) (toksAt t (d .start))) n o f m count o′
     → paysStop (f .code) ≡ true → (r : Read) (o₂ : List ℕ)
-    → ((es : Trees) (x : List ℕ) → Before n x es m o′ → count ≡ parts es → Meets t (payday (wordsIn [] cu []) es (toksAt t (f .start))) n x r o₂)
+    → ((es : Trees) (x : List ℕ) → Before n x es m o′ → count ≡ parts es → Meets t (payday (wordsIn [] cu []) (c .start) es (toksAt t (f .start))) n x r o₂)
     → Meets t (pays (wordsIn a cu b) (inner (wordsIn a cu b) depth) (toksAt t (c .start))) n o r o₂
 pays-done a b cu depth t c d h w e z n o f m count o′ ch s r o₂ g =
     let W = wordsIn a cu b in
     let q = pay-exit W (primary W (depth - 1)) (primary-law W (depth - 1)) (primary-size W (depth - 1)) t _ n o f m count o′ ch s in
-    meets-as t _ _ n o r o₂ (pays-payday W depth t c d h w e z (ch .trees) f q ∙ ap (λ (y : Reader Tree). y (toksAt t (f .start))) (payday-same a b cu (ch .trees)))
+    meets-as t _ _ n o r o₂ (pays-payday W depth t c d h w e z (ch .trees) f q ∙ ap (λ (y : Reader Tree). y (toksAt t (f .start))) (payday-same a b cu (c .start) (ch .trees)))
     (g (ch .trees) o (ch .before) (ch .many))

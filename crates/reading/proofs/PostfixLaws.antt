@@ -79,26 +79,26 @@ each-inner W (suc d) = just (primary-law W d)
 
 -- ---- an index, behind its `[`
 
-module _ (p : Reader Tree) (moves : Moves p) (short : Sized p) (t : List ℕ) (c : Cursor) (n m : ℕ) (o : List ℕ) where
-  index-no : (x : Tree) (k b : ℕ) → expression p (toksAt t (c .start)) ≡ refused k b → indexOf p x (toksAt t (c .start)) ≡ refused k b
+module _ (p : Reader Tree) (moves : Moves p) (short : Sized p) (l : ℕ) (t : List ℕ) (c : Cursor) (n m : ℕ) (o : List ℕ) where
+  index-no : (x : Tree) (k b : ℕ) → expression p (toksAt t (c .start)) ≡ refused k b → indexOf p l x (toksAt t (c .start)) ≡ refused k b
   unfolding _>>=_
   index-no x k b e = rw e
 
   -- the expression is refused
   pub index-refuses : (o₁ : List ℕ) (r : Read) (k b : ℕ) → r ≡ Refused k b → Meets t (expression p (toksAt t (c .start))) m o r o₁
-      → MeetsTurns t (λ x. indexOf p x (toksAt t (c .start))) n m o c r o₁
+      → MeetsTurns t (λ x. indexOf p l x (toksAt t (c .start))) n m o c r o₁
   index-refuses o₁ r k b e h =
       let g : expression p (toksAt t (c .start)) ≡ refused k b = (rw e at h) in
-      turn-refuses t (λ x. indexOf p x (toksAt t (c .start))) n m o o₁ c r k b e (λ x. index-no x k b g)
+      turn-refuses t (λ x. indexOf p l x (toksAt t (c .start))) n m o o₁ c r k b e (λ x. index-no x k b g)
 
   module _ (d : Cursor) (k q : ℕ) (o₁ : List ℕ) (r : Reads t (expression p (toksAt t (c .start))) m o d k q o₁) where
-    index-at : (x : Tree) → indexOf p x (toksAt t (c .start)) ≡ (the "]" >> give (again (binary 28 x (r .tree)))) (toksAt t (d .start))
+    index-at : (x : Tree) → indexOf p l x (toksAt t (c .start)) ≡ (the "]" >> give (again (binary 28 l x (r .tree)))) (toksAt t (d .start))
     unfolding _>>=_
     index-at x = rw (r .is)
 
     -- no `]`
     pub index-open : (a : Took) (b : ℕ) → a ≡ took.Not b → Takes t 45 d a → (o₂ : List ℕ)
-        → MeetsTurns t (λ x. indexOf p x (toksAt t (c .start))) n m o c (Refused 8 (d .start)) o₂
+        → MeetsTurns t (λ x. indexOf p l x (toksAt t (c .start))) n m o c (Refused 8 (d .start)) o₂
     unfolding code
     index-open a b e w o₂ =
         (λ x z h. index-at x ∙ the-next-not (r .holds) "]" (λ y. took-not t d (r .holds) 45 a b e w (sym y)) _, tt)
@@ -112,23 +112,23 @@ module _ (p : Reader Tree) (moves : Moves p) (short : Sized p) (t : List ℕ) (c
 
       pub index-numbers : (n < k) × (k < 50000) × (k + 1 + 3 * length (toksAt t (e .start)) ≤ 50000) × (length (toksAt t (e .start)) < length (toksAt t (c .start)))
       index-numbers =
-          let l = reads-within t (expression p) (expression-size p short) c m o d k q o₁ r room in
+          let within = reads-within t (expression p) (expression-size p short) c m o d k q o₁ r room in
           let f = follows .0 .fewer some-left in
           let v : length (toksAt t (d .start)) < length (toksAt t (c .start)) = moves-less (expression-law p moves) (toksAt t (c .start)) (r .tree) (toksAt t (d .start)) (r .is) in
-          omega (arith, l, f, v, room, low, r .counts)
+          omega (arith, within, f, v, room, low, r .counts)
 
-      pub index-reads : (o₂ : List ℕ) → o₂ ≡ putRow o₁ k (row 28 (k - n + 1) 2 unused)
-          → MeetsTurns t (λ x. indexOf p x (toksAt t (c .start))) n m o c (Done e (k + 1) 0) o₂
+      pub index-reads : (o₂ : List ℕ) → o₂ ≡ putRow o₁ k (row 28 (k - n + 1) 2 unused l)
+          → MeetsTurns t (λ x. indexOf p l x (toksAt t (c .start))) n m o c (Done e (k + 1) 0) o₂
       unfolding code give
       index-reads o₂ u = (
         λ x z h.
             record {
-              tree = binary 28 x (r .tree);
+              tree = binary 28 l x (r .tree);
               is = index-at x ∙ the-next (r .holds) (follows .0) some-left "]" (sym (follows .1)) _;
               tops =
                   record {
-                    counts = omega (arith, size-two 28 [] unused x (r .tree), h .counts, r .counts);
-                    writes = after-two z n 28 [] unused x (r .tree) (h .counts) (h .writes) (r .counts) (r .writes) (omega (arith, h .counts, r .counts)) u;
+                    counts = omega (arith, size-two 28 l [] unused x (r .tree), h .counts, r .counts);
+                    writes = after-two z n 28 l [] unused x (r .tree) (h .counts) (h .writes) (r .counts) (r .writes) (omega (arith, h .counts, r .counts)) u;
                     unquoted = λ y. omega (arith, y);
                   };
               holds = follows .0 .holds;
@@ -143,13 +143,13 @@ nil-of b nil e = refl
 nil-of true (y ▹ ys) e = absurd (true≢false (sym e ∙ ne-eqb (suc (parts ys)) 0 (λ z. omega (arith, z))))
 nil-of false (y ▹ ys) e = absurd (true≢false (sym e))
 
-module _ (x : Tree) (u : Token) (es : Trees) (ts : List Token) where
+module _ (l : ℕ) (x : Tree) (u : Token) (es : Trees) (ts : List Token) where
   abbrev Yields : ℕ → Out Tree → Type 0
-  Yields κ R = ((κ ≡ 0 → ⊥) → (R ≡ ok (node κ [] unused (x ▹ es)) ts) × (κ ≡ 5 → ⊥)) × (κ ≡ 0 → R ≡ refused 10 (u .from))
+  Yields κ R = ((κ ≡ 0 → ⊥) → (R ≡ ok (node κ l [] unused (x ▹ es)) ts) × (κ ≡ 5 → ⊥)) × (κ ≡ 0 → R ≡ refused 10 (u .from))
 
   yields : (a b c : Bool) → (b ≡ true → es ≡ nil) → (c ≡ true → es ≡ nil)
       → Yields (if a then 29 else if b then 30 else if c then 31 else 0)
-      ((if a then give (node 29 [] unused (x ▹ es)) else if b then give (node 30 [] unused (x ▹ nil)) else if c then give (node 31 [] unused (x ▹ nil)) else failAt u 10) ts)
+      ((if a then give (node 29 l [] unused (x ▹ es)) else if b then give (node 30 l [] unused (x ▹ nil)) else if c then give (node 31 l [] unused (x ▹ nil)) else failAt u 10) ts)
   unfolding give failAt
   yields true b c f g = (λ z. (refl, λ e. omega (arith, e)), λ e. absurd (omega (arith, e)))
   yields false true c f g = (λ z. (rw (f refl), λ e. omega (arith, e)), λ e. absurd (omega (arith, e)))
@@ -157,16 +157,16 @@ module _ (x : Tree) (u : Token) (es : Trees) (ts : List Token) where
   yields false false false f g = (λ z. absurd (z refl), λ e. refl)
 
   -- the kind of a method's node, 0 where it is refused
-  pub method-yields : Yields (methodKind (u .text) (parts es)) (method x u es ts)
+  pub method-yields : Yields (methodKind (u .text) (parts es)) (method l x u es ts)
   unfolding method methodKind
   method-yields =
       yields (same (bytes "append") (u .text) && eqb (parts es) 1) (same (bytes "mean") (u .text) && eqb (parts es) 0) (same (bytes "std") (u .text) && eqb (parts es) 0)
       (nil-of (same (bytes "mean") (u .text)) es) (nil-of (same (bytes "std") (u .text)) es)
 
-module _ (I : Option (Reader Tree)) (sizes-in : EachSized I) (t : List ℕ) (c : Cursor) (h : Holds t c) (n m : ℕ) (o : List ℕ) where
+module _ (I : Option (Reader Tree)) (sizes-in : EachSized I) (l : ℕ) (t : List ℕ) (c : Cursor) (h : Holds t c) (n m : ℕ) (o : List ℕ) where
   -- no name
   pub method-unnamed : (a : Took) (b : ℕ) → a ≡ took.Not b → Takes t 1 c a → (o₂ : List ℕ)
-      → MeetsTurns t (λ x. methodOf I x (toksAt t (c .start))) n m o c (Refused 8 (c .start)) o₂
+      → MeetsTurns t (λ x. methodOf I l x (toksAt t (c .start))) n m o c (Refused 8 (c .start)) o₂
   unfolding code
   method-unnamed a b e w o₂ = (λ x z g. the-then-not h "name" (λ y. took-not t c h 1 a b e w (sym y)) _, tt)
 
@@ -181,42 +181,42 @@ module _ (I : Option (Reader Tree)) (sizes-in : EachSized I) (t : List ℕ) (c :
     method-ready room = ready-behind t c d m 0 room (named-then .0) (named-then .1)
 
     method-at : (x : Tree)
-        → methodOf I x (toksAt t (c .start)) ≡ (arguments I >>= λ es. method x (tokenAt t c) es >>= λ y. give (again y)) (toksAt t (d .start))
+        → methodOf I l x (toksAt t (c .start)) ≡ (arguments I >>= λ es. method l x (tokenAt t c) es >>= λ y. give (again y)) (toksAt t (d .start))
     unfolding code
     method-at x = the-then h (named-then .0) some-name "name" (sym (named-then .1)) _
 
-    method-no : (x : Tree) (k b : ℕ) → arguments I (toksAt t (d .start)) ≡ refused k b → methodOf I x (toksAt t (c .start)) ≡ refused k b
+    method-no : (x : Tree) (k b : ℕ) → arguments I (toksAt t (d .start)) ≡ refused k b → methodOf I l x (toksAt t (c .start)) ≡ refused k b
     unfolding _>>=_
     method-no x k b e = method-at x ∙ (rw e)
 
     -- the arguments are refused
     pub method-refuses : (o₁ : List ℕ) (i : Items) (r : Read) (k b : ℕ) → i ≡ part.Refused k b → r ≡ refusalOf i → MeetsItems t (arguments I (toksAt t (d .start))) m o i o₁
-        → MeetsTurns t (λ x. methodOf I x (toksAt t (c .start))) n m o c r o₁
+        → MeetsTurns t (λ x. methodOf I l x (toksAt t (c .start))) n m o c r o₁
     method-refuses o₁ i r k b e q j =
         let f : arguments I (toksAt t (d .start)) ≡ refused k b = (rw e at j) in
-        turn-refuses t (λ x. methodOf I x (toksAt t (c .start))) n m o o₁ c r k b (q ∙ ap refusalOf e) (λ x. method-no x k b f)
+        turn-refuses t (λ x. methodOf I l x (toksAt t (c .start))) n m o o₁ c r k b (q ∙ ap refusalOf e) (λ x. method-no x k b f)
 
     module _ (e : Cursor) (k count : ℕ) (τ : Texts) (o₁ : List ℕ) (j : ReadsItems t (arguments I (toksAt t (d .start))) m o e k count τ o₁) where
-      method-in : (x : Tree) → methodOf I x (toksAt t (c .start)) ≡ (method x (tokenAt t c) (j .items) >>= λ y. give (again y)) (toksAt t (e .start))
+      method-in : (x : Tree) → methodOf I l x (toksAt t (c .start)) ≡ (method l x (tokenAt t c) (j .items) >>= λ y. give (again y)) (toksAt t (e .start))
       unfolding _>>=_
       method-in x = method-at x ∙ (rw (j .is))
 
       -- no such method
       pub method-none : (κ : ℕ) → κ ≡ methodKind (tokenAt t c .text) count → κ ≡ 0 → (o₂ : List ℕ)
-          → MeetsTurns t (λ x. methodOf I x (toksAt t (c .start))) n m o c (Refused 10 (c .start)) o₂
+          → MeetsTurns t (λ x. methodOf I l x (toksAt t (c .start))) n m o c (Refused 10 (c .start)) o₂
       unfolding _>>=_
       method-none κ q z o₂ =
           let v : methodKind (tokenAt t c .text) (parts (j .items)) ≡ 0 = ap (methodKind (tokenAt t c .text)) (sym (j .parts-are)) ∙ (sym q ∙ z) in
-          (λ x s g. let y = method-yields x (tokenAt t c) (j .items) (toksAt t (e .start)) .1 v in method-in x ∙ (rw y), tt)
+          (λ x s g. let y = method-yields l x (tokenAt t c) (j .items) (toksAt t (e .start)) .1 v in method-in x ∙ (rw y), tt)
 
       module _ (room : Room t c m) (low : n < m) where
         pub method-numbers : (n < k) × (k < 50000) × (k + 1 + 3 * length (toksAt t (e .start)) ≤ 50000) × (length (toksAt t (e .start)) < length (toksAt t (c .start))) × (count < 50000)
         method-numbers =
-            let l = arguments-spare I sizes-in .bound (toksAt t (d .start)) (j .items) (toksAt t (e .start)) (j .is) in
-            omega (arith, l, named-then .0 .fewer some-name, room, low, j .counts, j .parts-are, parts-few (j .items))
+            let spare = arguments-spare I sizes-in .bound (toksAt t (d .start)) (j .items) (toksAt t (e .start)) (j .is) in
+            omega (arith, spare, named-then .0 .fewer some-name, room, low, j .counts, j .parts-are, parts-few (j .items))
 
-        pub method-reads : (κ : ℕ) → κ ≡ methodKind (tokenAt t c .text) count → (κ ≡ 0 → ⊥) → (o₂ : List ℕ) → o₂ ≡ putRow o₁ k (row κ (k - n + 1) (count + 1) unused)
-            → MeetsTurns t (λ x. methodOf I x (toksAt t (c .start))) n m o c (Done e (k + 1) 0) o₂
+        pub method-reads : (κ : ℕ) → κ ≡ methodKind (tokenAt t c .text) count → (κ ≡ 0 → ⊥) → (o₂ : List ℕ) → o₂ ≡ putRow o₁ k (row κ (k - n + 1) (count + 1) unused l)
+            → MeetsTurns t (λ x. methodOf I l x (toksAt t (c .start))) n m o c (Done e (k + 1) 0) o₂
         unfolding _>>=_ give
         method-reads κ q z o₂ u =
             (λ x s g. turn x s g, ((j .holds, method-numbers .2), omega (arith, method-numbers), method-numbers .3))
@@ -224,23 +224,23 @@ module _ (I : Option (Reader Tree)) (sizes-in : EachSized I) (t : List ℕ) (c :
             kind-is : κ ≡ methodKind (tokenAt t c .text) (parts (j .items))
             kind-is = q ∙ ap (methodKind (tokenAt t c .text)) (j .parts-are)
 
-            made : (x : Tree) → (method x (tokenAt t c) (j .items) (toksAt t (e .start)) ≡ ok (node κ [] unused (x ▹ j .items)) (toksAt t (e .start))) × (κ ≡ 5 → ⊥)
-            made x = subst (λ (i : ℕ). (i ≡ 0 → ⊥) → (method x (tokenAt t c) (j .items) (toksAt t (e .start)) ≡ ok (node i [] unused (x ▹ j .items)) (toksAt t (e .start))) × (i ≡ 5 → ⊥))
-                (sym kind-is) (method-yields x (tokenAt t c) (j .items) (toksAt t (e .start)) .0) z
+            made : (x : Tree) → (method l x (tokenAt t c) (j .items) (toksAt t (e .start)) ≡ ok (node κ l [] unused (x ▹ j .items)) (toksAt t (e .start))) × (κ ≡ 5 → ⊥)
+            made x = subst (λ (i : ℕ). (i ≡ 0 → ⊥) → (method l x (tokenAt t c) (j .items) (toksAt t (e .start)) ≡ ok (node i l [] unused (x ▹ j .items)) (toksAt t (e .start))) × (i ≡ 5 → ⊥))
+                (sym kind-is) (method-yields l x (tokenAt t c) (j .items) (toksAt t (e .start)) .0) z
 
-            turn : (x : Tree) (s : List ℕ) → Tops n s x m o → ReadsTurn t (methodOf I x (toksAt t (c .start))) n s e (k + 1) o₂
+            turn : (x : Tree) (s : List ℕ) → Tops n s x m o → ReadsTurn t (methodOf I l x (toksAt t (c .start))) n s e (k + 1) o₂
             turn x s g =
                 let b : Before n s (x ▹ j .items) k o₁ = record {
                   counts = omega (arith, g .counts, j .counts, sizes-front x (j .items));
                   writes = j .writes ∙ (put-rows-same (g .writes) (g .counts) refl ∙ sym (put-front s n x (j .items)));
                 } in
                 record {
-                  tree = node κ [] unused (x ▹ j .items);
+                  tree = node κ l [] unused (x ▹ j .items);
                   is = method-in x ∙ (rw (made x .0));
                   tops =
                       record {
-                        counts = omega (arith, b .counts, size-node κ [] unused (x ▹ j .items));
-                        writes = before-node κ [] unused b (omega (arith, b .counts)) (omega (arith, j .parts-are)) u;
+                        counts = omega (arith, b .counts, size-node κ l [] unused (x ▹ j .items));
+                        writes = before-node κ l [] unused b (omega (arith, b .counts)) (omega (arith, j .parts-are)) u;
                         unquoted = made x .1;
                       };
                   holds = j .holds;
@@ -254,8 +254,8 @@ bracket-is k e z =
     let f : eqb 44 k ≡ true = ap (λ (b : Bool). b || eqb 44 k) (sym (ne-eqb 47 k (λ y. z (sym y)))) ∙ e in
     sym (eqb-true 44 k f)
 
-module _ (W : Words) (dep : ℕ) (t : List ℕ) (c d : Cursor) (h : Holds t c) (w : Follows t c d) where
-  pub postfix-dot : c .code ≡ 47 → (x : Tree) → postfixTurn (inner W dep) x (toksAt t (c .start)) ≡ methodOf (inner W dep) x (toksAt t (d .start))
+module _ (W : Words) (dep l : ℕ) (t : List ℕ) (c d : Cursor) (h : Holds t c) (w : Follows t c d) where
+  pub postfix-dot : c .code ≡ 47 → (x : Tree) → postfixTurn (inner W dep) l x (toksAt t (c .start)) ≡ methodOf (inner W dep) l x (toksAt t (d .start))
   unfolding postfixTurn code
   postfix-dot e x = peek-is h _ ∙ (rw (eq-eqb 47 (c .code) (sym e)) (read-next w (λ z. omega (arith, z, e)) _))
 
@@ -263,14 +263,14 @@ module _ (W : Words) (dep : ℕ) (t : List ℕ) (c d : Cursor) (h : Holds t c) (
     here : c .code ≡ 44
     here = bracket-is (c .code) sign other
 
-    postfix-in : (x : Tree) → postfixTurn (inner W dep) x (toksAt t (c .start)) ≡ deeper (tokenAt t c) (inner W dep) (λ p. read >> indexOf p x) (toksAt t (c .start))
+    postfix-in : (x : Tree) → postfixTurn (inner W dep) l x (toksAt t (c .start)) ≡ deeper (tokenAt t c) (inner W dep) (λ p. read >> indexOf p l x) (toksAt t (c .start))
     unfolding postfixTurn code
     postfix-in x = peek-is h _ ∙ (rw (ne-eqb 47 (c .code) (λ z. other (sym z)), eq-eqb 44 (c .code) (sym here)))
 
-    pub postfix-low : dep ≡ 0 → (n m : ℕ) (o o₂ : List ℕ) → MeetsTurns t (λ x. postfixTurn (inner W dep) x (toksAt t (c .start))) n m o c (Refused 15 (c .start)) o₂
+    pub postfix-low : dep ≡ 0 → (n m : ℕ) (o o₂ : List ℕ) → MeetsTurns t (λ x. postfixTurn (inner W dep) l x (toksAt t (c .start))) n m o c (Refused 15 (c .start)) o₂
     postfix-low e n m o o₂ = (λ x z g. postfix-in x ∙ deeper-none (tokenAt t c) W dep _ _ e, tt)
 
-    pub postfix-index : (dep ≡ 0 → ⊥) → (x : Tree) → postfixTurn (inner W dep) x (toksAt t (c .start)) ≡ indexOf (primary W (dep - 1)) x (toksAt t (d .start))
+    pub postfix-index : (dep ≡ 0 → ⊥) → (x : Tree) → postfixTurn (inner W dep) l x (toksAt t (c .start)) ≡ indexOf (primary W (dep - 1)) l x (toksAt t (d .start))
     postfix-index z x = postfix-in x ∙ (deeper-some (tokenAt t c) W dep _ _ z ∙ read-next w (λ y. omega (arith, y, here)) _)
 
   -- the sign is read
@@ -282,25 +282,25 @@ module _ (W : Words) (dep : ℕ) (t : List ℕ) (c d : Cursor) (h : Holds t c) (
 
 -- ---- all postfixes
 
--- the tree so far, and that the loop from here gives the whole reading R
-pub record PostChain (I : Option (Reader Tree)) (t : List ℕ) (R : Out Tree) (n : ℕ) (o : List ℕ) (c : Cursor) (m : ℕ) (o′ : List ℕ) : Type 0 where
+-- the tree so far, of a text that begins at l, and that the loop from here gives the whole reading R
+pub record PostChain (I : Option (Reader Tree)) (l : ℕ) (t : List ℕ) (R : Out Tree) (n : ℕ) (o : List ℕ) (c : Cursor) (m : ℕ) (o′ : List ℕ) : Type 0 where
   pub tree : Tree
-  pub is : R ≡ loop (postfixTurn I) tree (toksAt t (c .start))
+  pub is : R ≡ loop (postfixTurn I l) tree (toksAt t (c .start))
   pub tops : Tops n o tree m o′
 
 -- what is no String node
 plain-string : (t : List ℕ) (y : Tree) → Unquoted y → (0 ≡ stringAt y) × Quoted t y
-plain-string t (node k x (fields a b c d) ts) h = (rw (ne-eqb k 5 h), λ e. absurd (h e))
+plain-string t (node k l x (fields a b c d) ts) h = (rw (ne-eqb k 5 h), λ e. absurd (h e))
 
-module _ (I : Option (Reader Tree)) (each : Each I) (t : List ℕ) where
+module _ (I : Option (Reader Tree)) (each : Each I) (l : ℕ) (t : List ℕ) where
   -- where the loop begins
-  pub post-enter : (x : Tree) (n : ℕ) (o : List ℕ) (c : Cursor) (m : ℕ) (o′ : List ℕ) → Tops n o x m o′ → PostChain I t (postfixes I x (toksAt t (c .start))) n o c m o′
+  pub post-enter : (x : Tree) (n : ℕ) (o : List ℕ) (c : Cursor) (m : ℕ) (o′ : List ℕ) → Tops n o x m o′ → PostChain I l t (postfixes I l x (toksAt t (c .start))) n o c m o′
   unfolding postfixes
   post-enter x n o c m o′ h = record { tree = x; is = refl; tops = h }
 
-  module _ (R : Out Tree) (n : ℕ) (o : List ℕ) (c : Cursor) (m : ℕ) (o′ : List ℕ) (ch : PostChain I t R n o c m o′) where
-    turn-of : R ≡ follow (loop (postfixTurn I)) (postfixTurn I (ch .tree) (toksAt t (c .start)))
-    turn-of = ch .is ∙ loop-eq (postfixTurn-law I each) (ch .tree) (toksAt t (c .start))
+  module _ (R : Out Tree) (n : ℕ) (o : List ℕ) (c : Cursor) (m : ℕ) (o′ : List ℕ) (ch : PostChain I l t R n o c m o′) where
+    turn-of : R ≡ follow (loop (postfixTurn I l)) (postfixTurn I l (ch .tree) (toksAt t (c .start)))
+    turn-of = ch .is ∙ loop-eq (postfixTurn-law I each l) (ch .tree) (toksAt t (c .start))
 
     -- no sign: the loop ends
     pub post-exit : Holds t c → postfixSign (c .code) ≡ false → Reads t R n o c m 0 o′
@@ -309,7 +309,7 @@ module _ (I : Option (Reader Tree)) (each : Each I) (t : List ℕ) where
         let s = plain-string t (ch .tree) (ch .tops .unquoted) in
         let dot : eqb 47 (c .code) ≡ false = or-left (eqb 47 (c .code)) (eqb 44 (c .code)) z in
         let bracket : eqb 44 (c .code) ≡ false = or-right (eqb 47 (c .code)) (eqb 44 (c .code)) z in
-        let q : postfixTurn I (ch .tree) (toksAt t (c .start)) ≡ ok (done (ch .tree)) (toksAt t (c .start)) = peek-is h _ ∙ (rw (dot, bracket)) in
+        let q : postfixTurn I l (ch .tree) (toksAt t (c .start)) ≡ ok (done (ch .tree)) (toksAt t (c .start)) = peek-is h _ ∙ (rw (dot, bracket)) in
         record {
           tree = ch .tree;
           is = turn-of ∙ (rw q);
@@ -328,20 +328,20 @@ module _ (I : Option (Reader Tree)) (each : Each I) (t : List ℕ) where
         or-right true b e = absurd (true≢false e)
         or-right false b e = e
 
-    module _ (r : Read) (o₂ : List ℕ) (turn : MeetsTurns t (λ x. postfixTurn I x (toksAt t (c .start))) n m o′ c r o₂) where
-      g : MeetsTurn t (postfixTurn I (ch .tree) (toksAt t (c .start))) n o r o₂
+    module _ (r : Read) (o₂ : List ℕ) (turn : MeetsTurns t (λ x. postfixTurn I l x (toksAt t (c .start))) n m o′ c r o₂) where
+      g : MeetsTurn t (postfixTurn I l (ch .tree) (toksAt t (c .start))) n o r o₂
       g = turn .0 (ch .tree) o (ch .tops)
 
       pub post-refused : (k b : ℕ) → r ≡ Refused k b → Meets t R n o r o₂
-      post-refused k b e = rw e (turn-of ∙ ap (follow (loop (postfixTurn I))) f)
+      post-refused k b e = rw e (turn-of ∙ ap (follow (loop (postfixTurn I l))) f)
         where
-          f : postfixTurn I (ch .tree) (toksAt t (c .start)) ≡ refused k b
+          f : postfixTurn I l (ch .tree) (toksAt t (c .start)) ≡ refused k b
           f = rw e at g
 
-      pub post-more : (d : Cursor) (j q : ℕ) → r ≡ Done d j q → PostChain I t R n o d j o₂
+      pub post-more : (d : Cursor) (j q : ℕ) → r ≡ Done d j q → PostChain I l t R n o d j o₂
       post-more d j q e = record { tree = f .tree; is = turn-of ∙ (rw (f .is)); tops = f .tops }
         where
-          f : ReadsTurn t (postfixTurn I (ch .tree) (toksAt t (c .start))) n o d j o₂
+          f : ReadsTurn t (postfixTurn I l (ch .tree) (toksAt t (c .start))) n o d j o₂
           f = rw e at g
 
 -- ---- names
@@ -356,13 +356,13 @@ call-low w = row-says (λ c. c .0 < 32) w calls (omega arith) (omega arith, (ome
 module _ (W : Words) (I : Option (Reader Tree)) (u : Token) (ts : List Token) where
   abbrev Named : ℕ → Reader Tree → Type 0
   Named κ R =
-      (κ ≡ 0 → R ts ≡ (named W u >>= postfixes I) ts)
-      × (32 ≤ κ → R ts ≡ specialOf W κ ts)
+      (κ ≡ 0 → R ts ≡ (named W u >>= postfixes I (u .from)) ts)
+      × (32 ≤ κ → R ts ≡ specialOf W κ (u .from) ts)
       × (1 ≤ κ → κ < 32 → R ts ≡ call W I u (callOf (u .text) calls) ts)
 
   named-by : (k : ℕ) → k < 32 → (a b c d : Bool) → leb 1 k ≡ a
       → Named (if a then k else if b then 32 else if c then 34 else if d then 35 else 0)
-      (if a then call W I u (callOf (u .text) calls) else if b then spot W else if c then df else if d then rateIndex else (named W u >>= postfixes I))
+      (if a then call W I u (callOf (u .text) calls) else if b then spot W (u .from) else if c then df (u .from) else if d then rateIndex (u .from) else (named W u >>= postfixes I (u .from)))
   named-by k l true b c d e = (λ z. absurd (omega (arith, z, leb-true 1 k e)), λ z. absurd (omega (arith, z, l)), λ y z. refl)
   named-by k l false true c d e = (λ z. absurd (omega (arith, z)), λ z. refl, λ y z. absurd (omega (arith, z)))
   named-by k l false false true d e = (λ z. absurd (omega (arith, z)), λ z. refl, λ y z. absurd (omega (arith, z)))
@@ -403,7 +403,7 @@ module _ (res cur cou : List ℕ) (I : Option (Reader Tree)) (t : List ℕ) (c d
   name-refuses z o₁ r k b e h =
       let f : named (wordsIn res [] []) (tokenAt t c) (toksAt t (d .start)) ≡ refused k b = (rw e at h) in
       let g : named (wordsIn res cur cou) (tokenAt t c) (toksAt t (d .start)) ≡ refused k b = ap (λ (R : Reader Tree). R (toksAt t (d .start))) (sym named-same) ∙ f in
-      rw e (Facts .0 (sym ki ∙ z) ∙ bind-refused (named (wordsIn res cur cou) (tokenAt t c)) (postfixes I) (toksAt t (d .start)) k b g)
+      rw e (Facts .0 (sym ki ∙ z) ∙ bind-refused (named (wordsIn res cur cou) (tokenAt t c)) (postfixes I (c .start)) (toksAt t (d .start)) k b g)
 
   module _ (f : Cursor) (m q : ℕ) (o₁ : List ℕ) (r : Reads t (named (wordsIn res [] []) (tokenAt t c) (toksAt t (d .start))) n o f m q o₁) where
     pub name-numbers : Room t c n → Follows t c d → c .code ≡ 1 → Ready t f m × (n < m)
@@ -413,7 +413,7 @@ module _ (res cur cou : List ℕ) (I : Option (Reader Tree)) (t : List ℕ) (c d
         ((r .holds, omega (arith, l, v, room, r .counts)), omega (arith, r .counts, size-some (r .tree)))
 
     -- a variable with postfixes
-    pub name-reads : κ ≡ 0 → (x : Read) (o₂ : List ℕ) → ((y : Tree) (s : List ℕ) → Tops n s y m o₁ → Meets t (postfixes I y (toksAt t (f .start))) n s x o₂)
+    pub name-reads : κ ≡ 0 → (x : Read) (o₂ : List ℕ) → ((y : Tree) (s : List ℕ) → Tops n s y m o₁ → Meets t (postfixes I (c .start) y (toksAt t (f .start))) n s x o₂)
         → Meets t (name (wordsIn res cur cou) I (tokenAt t c) (toksAt t (d .start))) n o x o₂
     unfolding _>>=_
     name-reads z x o₂ h =
@@ -423,18 +423,18 @@ module _ (res cur cou : List ℕ) (I : Option (Reader Tree)) (t : List ℕ) (c d
           writes = r .writes;
           unquoted = named-plain (wordsIn res [] []) (tokenAt t c) (toksAt t (d .start)) (r .tree) (toksAt t (f .start)) (r .is);
         } in
-        meets-as t (name (wordsIn res cur cou) I (tokenAt t c) (toksAt t (d .start))) (postfixes I (r .tree) (toksAt t (f .start))) n o x o₂
-        (Facts .0 (sym ki ∙ z) ∙ ap (bind (postfixes I)) g) (h (r .tree) o tops)
+        meets-as t (name (wordsIn res cur cou) I (tokenAt t c) (toksAt t (d .start))) (postfixes I (c .start) (r .tree) (toksAt t (f .start))) n o x o₂
+        (Facts .0 (sym ki ∙ z) ∙ ap (bind (postfixes I (c .start))) g) (h (r .tree) o tops)
 
   -- Spot, Df, RateIndex
-  pub name-special : 32 ≤ κ → (x : Read) (o₂ : List ℕ) → Meets t (specialOf (wordsIn [] cur []) κ (toksAt t (d .start))) n o x o₂
+  pub name-special : 32 ≤ κ → (x : Read) (o₂ : List ℕ) → Meets t (specialOf (wordsIn [] cur []) κ (c .start) (toksAt t (d .start))) n o x o₂
       → Meets t (name (wordsIn res cur cou) I (tokenAt t c) (toksAt t (d .start))) n o x o₂
   name-special l x o₂ h =
-      let s : specialOf (wordsIn res cur cou) κ ≡ specialOf (wordsIn [] cur []) κ
-      = ap (λ (p : Reader Tree). if eqb κ 32 then p else if eqb κ 34 then df else rateIndex) (sym spot-same) in
-      let g : name (wordsIn res cur cou) I (tokenAt t c) (toksAt t (d .start)) ≡ specialOf (wordsIn res cur cou) κ (toksAt t (d .start))
-      = Facts .1 (omega (arith, l, ki)) ∙ ap (λ (i : ℕ). specialOf (wordsIn res cur cou) i (toksAt t (d .start))) (sym ki) in
-      meets-as t (name (wordsIn res cur cou) I (tokenAt t c) (toksAt t (d .start))) (specialOf (wordsIn [] cur []) κ (toksAt t (d .start))) n o x o₂
+      let s : specialOf (wordsIn res cur cou) κ (c .start) ≡ specialOf (wordsIn [] cur []) κ (c .start)
+      = ap (λ (p : ℕ → Reader Tree). if eqb κ 32 then p (c .start) else if eqb κ 34 then df (c .start) else rateIndex (c .start)) (sym spot-same) in
+      let g : name (wordsIn res cur cou) I (tokenAt t c) (toksAt t (d .start)) ≡ specialOf (wordsIn res cur cou) κ (c .start) (toksAt t (d .start))
+      = Facts .1 (omega (arith, l, ki)) ∙ ap (λ (i : ℕ). specialOf (wordsIn res cur cou) i (c .start) (toksAt t (d .start))) (sym ki) in
+      meets-as t (name (wordsIn res cur cou) I (tokenAt t c) (toksAt t (d .start))) (specialOf (wordsIn [] cur []) κ (c .start) (toksAt t (d .start))) n o x o₂
       (g ∙ ap (λ (p : Reader Tree). p (toksAt t (d .start))) s) h
 
   -- an ordinary call

@@ -19,9 +19,9 @@ use Rattle.grammar.proofs.TreeLaws.{size-snoc}
 
 -- ---- how many
 
-pub size-node : (k : ℕ) (x : List ℕ) (f : Fields) (ts : Trees) → size (node k x f ts) ≡ suc (sizes ts)
+pub size-node : (k y : ℕ) (x : List ℕ) (f : Fields) (ts : Trees) → size (node k y x f ts) ≡ suc (sizes ts)
 unfolding size
-size-node k x f ts = refl
+size-node k y x f ts = refl
 
 pub sizes-nil : sizes nil ≡ 0
 unfolding size
@@ -31,20 +31,20 @@ pub sizes-front : (t : Tree) (ts : Trees) → sizes (t ▹ ts) ≡ size t + size
 unfolding size
 sizes-front t ts = refl
 
-pub size-leaf : (k : ℕ) (x : List ℕ) (f : Fields) → size (node k x f nil) ≡ 1
+pub size-leaf : (k y : ℕ) (x : List ℕ) (f : Fields) → size (node k y x f nil) ≡ 1
 unfolding size
-size-leaf k x f = refl
+size-leaf k y x f = refl
 
-pub size-one : (k : ℕ) (x : List ℕ) (f : Fields) (a : Tree) → size (node k x f (a ▹ nil)) ≡ suc (size a)
+pub size-one : (k y : ℕ) (x : List ℕ) (f : Fields) (a : Tree) → size (node k y x f (a ▹ nil)) ≡ suc (size a)
 unfolding size
-size-one k x f a = ap suc (add-zero (size a))
+size-one k y x f a = ap suc (add-zero (size a))
 
-pub size-two : (k : ℕ) (x : List ℕ) (f : Fields) (a b : Tree) → size (node k x f (a ▹ b ▹ nil)) ≡ suc (size a + size b)
+pub size-two : (k y : ℕ) (x : List ℕ) (f : Fields) (a b : Tree) → size (node k y x f (a ▹ b ▹ nil)) ≡ suc (size a + size b)
 unfolding size
-size-two k x f a b = ap (λ n. suc (size a + n)) (add-zero (size b))
+size-two k y x f a b = ap (λ n. suc (size a + n)) (add-zero (size b))
 
 pub size-some : (t : Tree) → 1 ≤ size t
-size-some (node k x f ts) = omega (arith, size-node k x f ts)
+size-some (node k y x f ts) = omega (arith, size-node k y x f ts)
 
 pub parts-few : (ts : Trees) → parts ts ≤ sizes ts
 parts-few nil = omega arith
@@ -54,7 +54,7 @@ mutual
   unfolding rows size
 
   pub rows-size : (t : Tree) → length (rows t) ≡ size t
-  rows-size (node k x f ts) = length-append (rowsOf ts) (row k (suc (sizes ts)) (parts ts) f ∷ []) ∙ omega (arith, rowsOf-size ts)
+  rows-size (node k y x f ts) = length-append (rowsOf ts) (row k (suc (sizes ts)) (parts ts) f y ∷ []) ∙ omega (arith, rowsOf-size ts)
 
   pub rowsOf-size : (ts : Trees) → length (rowsOf ts) ≡ sizes ts
   rowsOf-size nil = refl
@@ -62,9 +62,9 @@ mutual
 
 -- ---- the rows of one more part
 
-pub rows-node : (k : ℕ) (x : List ℕ) (f : Fields) (ts : Trees) → rows (node k x f ts) ≡ rowsOf ts ++ (row k (suc (sizes ts)) (parts ts) f ∷ [])
+pub rows-node : (k y : ℕ) (x : List ℕ) (f : Fields) (ts : Trees) → rows (node k y x f ts) ≡ rowsOf ts ++ (row k (suc (sizes ts)) (parts ts) f y ∷ [])
 unfolding rows
-rows-node k x f ts = refl
+rows-node k y x f ts = refl
 
 pub rowsOf-front : (t : Tree) (ts : Trees) → rowsOf (t ▹ ts) ≡ rows t ++ rowsOf ts
 unfolding rows
@@ -118,8 +118,8 @@ module _ (w : ℕ) where
 pub put-same : {o₁ o₂ : List ℕ} {n₁ n₂ : ℕ} {r₁ r₂ : List ℕ} → o₁ ≡ o₂ → n₁ ≡ n₂ → r₁ ≡ r₂ → putRow o₁ n₁ r₁ ≡ putRow o₂ n₂ r₂
 put-same p q r = cc
 
-pub row-same : (k : ℕ) (f : Fields) {n₁ n₂ m₁ m₂ : ℕ} → n₁ ≡ n₂ → m₁ ≡ m₂ → row k n₁ m₁ f ≡ row k n₂ m₂ f
-row-same k f p q = rw (p, q)
+pub row-same : (k : ℕ) (f : Fields) (y : ℕ) {n₁ n₂ m₁ m₂ : ℕ} → n₁ ≡ n₂ → m₁ ≡ m₂ → row k n₁ m₁ f y ≡ row k n₂ m₂ f y
+row-same k f y p q = rw (p, q)
 
 pub put-rows-same : {o₁ o₂ : List ℕ} {n₁ n₂ : ℕ} {rs₁ rs₂ : List (List ℕ)} → o₁ ≡ o₂ → n₁ ≡ n₂ → rs₁ ≡ rs₂ → putRows o₁ n₁ rs₁ ≡ putRows o₂ n₂ rs₂
 put-rows-same p q r = cc
@@ -146,43 +146,43 @@ put-single o n a = rw append-nil
 pub put-pair : (o : List ℕ) (n : ℕ) (a b : Tree) → putRows o n (rowsOf (a ▹ b ▹ nil)) ≡ putRows (putRows o n (rows a)) (n + size a) (rows b)
 put-pair o n a b = put-front o n a (b ▹ nil) ∙ put-single (putRows o n (rows a)) (n + size a) b
 
-pub put-node : (o : List ℕ) (n k : ℕ) (x : List ℕ) (f : Fields) (ts : Trees)
-    → putRows o n (rows (node k x f ts)) ≡ putRow (putRows o n (rowsOf ts)) (n + sizes ts) (row k (suc (sizes ts)) (parts ts) f)
-put-node o n k x f ts =
-    rw (rows-node k x f ts, putAll-append recordWidth o n (rowsOf ts) (row k (suc (sizes ts)) (parts ts) f ∷ []), putAll-one, rowsOf-size ts)
+pub put-node : (o : List ℕ) (n k y : ℕ) (x : List ℕ) (f : Fields) (ts : Trees)
+    → putRows o n (rows (node k y x f ts)) ≡ putRow (putRows o n (rowsOf ts)) (n + sizes ts) (row k (suc (sizes ts)) (parts ts) f y)
+put-node o n k y x f ts =
+    rw (rows-node k y x f ts, putAll-append recordWidth o n (rowsOf ts) (row k (suc (sizes ts)) (parts ts) f y ∷ []), putAll-one, rowsOf-size ts)
 
-pub put-leaf : (o : List ℕ) (n k : ℕ) (x : List ℕ) (f : Fields) → putRows o n (rows (node k x f nil)) ≡ putRow o n (row k 1 0 f)
-put-leaf o n k x f = put-node o n k x f nil ∙ rw (put-nil, sizes-nil, add-zero)
+pub put-leaf : (o : List ℕ) (n k y : ℕ) (x : List ℕ) (f : Fields) → putRows o n (rows (node k y x f nil)) ≡ putRow o n (row k 1 0 f y)
+put-leaf o n k y x f = put-node o n k y x f nil ∙ rw (put-nil, sizes-nil, add-zero)
 
-pub put-one-part : (o : List ℕ) (n k : ℕ) (x : List ℕ) (f : Fields) (a : Tree)
-    → putRows o n (rows (node k x f (a ▹ nil))) ≡ putRow (putRows o n (rows a)) (n + size a) (row k (suc (size a)) 1 f)
-put-one-part o n k x f a =
+pub put-one-part : (o : List ℕ) (n k y : ℕ) (x : List ℕ) (f : Fields) (a : Tree)
+    → putRows o n (rows (node k y x f (a ▹ nil))) ≡ putRow (putRows o n (rows a)) (n + size a) (row k (suc (size a)) 1 f y)
+put-one-part o n k y x f a =
     let q : sizes (a ▹ nil) ≡ size a = omega (arith, sizes-front a nil, sizes-nil) in
-    put-node o n k x f (a ▹ nil) ∙ rw (put-single, q)
+    put-node o n k y x f (a ▹ nil) ∙ rw (put-single, q)
 
-pub put-two : (o : List ℕ) (n k : ℕ) (x : List ℕ) (f : Fields) (a b : Tree)
-    → putRows o n (rows (node k x f (a ▹ b ▹ nil)))
-    ≡ putRow (putRows (putRows o n (rows a)) (n + size a) (rows b)) (n + size a + size b) (row k (suc (size a + size b)) 2 f)
-put-two o n k x f a b =
+pub put-two : (o : List ℕ) (n k y : ℕ) (x : List ℕ) (f : Fields) (a b : Tree)
+    → putRows o n (rows (node k y x f (a ▹ b ▹ nil)))
+    ≡ putRow (putRows (putRows o n (rows a)) (n + size a) (rows b)) (n + size a + size b) (row k (suc (size a + size b)) 2 f y)
+put-two o n k y x f a b =
     let q : sizes (a ▹ b ▹ nil) ≡ size a + size b = omega (arith, sizes-front a (b ▹ nil), sizes-front b nil, sizes-nil) in
     let p : n + (size a + size b) ≡ n + size a + size b = omega arith in
-    put-node o n k x f (a ▹ b ▹ nil) ∙ rw (put-pair, q, p)
+    put-node o n k y x f (a ▹ b ▹ nil) ∙ rw (put-pair, q, p)
 
 -- ---- the memory o₂ after a node, from the memory after its parts
 
-module _ (o : List ℕ) (n k : ℕ) (x : List ℕ) (f : Fields) {o₂ : List ℕ} where
-  pub after-leaf : o₂ ≡ putRow o n (row k 1 0 f) → o₂ ≡ putRows o n (rows (node k x f nil))
-  after-leaf e = e ∙ sym (put-leaf o n k x f)
+module _ (o : List ℕ) (n k y : ℕ) (x : List ℕ) (f : Fields) {o₂ : List ℕ} where
+  pub after-leaf : o₂ ≡ putRow o n (row k 1 0 f y) → o₂ ≡ putRows o n (rows (node k y x f nil))
+  after-leaf e = e ∙ sym (put-leaf o n k y x f)
 
   pub after-one : {m w : ℕ} {o₁ : List ℕ} (a : Tree) → m ≡ n + size a → o₁ ≡ putRows o n (rows a) → w ≡ suc (size a)
-      → o₂ ≡ putRow o₁ m (row k w 1 f) → o₂ ≡ putRows o n (rows (node k x f (a ▹ nil)))
-  after-one a p q r e = e ∙ put-same q p (row-same k f r refl) ∙ sym (put-one-part o n k x f a)
+      → o₂ ≡ putRow o₁ m (row k w 1 f y) → o₂ ≡ putRows o n (rows (node k y x f (a ▹ nil)))
+  after-one a p q r e = e ∙ put-same q p (row-same k f y r refl) ∙ sym (put-one-part o n k y x f a)
 
   pub after-two : {l m w : ℕ} {o₀ o₁ : List ℕ} (a b : Tree) → l ≡ n + size a → o₀ ≡ putRows o n (rows a) → m ≡ l + size b → o₁ ≡ putRows o₀ l (rows b)
-      → w ≡ suc (size a + size b) → o₂ ≡ putRow o₁ m (row k w 2 f) → o₂ ≡ putRows o n (rows (node k x f (a ▹ b ▹ nil)))
+      → w ≡ suc (size a + size b) → o₂ ≡ putRow o₁ m (row k w 2 f y) → o₂ ≡ putRows o n (rows (node k y x f (a ▹ b ▹ nil)))
   after-two {l} a b p q r s u e =
       let m-is : l + size b ≡ n + size a + size b = omega arith in
-      e ∙ put-same (s ∙ put-rows-same q p refl) (r ∙ m-is) (row-same k f u refl) ∙ sym (put-two o n k x f a b)
+      e ∙ put-same (s ∙ put-rows-same q p refl) (r ∙ m-is) (row-same k f y u refl) ∙ sym (put-two o n k y x f a b)
 
 -- ---- the parts that stand before
 
@@ -198,9 +198,9 @@ before-more {n} {o} {ts} t h e w =
     }
 
 -- the node of the parts before it
-pub before-node : {n m w v : ℕ} {o o₁ o₂ : List ℕ} {ts : Trees} (k : ℕ) (x : List ℕ) (f : Fields) → Before n o ts m o₁ → w ≡ suc (sizes ts) → v ≡ parts ts
-    → o₂ ≡ putRow o₁ m (row k w v f) → o₂ ≡ putRows o n (rows (node k x f ts))
-before-node {n} {o} {ts} k x f h p q e = e ∙ put-same (h .writes) (h .counts) (row-same k f p q) ∙ sym (put-node o n k x f ts)
+pub before-node : {n m w v : ℕ} {o o₁ o₂ : List ℕ} {ts : Trees} (k y : ℕ) (x : List ℕ) (f : Fields) → Before n o ts m o₁ → w ≡ suc (sizes ts) → v ≡ parts ts
+    → o₂ ≡ putRow o₁ m (row k w v f y) → o₂ ≡ putRows o n (rows (node k y x f ts))
+before-node {n} {o} {ts} k y x f h p q e = e ∙ put-same (h .writes) (h .counts) (row-same k f y p q) ∙ sym (put-node o n k y x f ts)
 
 -- ---- the words of the records
 
@@ -216,10 +216,10 @@ mutual
   unfolding rows records
 
   pub rows-flat : (t : Tree) → flat (rows t) ≡ records t
-  rows-flat (node k x f ts) =
-      flat-append (rowsOf ts) (row k (suc (sizes ts)) (parts ts) f ∷ [])
-      ∙ ap (λ l. l ++ (row k (suc (sizes ts)) (parts ts) f ++ [])) (rowsOf-flat ts)
-      ∙ ap (λ l. recordsOf ts ++ l) (append-nil (row k (suc (sizes ts)) (parts ts) f))
+  rows-flat (node k y x f ts) =
+      flat-append (rowsOf ts) (row k (suc (sizes ts)) (parts ts) f y ∷ [])
+      ∙ ap (λ l. l ++ (row k (suc (sizes ts)) (parts ts) f y ++ [])) (rowsOf-flat ts)
+      ∙ ap (λ l. recordsOf ts ++ l) (append-nil (row k (suc (sizes ts)) (parts ts) f y))
 
   pub rowsOf-flat : (ts : Trees) → flat (rowsOf ts) ≡ recordsOf ts
   rowsOf-flat nil = refl
@@ -231,8 +231,8 @@ pub data Wide (w : ℕ) : List (List ℕ) → Type 0 where
   none : Wide w []
   more : {r : List ℕ} {rs : List (List ℕ)} → length r ≡ w → Wide w rs → Wide w (r ∷ rs)
 
-pub row-length : (k n m : ℕ) (f : Fields) → length (row k n m f) ≡ recordWidth
-row-length k n m (fields a b c d) = refl
+pub row-length : (k n m : ℕ) (f : Fields) (y : ℕ) → length (row k n m f y) ≡ recordWidth
+row-length k n m (fields a b c d) y = refl
 
 pub wide-append : {w : ℕ} {rs ss : List (List ℕ)} → Wide w rs → Wide w ss → Wide w (rs ++ ss)
 wide-append none v = v
@@ -242,7 +242,7 @@ mutual
   unfolding rows
 
   pub rows-wide : (t : Tree) → Wide recordWidth (rows t)
-  rows-wide (node k x f ts) = wide-append (rowsOf-wide ts) (more (row-length k (suc (sizes ts)) (parts ts) f) none)
+  rows-wide (node k y x f ts) = wide-append (rowsOf-wide ts) (more (row-length k (suc (sizes ts)) (parts ts) f y) none)
 
   pub rowsOf-wide : (ts : Trees) → Wide recordWidth (rowsOf ts)
   rowsOf-wide nil = none
@@ -309,17 +309,18 @@ module _ (w : ℕ) (some : 0 < w) where
   pub put-first : (o : List ℕ) (rs : List (List ℕ)) → w * length rs ≤ length o → Wide w rs → putAll w o 0 rs ≡ flat rs ++ drop (w * length rs) o
   put-first o rs h v = put-all o 0 rs (omega arith) v ∙ rw (mul-zero, zero-add)
 
--- the seven words of a row, one store each
-pub put-seven : (o : List ℕ) (i a b c d e f g : ℕ)
-    → putWords o i (a ∷ b ∷ c ∷ d ∷ e ∷ f ∷ g ∷ []) ≡ set (set (set (set (set (set (set o i a) (i + 1) b) (i + 2) c) (i + 3) d) (i + 4) e) (i + 5) f) (i + 6) g
+-- the eight words of a row, one store each
+pub put-eight : (o : List ℕ) (i a b c d e f g h : ℕ)
+    → putWords o i (a ∷ b ∷ c ∷ d ∷ e ∷ f ∷ g ∷ h ∷ []) ≡ set (set (set (set (set (set (set (set o i a) (i + 1) b) (i + 2) c) (i + 3) d) (i + 4) e) (i + 5) f) (i + 6) g) (i + 7) h
 unfolding putWords
-put-seven o i a b c d e f g =
+put-eight o i a b c d e f g h =
     let i₂ : i + 1 + 1 ≡ i + 2 = omega arith in
     let i₃ : i + 2 + 1 ≡ i + 3 = omega arith in
     let i₄ : i + 3 + 1 ≡ i + 4 = omega arith in
     let i₅ : i + 4 + 1 ≡ i + 5 = omega arith in
     let i₆ : i + 5 + 1 ≡ i + 6 = omega arith in
-    rw (i₂, i₃, i₄, i₅, i₆)
+    let i₇ : i + 6 + 1 ≡ i + 7 = omega arith in
+    rw (i₂, i₃, i₄, i₅, i₆, i₇)
 
 -- the five words of an entry
 pub put-five : (o : List ℕ) (i a b c d e : ℕ)

@@ -118,16 +118,16 @@ pub compare-less : (k j : ℕ) → k ≡ 0 → comparator j ≡ true → 1 - j <
 compare-less k zero z y = absurd (true≢false (sym y))
 compare-less k (suc j) z y = omega arith
 
-module _ (p : Reader Tree) (short : Sized (sum p)) (t : List ℕ) (c : Cursor) (n : ℕ) (o : List ℕ) (room : Room t c n) where
+module _ (p : Reader Tree) (short : Sized (sum p)) (t : List ℕ) (c : Cursor) (n : ℕ) (o : List ℕ) (ready : Ready t c n) where
   comparison-refused : (k b : ℕ) → sum p (toksAt t (c .start)) ≡ refused k b → comparison p (toksAt t (c .start)) ≡ refused k b
   unfolding comparison
-  comparison-refused k b e = bind-refused (sum p) _ (toksAt t (c .start)) k b e
+  comparison-refused k b e = peek-is (ready .0) _ ∙ bind-refused (sum p) _ (toksAt t (c .start)) k b e
 
   module _ (d : Cursor) (m q : ℕ) (o′ : List ℕ) (r : Reads t (sum p (toksAt t (c .start))) n o d m q o′) where
     behind : comparison p (toksAt t (c .start))
-        ≡ ask (λ u. within 13 18 (u .kind)) (do u ← read; x ← sum p; give (binary (u .kind) (r .tree) x)) (give (r .tree)) (toksAt t (d .start))
+        ≡ ask (λ u. within 13 18 (u .kind)) (do u ← read; x ← sum p; give (binary (u .kind) (c .start) (r .tree) x)) (give (r .tree)) (toksAt t (d .start))
     unfolding comparison _>>=_
-    behind = rw (r .is)
+    behind = peek-is (ready .0) _ ∙ (rw (r .is))
 
     -- none
     comparison-none : comparator (d .code) ≡ false → Reads t (comparison p (toksAt t (c .start))) n o d m q o′
@@ -149,9 +149,9 @@ module _ (p : Reader Tree) (short : Sized (sum p)) (t : List ℕ) (c : Cursor) (
       some-sign f = true≢false (sym z ∙ (ap comparator f))
 
       comparison-ready : Ready t e m
-      comparison-ready = (w .holds, omega (arith, reads-within t (sum p) short c n o d m q o′ r room, room, w .fewer some-sign))
+      comparison-ready = (w .holds, omega (arith, reads-within t (sum p) short c n o d m q o′ r (ready .1), ready .1, w .fewer some-sign))
 
-      second : comparison p (toksAt t (c .start)) ≡ (sum p >>= λ x. give (binary (d .code) (r .tree) x)) (toksAt t (e .start))
+      second : comparison p (toksAt t (c .start)) ≡ (sum p >>= λ x. give (binary (d .code) (c .start) (r .tree) x)) (toksAt t (e .start))
       second = behind ∙ ask-yes (r .holds) (λ u. within 13 18 (u .kind)) _ _ z ∙ read-then w some-sign _
 
       comparison-second : (k b : ℕ) → sum p (toksAt t (e .start)) ≡ refused k b → comparison p (toksAt t (c .start)) ≡ refused k b
@@ -160,18 +160,18 @@ module _ (p : Reader Tree) (short : Sized (sum p)) (t : List ℕ) (c : Cursor) (
       module _ (f : Cursor) (m₂ q₂ : ℕ) (o₂ : List ℕ) (r₂ : Reads t (sum p (toksAt t (e .start))) m o′ f m₂ q₂ o₂) where
         comparison-numbers : (n ≤ m₂) × (m₂ < 50000)
         comparison-numbers =
-            omega (arith, reads-within t (sum p) short c n o d m q o′ r room, reads-within t (sum p) short e m o′ f m₂ q₂ o₂ r₂ (comparison-ready .1), room, w .fewer some-sign, r .counts, r₂ .counts)
+            omega (arith, reads-within t (sum p) short c n o d m q o′ r (ready .1), reads-within t (sum p) short e m o′ f m₂ q₂ o₂ r₂ (comparison-ready .1), ready .1, w .fewer some-sign, r .counts, r₂ .counts)
 
-        comparison-one : (o₃ : List ℕ) → o₃ ≡ putRow o₂ m₂ (row (d .code) (m₂ - n + 1) 2 unused) → Reads t (comparison p (toksAt t (c .start))) n o f (m₂ + 1) 0 o₃
+        comparison-one : (o₃ : List ℕ) → o₃ ≡ putRow o₂ m₂ (row (d .code) (m₂ - n + 1) 2 unused (c .start)) → Reads t (comparison p (toksAt t (c .start))) n o f (m₂ + 1) 0 o₃
         unfolding _>>=_ give
         comparison-one o₃ g =
             let five : d .code ≡ 5 → ⊥ = λ h. true≢false (sym z ∙ (ap comparator h)) in
-            let b = binary-plain t (d .code) (r .tree) (r₂ .tree) five in
+            let b = binary-plain t (d .code) (c .start) (r .tree) (r₂ .tree) five in
             record {
-              tree = binary (d .code) (r .tree) (r₂ .tree);
+              tree = binary (d .code) (c .start) (r .tree) (r₂ .tree);
               is = second ∙ (rw (r₂ .is));
-              counts = omega (arith, size-two (d .code) [] unused (r .tree) (r₂ .tree), r .counts, r₂ .counts);
-              writes = after-two o n (d .code) [] unused (r .tree) (r₂ .tree) (r .counts) (r .writes) (r₂ .counts) (r₂ .writes) (omega (arith, r .counts, r₂ .counts)) g;
+              counts = omega (arith, size-two (d .code) (c .start) [] unused (r .tree) (r₂ .tree), r .counts, r₂ .counts);
+              writes = after-two o n (d .code) (c .start) [] unused (r .tree) (r₂ .tree) (r .counts) (r .writes) (r₂ .counts) (r₂ .writes) (omega (arith, r .counts, r₂ .counts)) g;
               holds = r₂ .holds;
               string = b .0;
               quoted = b .1;
@@ -182,9 +182,9 @@ module _ (p : Reader Tree) (short : Sized (sum p)) (t : List ℕ) (c : Cursor) (
   compare-first = (λ z. record { e-is = refl; m-is = refl; o-is = refl }, λ z. absurd (z refl))
 
   module _ (k : ℕ) (e : Cursor) (m : ℕ) (o′ : List ℕ) (w : Compares p t c n o k e m o′) where
-    pub compare-ready : Holds t c → Ready t e m
-    compare-ready h =
-        by-sign k (λ z. rw (w .0 z .e-is, w .0 z .m-is) (h, room))
+    pub compare-ready : Ready t e m
+    compare-ready =
+        by-sign k (λ z. rw (w .0 z .e-is, w .0 z .m-is) ready)
         (λ z. comparison-ready (w .1 z .sign) m (w .1 z .q) o′ (w .1 z .left) (w .1 z .yes) e (w .1 z .follows))
 
     pub compare-refused : (f b : ℕ) → sum p (toksAt t (e .start)) ≡ refused f b → comparison p (toksAt t (c .start)) ≡ refused f b
@@ -198,16 +198,16 @@ module _ (p : Reader Tree) (short : Sized (sum p)) (t : List ℕ) (c : Cursor) (
 
       pub compare-numbers : (n ≤ m₂) × (m₂ ≤ 50000)
       compare-numbers =
-          by-sign k (λ z. omega (arith, alone z .counts, reads-within t (sum p) short c n o d m₂ q₂ o₂ (alone z) room))
+          by-sign k (λ z. omega (arith, alone z .counts, reads-within t (sum p) short c n o d m₂ q₂ o₂ (alone z) (ready .1)))
           (λ z. omega (arith, comparison-numbers (w .1 z .sign) m (w .1 z .q) o′ (w .1 z .left) (w .1 z .yes) e (w .1 z .follows) d m₂ q₂ o₂ r))
 
-      module _ (j : Joined) (o₃ : List ℕ) (J : Joins o₂ k n m₂ q₂ j o₃) where
+      module _ (j : Joined) (o₃ : List ℕ) (J : Joins o₂ k n m₂ q₂ (c .start) j o₃) where
         -- behind the second operand
         pub compare-last : (k ≡ 0 → ⊥) → Reads t (comparison p (toksAt t (c .start))) n o d (j .records) (j .string) o₃
         compare-last z =
             let B = w .1 z in
             let f = J .1 z in
-            let put : o₃ ≡ putRow o₂ m₂ (row (B .sign .code) (m₂ - n + 1) 2 unused) = f .2 ∙ ap (λ (x : ℕ). putRow o₂ m₂ (row x (m₂ - n + 1) 2 unused)) (sym (B .sign-is)) in
+            let put : o₃ ≡ putRow o₂ m₂ (row (B .sign .code) (m₂ - n + 1) 2 unused (c .start)) = f .2 ∙ ap (λ (x : ℕ). putRow o₂ m₂ (row x (m₂ - n + 1) 2 unused (c .start))) (sym (B .sign-is)) in
             rw (f .0, f .1) (comparison-one (B .sign) m (B .q) o′ (B .left) (B .yes) e (B .follows) d m₂ q₂ o₂ r o₃ put)
 
         module _ (z : k ≡ 0) where
@@ -263,9 +263,9 @@ pub follow-ready : (t : List ℕ) (c d : Cursor) (n : ℕ) → (c .code ≡ 0 �
 follow-ready t c d n some-token w r = ((w .holds, omega (arith, r .1, w .fewer some-token)), omega (arith, r .1, w .fewer some-token))
 
 -- the record of a node with no more than two fields
-pub put-fields : (o o₃ : List ℕ) (m k w v a b : ℕ) (x : Node) → x ≡ record { kind = k; nodes = w; parts = v; f1 = a; f2 = b; f3 = 0; f4 = 0 } → o₃ ≡ putRow o m (nodeRow x)
-    → o₃ ≡ putRow o m (row k w v (fields a b 0 0))
-put-fields o o₃ m k w v a b x e h = h ∙ ap (λ (y : Node). putRow o m (nodeRow y)) e
+pub put-fields : (o o₃ : List ℕ) (m k w v a b y : ℕ) (x : Node) → x ≡ record { kind = k; nodes = w; parts = v; f1 = a; f2 = b; f3 = 0; f4 = 0; place = y } → o₃ ≡ putRow o m (nodeRow x)
+    → o₃ ≡ putRow o m (row k w v (fields a b 0 0) y)
+put-fields o o₃ m k w v a b y x e h = h ∙ ap (λ (y : Node). putRow o m (nodeRow y)) e
 
 -- ---- the table of calls
 
@@ -346,30 +346,30 @@ module _ (W : Words) (t : List ℕ) (c : Cursor) (h : Holds t c) (depth : ℕ) w
         rw (primary-is W depth)
         (peek-is h _ ∙ (rw (ap (eqb 40) e, ap (eqb 8) e, ap (eqb 9) e) (read-next w (λ y. omega (arith, y, e)) (minus W (inner W depth) (tokenAt t c)))))
 
-    pub prim-minus-number : c .code ≡ 9 → d .code ≡ 2 → P ≡ literal true (toksAt t (d .start))
+    pub prim-minus-number : c .code ≡ 9 → d .code ≡ 2 → P ≡ literal (c .start) true (toksAt t (d .start))
     unfolding minus code
     prim-minus-number e f = minus-is e ∙ (peek-is (w .holds) _ ∙ (rw (ap (eqb 2) f) (sym (peek-is (w .holds) _))))
 
     pub prim-minus-0 : c .code ≡ 9 → (d .code ≡ 2 → ⊥) → depth ≡ 0 → P ≡ refused 15 (c .start)
     unfolding minus code
     prim-minus-0 e f z =
-        minus-is e ∙ (peek-is (w .holds) _ ∙ (rw (ne-eqb 2 (d .code) (λ y. f (sym y))) (deeper-none (tokenAt t c) W depth (negative W) (toksAt t (d .start)) z)))
+        minus-is e ∙ (peek-is (w .holds) _ ∙ (rw (ne-eqb 2 (d .code) (λ y. f (sym y))) (deeper-none (tokenAt t c) W depth (negative W (c .start)) (toksAt t (d .start)) z)))
 
-    pub prim-minus : c .code ≡ 9 → (d .code ≡ 2 → ⊥) → (depth ≡ 0 → ⊥) → P ≡ negative W (primary W (depth - 1)) (toksAt t (d .start))
+    pub prim-minus : c .code ≡ 9 → (d .code ≡ 2 → ⊥) → (depth ≡ 0 → ⊥) → P ≡ negative W (c .start) (primary W (depth - 1)) (toksAt t (d .start))
     unfolding minus code
     prim-minus e f z =
-        minus-is e ∙ (peek-is (w .holds) _ ∙ (rw (ne-eqb 2 (d .code) (λ y. f (sym y))) (deeper-some (tokenAt t c) W depth (negative W) (toksAt t (d .start)) z)))
+        minus-is e ∙ (peek-is (w .holds) _ ∙ (rw (ne-eqb 2 (d .code) (λ y. f (sym y))) (deeper-some (tokenAt t c) W depth (negative W (c .start)) (toksAt t (d .start)) z)))
 
 -- a negation: what was read, and the record behind it
-pub negate-reads : (W : Words) (p : Reader Tree) (t : List ℕ) (ts : List Token) (n : ℕ) (o : List ℕ) (e : Cursor) (m q : ℕ) (o₁ o₂ : List ℕ) → Reads t (p ts) n o e m q o₁
-    → o₂ ≡ putRow o₁ m (row 7 (m - n + 1) 1 unused) → Reads t (negative W p ts) n o e (m + 1) 0 o₂
+pub negate-reads : (W : Words) (y : ℕ) (p : Reader Tree) (t : List ℕ) (ts : List Token) (n : ℕ) (o : List ℕ) (e : Cursor) (m q : ℕ) (o₁ o₂ : List ℕ) → Reads t (p ts) n o e m q o₁
+    → o₂ ≡ putRow o₁ m (row 7 (m - n + 1) 1 unused y) → Reads t (negative W y p ts) n o e (m + 1) 0 o₂
 unfolding _>>=_ give
-negate-reads W p t ts n o e m q o₁ o₂ r w =
+negate-reads W y p t ts n o e m q o₁ o₂ r w =
     record {
-      tree = node 7 [] unused (r .tree ▹ nil);
+      tree = node 7 y [] unused (r .tree ▹ nil);
       is = rw (r .is);
-      counts = omega (arith, size-one 7 [] unused (r .tree), r .counts);
-      writes = after-one o n 7 [] unused (r .tree) (r .counts) (r .writes) (omega (arith, r .counts)) w;
+      counts = omega (arith, size-one 7 y [] unused (r .tree), r .counts);
+      writes = after-one o n 7 y [] unused (r .tree) (r .counts) (r .writes) (omega (arith, r .counts)) w;
       holds = r .holds;
       string = refl;
       quoted = λ z. absurd (omega arith);

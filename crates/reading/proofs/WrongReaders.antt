@@ -25,7 +25,7 @@ unfolding computing
 usd = record { reserved = []; currencies = bytes "USD\n"; counters = [] }
 
 pub two : List ℕ
-two = 0 ∷ 0 ∷ 0 ∷ 0 ∷ 0 ∷ 0 ∷ 0 ∷ 0 ∷ 0 ∷ 0 ∷ 0 ∷ 0 ∷ 0 ∷ 0 ∷ []
+two = 0 ∷ 0 ∷ 0 ∷ 0 ∷ 0 ∷ 0 ∷ 0 ∷ 0 ∷ 0 ∷ 0 ∷ 0 ∷ 0 ∷ 0 ∷ 0 ∷ 0 ∷ 0 ∷ []
 
 module _ (f : Call) (m : Reads f) where
   -- one that refuses all
@@ -50,7 +50,15 @@ module _ (f : Call) (m : Reads f) where
       let x = bytes "b;" in
       let y = bytes "1;" in
       let e : _≡_ {A = ℕ} 1 2 =
-      ap (λ (l : List ℕ). getD l 7 0) (sym (m usd (bytes "a;" ++ x) two two .records) ∙ h x y ∙ m usd (bytes "a;" ++ y) two two .records) in
+      ap (λ (l : List ℕ). getD l 8 0) (sym (m usd (bytes "a;" ++ x) two two .records) ∙ h x y ∙ m usd (bytes "a;" ++ y) two two .records) in
+      absurd (omega arith)
+
+  -- one that places every node where its statement begins
+  pub places-not-dropped : ((bs : List ℕ) → getD (f usd bs two two .1) 7 0 ≡ 0) → ⊥
+  unfolding computing usd two
+  places-not-dropped h =
+      let x = bytes "(a);" in
+      let e : _≡_ {A = ℕ} 1 0 = sym (ap (λ (l : List ℕ). getD l 7 0) (m usd x two two .records)) ∙ h x in
       absurd (omega arith)
 
   -- one whose token counts are invented, from the other counts

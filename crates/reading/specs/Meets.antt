@@ -84,11 +84,11 @@ Takes t k c (took.Not b) = theBy k (toksAt t (c .start)) ≡ refused 8 b
 
 -- where the content of a String node stands, 0 for any other node
 abbrev pub stringAt : Tree → ℕ
-stringAt (node k x (fields a b c d) ts) = if eqb k 5 then a else 0
+stringAt (node k l x (fields a b c d) ts) = if eqb k 5 then a else 0
 
 -- the bytes of a String node are those of the text up to the next quote
 abbrev pub Quoted : List ℕ → Tree → Type 0
-Quoted t (node k x (fields a b c d) ts) = k ≡ 5 → (1 ≤ a) × (x ≡ take (leading (other 34) (drop a t)) (drop a t)) × (a ≤ length t)
+Quoted t (node k l x (fields a b c d) ts) = k ≡ 5 → (1 ≤ a) × (x ≡ take (leading (other 34) (drop a t)) (drop a t)) × (a ≤ length t)
 
 -- The reading R of the text t, with n records before it and the memory o: a tree, the cursor c behind it, m records then, where its
 -- string stands, and the memory o′
@@ -110,11 +110,11 @@ abbrev pub MeetsNumber : List ℕ → Out ℕ → Number → Type 0
 MeetsNumber t R (number.Is d x) = Holds t d × (R ≡ ok x (toksAt t (d .start)))
 MeetsNumber t R (number.Refused k b) = R ≡ refused k b
 
--- a node without parts, which the code has not written yet
+-- a node without parts, which the code has not written yet, whatever bytes it names
 abbrev pub MeetsLeaf : List ℕ → Out Tree → Leaf → Type 0
 MeetsLeaf t R (leaf.Is d x) =
     Holds t d × (x .nodes ≡ 1) × (x .parts ≡ 0) × (x .kind ≡ 5 → ⊥)
-    × (R ≡ ok (node (x .kind) [] (fields (x .f1) (x .f2) (x .f3) (x .f4)) nil) (toksAt t (d .start)))
+    × ((s : List ℕ) × (R ≡ ok (node (x .kind) (x .place) s (fields (x .f1) (x .f2) (x .f3) (x .f4)) nil) (toksAt t (d .start))))
 MeetsLeaf t R (leaf.Refused k b) = R ≡ refused k b
 
 abbrev pub LeafHolds : List ℕ → Leaf → Type 0

@@ -52,7 +52,7 @@ firstName kind f1 f2 f3 =
 abbrev pub secondName : ℕ → ℕ → Name
 secondName kind f2 = if eqb kind 32 then Currency f2 else Nothing
 
--- a record has seven words: kind, nodes in subtree, direct parts, f1 to f4. Fewer are none, and those behind are not looked at.
+-- a record has eight words: kind, nodes in subtree, direct parts, f1 to f4, place. Fewer are none, and those behind are not looked at.
 -- Asked for its first name, or a Spot's second
 unfoldable pub nameIn : List ℕ → Bool → Name
 nameIn ws second =

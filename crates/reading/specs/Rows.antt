@@ -13,7 +13,7 @@ use Rattle.reading.specs.declared.records.Entry.{Entry}
 -- the records of a tree, in order
 unfoldable mutual
   pub rows : Tree → List (List ℕ)
-  rows (node k s f ts) = rowsOf ts ++ (row k (suc (sizes ts)) (parts ts) f ∷ [])
+  rows (node k p s f ts) = rowsOf ts ++ (row k (suc (sizes ts)) (parts ts) f p ∷ [])
 
   pub rowsOf : Trees → List (List ℕ)
   rowsOf nil = []
@@ -21,7 +21,7 @@ unfoldable mutual
 
 -- the words of a node as the code has it
 abbrev pub nodeRow : Node → List ℕ
-nodeRow x = row (x .kind) (x .nodes) (x .parts) (fields (x .f1) (x .f2) (x .f3) (x .f4))
+nodeRow x = row (x .kind) (x .nodes) (x .parts) (fields (x .f1) (x .f2) (x .f3) (x .f4)) (x .place)
 
 -- the words of an entry as the code has it
 abbrev pub entryRow : Entry → List ℕ

@@ -37,7 +37,7 @@ parenthesised W d u = deeper u (inner W d) (λ p. read >> parenthesis W p)
 
 -- a list with postfixes, whose `[` is the token u
 abbrev pub listPostfixed : Words → ℕ → Token → Reader Tree
-listPostfixed W d u = deeper u (inner W d) (λ p. read >> listed W p) >>= postfixes (inner W d)
+listPostfixed W d u = deeper u (inner W d) (λ p. read >> listed W (u .from) p) >>= postfixes (inner W d) (u .from)
 
 -- ---- what ends a pays
 
@@ -145,14 +145,14 @@ callFault counters k es =
     else if eqb k 25 then cvgFault counters es
     else 0
 
--- Spot, Df, RateIndex
-abbrev pub specialOf : Words → ℕ → Reader Tree
-specialOf W k = if eqb k 32 then spot W else if eqb k 34 then df else rateIndex
+-- Spot, Df, RateIndex, whose name is at b
+abbrev pub specialOf : Words → ℕ → ℕ → Reader Tree
+specialOf W k b = if eqb k 32 then spot W b else if eqb k 34 then df b else rateIndex b
 
 -- ---- postfixes
 
 abbrev pub Unquoted : Tree → Type 0
-Unquoted (node k x f ts) = k ≡ 5 → ⊥
+Unquoted (node k p x f ts) = k ≡ 5 → ⊥
 
 -- the records from n to m are those of the tree x, which is no String node
 pub record Tops (n : ℕ) (o : List ℕ) (x : Tree) (m : ℕ) (o′ : List ℕ) : Type 0 where

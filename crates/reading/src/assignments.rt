@@ -28,7 +28,7 @@ ghost use Rattle.reading.specs.Bodies.{MeetsTwice};
 // The record of the variable at c.
 fn name_node(c: Cursor) -> Node
     requires { ⌜ c .start ≤ c .end ⌝ }
-    ensures { λ r. ⌜ r ≡ record { kind = 1; nodes = 1; parts = 0; f1 = c .start; f2 = c .end - c .start; f3 = 0; f4 = 0 } ⌝ }
+    ensures { λ r. ⌜ r ≡ record { kind = 1; nodes = 1; parts = 0; f1 = c .start; f2 = c .end - c .start; f3 = 0; f4 = 0; place = c .start } ⌝ }
 {
     Node {
         kind: 1,
@@ -38,6 +38,7 @@ fn name_node(c: Cursor) -> Node
         f2: (c.end - c.start) as u32,
         f3: 0,
         f4: 0,
+        place: c.start as u32,
     }
 }
 
@@ -113,7 +114,7 @@ fn assign(
     let Read::Done(f, k, _) = q else {
         return q;
     };
-    put(out, k, plain(37, k - n + 1, 2));
+    put(out, k, plain(37, k - n + 1, 2, c.start));
     Read::Done(f, k + 1, 0)
 }
 
@@ -153,8 +154,8 @@ fn compound(
     let Read::Done(f, k, _) = q else {
         return q;
     };
-    put(out, k, plain(d.code - 20, k - n, 2));
-    put(out, k + 1, plain(37, k - n + 2, 2));
+    put(out, k, plain(d.code - 20, k - n, 2, c.start));
+    put(out, k + 1, plain(37, k - n + 2, 2, c.start));
     Read::Done(f, k + 2, 0)
 }
 
@@ -191,8 +192,8 @@ fn assign_paid(
     let Read::Done(f, k, _) = q else {
         return q;
     };
-    put(out, k, plain(8, k - n, 2));
-    put(out, k + 1, plain(37, k - n + 2, 2));
+    put(out, k, plain(8, k - n, 2, c.start));
+    put(out, k + 1, plain(37, k - n + 2, 2, c.start));
     Read::Done(f, k + 2, 0)
 }
 

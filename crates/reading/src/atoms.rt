@@ -34,10 +34,10 @@ pub fn take(s: &[u8], c: Cursor, code: u8) -> Took
     Took::Next(next(s, c))
 }
 
-// The number at c, negated where a minus stood before it.
-pub fn constant_at(s: &[u8], c: Cursor, minus: bool, out: &mut [u32], n: u32) -> Read
+// The number at c, negated where a minus stood before it; its text begins at the place.
+pub fn constant_at(s: &[u8], c: Cursor, minus: bool, place: u16, out: &mut [u32], n: u32) -> Read
     requires { ⌜ Ready (now s) c n × (c .code ≡ 2) ⌝ }
-    ensures { λ r. ⌜ Meets (now (s .entry)) (literal minus (toksAt (now (s .entry)) (c .start))) n (now (out .entry)) r (now (out .exit)) ⌝ }
+    ensures { λ r. ⌜ Meets (now (s .entry)) (literal place minus (toksAt (now (s .entry)) (c .start))) n (now (out .entry)) r (now (out .exit)) ⌝ }
 {
     let a = c.start as usize;
     let e = c.end as usize;
@@ -53,6 +53,7 @@ pub fn constant_at(s: &[u8], c: Cursor, minus: bool, out: &mut [u32], n: u32) ->
             f2: bits.low,
             f3: c.start as u32,
             f4: (c.end - c.start) as u32,
+            place: place as u32,
         },
     );
     Read::Done(next(s, c), n + 1, 0)
@@ -74,6 +75,7 @@ fn string_at(s: &[u8], c: Cursor, out: &mut [u32], n: u32) -> Read
             f2: (c.end - c.start - 2) as u32,
             f3: 0,
             f4: 0,
+            place: c.start as u32,
         },
     );
     Read::Done(next(s, c), n + 1, c.start + 1)
@@ -86,7 +88,7 @@ pub fn atom_at(s: &[u8], c: Cursor, out: &mut [u32], n: u32) -> Read
 {
     let code = c.code;
     if code == NUMBER {
-        return constant_at(s, c, false, out, n);
+        return constant_at(s, c, false, c.start, out, n);
     }
     if code == STRING {
         return string_at(s, c, out, n);
@@ -97,7 +99,7 @@ pub fn atom_at(s: &[u8], c: Cursor, out: &mut [u32], n: u32) -> Read
     if 4 < code {
         return Read::Refused(8, c.start);
     }
-    put(out, n, plain(code, 1, 0));
+    put(out, n, plain(code, 1, 0, c.start));
     Read::Done(next(s, c), n + 1, 0)
 }
 
@@ -122,6 +124,7 @@ pub fn variable_at(s: &[u8], reserved: &[u8], c: Cursor, d: Cursor, out: &mut [u
             f2: (c.end - c.start) as u32,
             f3: 0,
             f4: 0,
+            place: c.start as u32,
         },
     );
     Read::Done(d, n + 1, 0)

@@ -13,7 +13,7 @@ use tokens::names::place_in;
 ghost use mathlib.Core.Path.{_≡_};
 ghost use mathlib.Core.List.{[]};
 ghost use Prim.Native.Nat.{_-_, _≤_};
-ghost use Rattle.reading.specs.Meets.{wordsIn, toksAt, tokenAt, Holds};
+ghost use Rattle.reading.specs.Meets.{wordsIn, toksAt, Holds};
 ghost use Rattle.reading.specs.Bodies.{loopHead, MeetsHead, blockRefusal, blockRefused, numberRefusal};
 
 // A refusal of a block as one of a tree.
@@ -46,9 +46,9 @@ pub fn number_refusal(r: Number) -> Read
     }
 }
 
-// The record of an if.
-pub fn branch(nodes: u32, parts: u32, first_else: u32) -> Node
-    ensures { λ r. ⌜ r ≡ record { kind = 38; nodes = nodes; parts = parts; f1 = «first_else»; f2 = 0; f3 = 0; f4 = 0 } ⌝ }
+// The record of an if, whose word stands at the place.
+pub fn branch(place: u16, nodes: u32, parts: u32, first_else: u32) -> Node
+    ensures { λ r. ⌜ r ≡ record { kind = 38; nodes = nodes; parts = parts; f1 = «first_else»; f2 = 0; f3 = 0; f4 = 0; place = place } ⌝ }
 {
     Node {
         kind: 38,
@@ -58,13 +58,14 @@ pub fn branch(nodes: u32, parts: u32, first_else: u32) -> Node
         f2: 0,
         f3: 0,
         f4: 0,
+        place: place as u32,
     }
 }
 
-// The record of a for, whose variable stands at c.
-pub fn each(c: Cursor, nodes: u32, parts: u32) -> Node
+// The record of a for, whose word stands at the place, and its variable at c.
+pub fn each(place: u16, c: Cursor, nodes: u32, parts: u32) -> Node
     requires { ⌜ c .start ≤ c .end ⌝ }
-    ensures { λ r. ⌜ r ≡ record { kind = 39; nodes = nodes; parts = parts; f1 = c .start; f2 = c .end - c .start; f3 = 0; f4 = 0 } ⌝ }
+    ensures { λ r. ⌜ r ≡ record { kind = 39; nodes = nodes; parts = parts; f1 = c .start; f2 = c .end - c .start; f3 = 0; f4 = 0; place = place } ⌝ }
 {
     Node {
         kind: 39,
@@ -74,6 +75,7 @@ pub fn each(c: Cursor, nodes: u32, parts: u32) -> Node
         f2: (c.end - c.start) as u32,
         f3: 0,
         f4: 0,
+        place: place as u32,
     }
 }
 

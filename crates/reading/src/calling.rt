@@ -169,22 +169,32 @@ fn written(leaf: Leaf, out: &mut [u32], n: u32) -> Read
     }
 }
 
-// Spot, Df or RateIndex, by the kind of its record; c stands behind the name.
-pub fn special(s: &[u8], currencies: &[u8], kind: u8, c: Cursor, out: &mut [u32], n: u32) -> Read
+// Spot, Df or RateIndex, by the kind of its record: the name stands at the place, and c behind it.
+pub fn special(
+    s: &[u8],
+    currencies: &[u8],
+    kind: u8,
+    place: u16,
+    c: Cursor,
+    out: &mut [u32],
+    n: u32,
+) -> Read
     requires { ⌜ Ready (now s) c n × Few (now currencies) ⌝ }
-    ensures { λ r. ⌜ Meets (now (s .entry)) (specialOf (wordsIn [] (now (currencies .entry)) []) kind (toksAt (now (s .entry)) (c .start))) n (now (out .entry)) r (now (out .exit)) ⌝ }
+    ensures { λ r. ⌜ Meets (now (s .entry)) (specialOf (wordsIn [] (now (currencies .entry)) []) kind place (toksAt (now (s .entry)) (c .start))) n (now (out .entry)) r (now (out .exit)) ⌝ }
 {
     match kind {
-        32 => written(spot_at(s, currencies, c), out, n),
-        34 => written(df_at(s, c), out, n),
-        _ => written(rate_index_at(s, c), out, n),
+        32 => written(spot_at(s, currencies, place, c), out, n),
+        34 => written(df_at(s, place, c), out, n),
+        _ => written(rate_index_at(s, place, c), out, n),
     }
 }
 
-// Behind the parts of a pays: its date, its currency, and then its record. Its parts are the `count` trees from n to m.
+// Behind the parts of a pays: its date, its currency, and then its record. Its word stands at the place; its parts are the
+// `count` trees from n to m.
 pub fn payday_at(
     s: &[u8],
     currencies: &[u8],
+    place: u16,
     c: Cursor,
     out: &mut [u32],
     n: u32,
@@ -192,7 +202,7 @@ pub fn payday_at(
     count: u32,
 ) -> Read
     requires { ⌜ Ready (now s) c m × Few (now currencies) × (n ≤ m) ⌝ }
-    ensures { λ r. ⌜ ((es : Trees) (o : List ℕ) → Before n o es m (now (out .entry)) → count ≡ parts es → Meets (now (s .entry)) (payday (wordsIn [] (now (currencies .entry)) []) es (toksAt (now (s .entry)) (c .start))) n o r (now (out .exit))) ⌝ }
+    ensures { λ r. ⌜ ((es : Trees) (o : List ℕ) → Before n o es m (now (out .entry)) → count ≡ parts es → Meets (now (s .entry)) (payday (wordsIn [] (now (currencies .entry)) []) place es (toksAt (now (s .entry)) (c .start))) n o r (now (out .exit))) ⌝ }
 {
     match optional_date(s, c, ON) {
         Number::Refused(k, b) => Read::Refused(k, b),
@@ -210,6 +220,7 @@ pub fn payday_at(
                         f2: money,
                         f3: 0,
                         f4: 0,
+                        place: place as u32,
                     },
                 );
                 Read::Done(e, m + 1, 0)

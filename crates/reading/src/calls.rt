@@ -152,10 +152,10 @@ pub fn optional_currency(s: &[u8], currencies: &[u8], c: Cursor, sign: u8) -> Nu
     currency(s, currencies, next(s, c))
 }
 
-// An equity: the string at c is its name, and d stands behind it.
-fn equity_at(s: &[u8], c: Cursor, d: Cursor) -> Leaf
+// An equity: the string at c is its name, and d stands behind it. The word `Spot` stands at the place, as below.
+fn equity_at(s: &[u8], place: u16, c: Cursor, d: Cursor) -> Leaf
     requires { ⌜ Holds (now s) c × Follows (now s) c d × (c .code ≡ 5) ⌝ }
-    ensures { λ r. ⌜ MeetsLeaf (now (s .entry)) (equity (wordsIn [] [] []) (tokenAt (now (s .entry)) c) (toksAt (now (s .entry)) (d .start))) r ⌝ }
+    ensures { λ r. ⌜ MeetsLeaf (now (s .entry)) (equity (wordsIn [] [] []) place (tokenAt (now (s .entry)) c) (toksAt (now (s .entry)) (d .start))) r ⌝ }
 {
     match optional_date(s, d, COMMA) {
         Number::Refused(k, b) => Leaf::Refused(k, b),
@@ -169,30 +169,31 @@ fn equity_at(s: &[u8], c: Cursor, d: Cursor) -> Leaf
                 f2: (c.end - c.start - 2) as u32,
                 f3: day,
                 f4: 0,
+                place: place as u32,
             },
         ),
     }
 }
 
 // A pair of currencies, the first of which is known; c stands behind it.
-fn pair_at(s: &[u8], currencies: &[u8], first: u32, c: Cursor) -> Leaf
+fn pair_at(s: &[u8], currencies: &[u8], place: u16, first: u32, c: Cursor) -> Leaf
     requires { ⌜ Holds (now s) c × Few (now currencies) ⌝ }
-    ensures { λ r. ⌜ MeetsLeaf (now (s .entry)) (pair (wordsIn [] (now (currencies .entry)) []) first (toksAt (now (s .entry)) (c .start))) r ⌝ }
+    ensures { λ r. ⌜ MeetsLeaf (now (s .entry)) (pair (wordsIn [] (now (currencies .entry)) []) place first (toksAt (now (s .entry)) (c .start))) r ⌝ }
 {
     if c.code != COMMA {
-        return Leaf::Is(c, exchange(first, 1, 0));
+        return Leaf::Is(c, exchange(place, first, 1, 0));
     }
     match currency(s, currencies, next(s, c)) {
         Number::Refused(k, b) => Leaf::Refused(k, b),
         Number::Is(d, second) => match optional_date(s, d, COMMA) {
             Number::Refused(k, b) => Leaf::Refused(k, b),
-            Number::Is(e, day) => Leaf::Is(e, exchange(first, second, day)),
+            Number::Is(e, day) => Leaf::Is(e, exchange(place, first, second, day)),
         },
     }
 }
 
-fn exchange(first: u32, second: u32, day: u32) -> Node
-    ensures { λ r. ⌜ r ≡ record { kind = 32; nodes = 1; parts = 0; f1 = first; f2 = second; f3 = day; f4 = 0 } ⌝ }
+fn exchange(place: u16, first: u32, second: u32, day: u32) -> Node
+    ensures { λ r. ⌜ r ≡ record { kind = 32; nodes = 1; parts = 0; f1 = first; f2 = second; f3 = day; f4 = 0; place = place } ⌝ }
 {
     Node {
         kind: 32,
@@ -202,21 +203,22 @@ fn exchange(first: u32, second: u32, day: u32) -> Node
         f2: second,
         f3: day,
         f4: 0,
+        place: place as u32,
     }
 }
 
 // What stands behind the first string of a Spot, at c, up to its closing sign; d stands behind the string.
-fn spot_of(s: &[u8], currencies: &[u8], c: Cursor, d: Cursor) -> Leaf
+fn spot_of(s: &[u8], currencies: &[u8], place: u16, c: Cursor, d: Cursor) -> Leaf
     requires { ⌜ Holds (now s) c × Follows (now s) c d × (c .code ≡ 5) × Few (now currencies) ⌝ }
-    ensures { λ r. ⌜ MeetsLeaf (now (s .entry)) (spotOf (wordsIn [] (now (currencies .entry)) []) (tokenAt (now (s .entry)) c) (toksAt (now (s .entry)) (d .start))) r ⌝ }
+    ensures { λ r. ⌜ MeetsLeaf (now (s .entry)) (spotOf (wordsIn [] (now (currencies .entry)) []) place (tokenAt (now (s .entry)) c) (toksAt (now (s .entry)) (d .start))) r ⌝ }
 {
     let a = c.start as usize + 1;
     let e = c.end as usize - 1;
-    let place = place_in(currencies, &s[a..e]);
-    if place == 0 {
-        return equity_at(s, c, d);
+    let number = place_in(currencies, &s[a..e]);
+    if number == 0 {
+        return equity_at(s, place, c, d);
     }
-    pair_at(s, currencies, place as u32, d)
+    pair_at(s, currencies, place, number as u32, d)
 }
 
 // A leaf and its closing sign.
@@ -234,26 +236,26 @@ fn closed(s: &[u8], leaf: Leaf) -> Leaf
 }
 
 // Spot, behind its name.
-pub fn spot_at(s: &[u8], currencies: &[u8], c: Cursor) -> Leaf
+pub fn spot_at(s: &[u8], currencies: &[u8], place: u16, c: Cursor) -> Leaf
     requires { ⌜ Holds (now s) c × Few (now currencies) ⌝ }
-    ensures { λ r. ⌜ MeetsLeaf (now (s .entry)) (spot (wordsIn [] (now (currencies .entry)) []) (toksAt (now (s .entry)) (c .start))) r ⌝ }
+    ensures { λ r. ⌜ MeetsLeaf (now (s .entry)) (spot (wordsIn [] (now (currencies .entry)) []) place (toksAt (now (s .entry)) (c .start))) r ⌝ }
 {
     match take(s, c, OPEN_PAREN) {
         Took::Not(b) => Leaf::Refused(8, b),
         Took::Next(name) => match take(s, name, STRING) {
             Took::Not(b) => Leaf::Refused(8, b),
-            Took::Next(d) => closed(s, spot_of(s, currencies, name, d)),
+            Took::Next(d) => closed(s, spot_of(s, currencies, place, name, d)),
         },
     }
 }
 
 // What stands behind the date of a Df, up to its closing sign.
-fn curve_at(s: &[u8], day: u32, c: Cursor) -> Leaf
+fn curve_at(s: &[u8], place: u16, day: u32, c: Cursor) -> Leaf
     requires { ⌜ Holds (now s) c ⌝ }
-    ensures { λ r. ⌜ MeetsLeaf (now (s .entry)) (curve day (toksAt (now (s .entry)) (c .start))) r ⌝ }
+    ensures { λ r. ⌜ MeetsLeaf (now (s .entry)) (curve place day (toksAt (now (s .entry)) (c .start))) r ⌝ }
 {
     if c.code != COMMA {
-        return Leaf::Is(c, discount(day, 0, 0));
+        return Leaf::Is(c, discount(place, day, 0, 0));
     }
     let name = next(s, c);
     match take(s, name, STRING) {
@@ -261,6 +263,7 @@ fn curve_at(s: &[u8], day: u32, c: Cursor) -> Leaf
         Took::Next(d) => Leaf::Is(
             d,
             discount(
+                place,
                 day,
                 (name.start + 1) as u32,
                 (name.end - name.start - 2) as u32,
@@ -269,8 +272,8 @@ fn curve_at(s: &[u8], day: u32, c: Cursor) -> Leaf
     }
 }
 
-fn discount(day: u32, start: u32, length: u32) -> Node
-    ensures { λ r. ⌜ r ≡ record { kind = 34; nodes = 1; parts = 0; f1 = day; f2 = start; f3 = length; f4 = 0 } ⌝ }
+fn discount(place: u16, day: u32, start: u32, length: u32) -> Node
+    ensures { λ r. ⌜ r ≡ record { kind = 34; nodes = 1; parts = 0; f1 = day; f2 = start; f3 = length; f4 = 0; place = place } ⌝ }
 {
     Node {
         kind: 34,
@@ -280,19 +283,20 @@ fn discount(day: u32, start: u32, length: u32) -> Node
         f2: start,
         f3: length,
         f4: 0,
+        place: place as u32,
     }
 }
 
 // Df, behind its name.
-pub fn df_at(s: &[u8], c: Cursor) -> Leaf
+pub fn df_at(s: &[u8], place: u16, c: Cursor) -> Leaf
     requires { ⌜ Holds (now s) c ⌝ }
-    ensures { λ r. ⌜ MeetsLeaf (now (s .entry)) (df (toksAt (now (s .entry)) (c .start))) r ⌝ }
+    ensures { λ r. ⌜ MeetsLeaf (now (s .entry)) (df place (toksAt (now (s .entry)) (c .start))) r ⌝ }
 {
     match take(s, c, OPEN_PAREN) {
         Took::Not(b) => Leaf::Refused(8, b),
         Took::Next(d) => match date(s, d) {
             Number::Refused(k, b) => Leaf::Refused(k, b),
-            Number::Is(e, day) => closed(s, curve_at(s, day, e)),
+            Number::Is(e, day) => closed(s, curve_at(s, place, day, e)),
         },
     }
 }
@@ -324,9 +328,9 @@ fn date_in(s: &[u8], c: Cursor) -> u32
 }
 
 // The dates of a RateIndex are judged when all of it is read: its name is the string at a, the dates those at b and c.
-fn rate(s: &[u8], a: Cursor, b: Cursor, c: Cursor, d: Cursor) -> Leaf
+fn rate(s: &[u8], place: u16, a: Cursor, b: Cursor, c: Cursor, d: Cursor) -> Leaf
     requires { ⌜ Holds (now s) a × Holds (now s) b × Holds (now s) c × Holds (now s) d × (a .code ≡ 5) × (b .code ≡ 5) × (c .code ≡ 5) ⌝ }
-    ensures { λ r. ⌜ MeetsLeaf (now (s .entry)) (rateOf (tokenAt (now (s .entry)) a) (tokenAt (now (s .entry)) b) (tokenAt (now (s .entry)) c) (toksAt (now (s .entry)) (d .start))) r ⌝ }
+    ensures { λ r. ⌜ MeetsLeaf (now (s .entry)) (rateOf place (tokenAt (now (s .entry)) a) (tokenAt (now (s .entry)) b) (tokenAt (now (s .entry)) c) (toksAt (now (s .entry)) (d .start))) r ⌝ }
 {
     let first = date_in(s, b);
     if first == 0 {
@@ -346,14 +350,15 @@ fn rate(s: &[u8], a: Cursor, b: Cursor, c: Cursor, d: Cursor) -> Leaf
             f2: (a.end - a.start - 2) as u32,
             f3: first,
             f4: second,
+            place: place as u32,
         },
     )
 }
 
 // RateIndex, behind its name.
-pub fn rate_index_at(s: &[u8], c: Cursor) -> Leaf
+pub fn rate_index_at(s: &[u8], place: u16, c: Cursor) -> Leaf
     requires { ⌜ Holds (now s) c ⌝ }
-    ensures { λ r. ⌜ MeetsLeaf (now (s .entry)) (rateIndex (toksAt (now (s .entry)) (c .start))) r ⌝ }
+    ensures { λ r. ⌜ MeetsLeaf (now (s .entry)) (rateIndex place (toksAt (now (s .entry)) (c .start))) r ⌝ }
 {
     match string_behind(s, c, OPEN_PAREN) {
         Took::Not(b) => Leaf::Refused(8, b),
@@ -363,7 +368,7 @@ pub fn rate_index_at(s: &[u8], c: Cursor) -> Leaf
                 Took::Not(b) => Leaf::Refused(8, b),
                 Took::Next(to) => match take(s, next(s, to), CLOSE_PAREN) {
                     Took::Not(b) => Leaf::Refused(8, b),
-                    Took::Next(d) => rate(s, name, from, to, d),
+                    Took::Next(d) => rate(s, place, name, from, to, d),
                 },
             },
         },

@@ -72,7 +72,7 @@ pub fn expression(
         let Read::Done(c1, n1, p1) = r else {
             return r;
         };
-        let j = join(out, sign, n, n1, p1);
+        let j = join(out, sign, n, n1, p1, c.start);
         let code = c1.code;
         if !is_joint(code) {
             return Read::Done(c1, j.records, j.string);
@@ -105,7 +105,7 @@ fn comparison(
         let Read::Done(c1, n1, p1) = r else {
             return r;
         };
-        let j = join(out, sign, n, n1, p1);
+        let j = join(out, sign, n, n1, p1, c.start);
         if sign != 0 {
             return Read::Done(c1, j.records, j.string);
         }
@@ -141,7 +141,7 @@ fn sum(
         let Read::Done(c1, n1, p1) = r else {
             return r;
         };
-        let j = join(out, sign, n, n1, p1);
+        let j = join(out, sign, n, n1, p1, c.start);
         let code = c1.code;
         if !is_sum(code) {
             return Read::Done(c1, j.records, j.string);
@@ -174,7 +174,7 @@ fn product(
         let Read::Done(c1, n1, p1) = r else {
             return r;
         };
-        let j = join(out, sign, n, n1, p1);
+        let j = join(out, sign, n, n1, p1, c.start);
         let code = c1.code;
         if !is_product(code) {
             return Read::Done(c1, j.records, j.string);
@@ -207,7 +207,7 @@ fn power(
         let Read::Done(c1, n1, p1) = r else {
             return r;
         };
-        let j = join(out, sign, n, n1, p1);
+        let j = join(out, sign, n, n1, p1, c.start);
         let code = c1.code;
         if !is_power(code) {
             return Read::Done(c1, j.records, j.string);
@@ -244,7 +244,7 @@ fn primary(
         }
         MINUS => {
             if d.code == NUMBER {
-                return constant_at(s, d, true, out, n);
+                return constant_at(s, d, true, c.start, out, n);
             }
             if depth == 0 {
                 return Read::Refused(15, c.start);
@@ -253,7 +253,7 @@ fn primary(
             let Read::Done(e, m, _) = r else {
                 return r;
             };
-            put(out, m, plain(7, m - n + 1, 1));
+            put(out, m, plain(7, m - n + 1, 1, c.start));
             Read::Done(e, m + 1, 0)
         }
         OPEN_BRACKET => list(s, reserved, currencies, counters, c, d, depth, out, n),
@@ -324,8 +324,19 @@ fn list(
         return refusal(r);
     };
     let f = next(s, e);
-    put(out, m, plain(6, m - n + 1, count));
-    postfixes(s, reserved, currencies, counters, f, depth, out, n, m + 1)
+    put(out, m, plain(6, m - n + 1, count, c.start));
+    postfixes(
+        s,
+        reserved,
+        currencies,
+        counters,
+        c.start,
+        f,
+        depth,
+        out,
+        n,
+        m + 1,
+    )
 }
 
 // The parts of a pays, its date and its currency; d stands behind the word, at c.
@@ -351,7 +362,7 @@ pub fn pays(
     let mut count: u32 = 0;
     loop {
         if stops_pays(at.code) {
-            return payday_at(s, currencies, at, out, n, m, count);
+            return payday_at(s, currencies, c.start, at, out, n, m, count);
         }
         let r = expression(s, reserved, currencies, counters, at, depth - 1, out, m);
         let Read::Done(e, k, _) = r else {
@@ -386,10 +397,21 @@ fn name(
         let Read::Done(f, m, _) = r else {
             return r;
         };
-        return postfixes(s, reserved, currencies, counters, f, depth, out, n, m);
+        return postfixes(
+            s,
+            reserved,
+            currencies,
+            counters,
+            c.start,
+            f,
+            depth,
+            out,
+            n,
+            m,
+        );
     }
     if 32 <= kind {
-        return special(s, currencies, kind, d, out, n);
+        return special(s, currencies, kind, c.start, d, out, n);
     }
     call(s, reserved, currencies, counters, c, d, kind, depth, out, n)
 }
@@ -418,7 +440,7 @@ fn call(
     if fault != 0 {
         return Read::Refused(fault, c.start);
     }
-    put(out, m, plain(kind, m - n + 1, count));
+    put(out, m, plain(kind, m - n + 1, count, c.start));
     Read::Done(e, m + 1, 0)
 }
 
@@ -501,12 +523,13 @@ fn items(
     }
 }
 
-// Postfixes of what was read before, whose records are those from n to m.
+// Postfixes of what was read before, whose text begins at the place, and whose records are those from n to m.
 fn postfixes(
     s: &[u8],
     reserved: &[u8],
     currencies: &[u8],
     counters: &[u8],
+    place: u16,
     c: Cursor,
     depth: u32,
     out: &mut [u32],
@@ -514,7 +537,7 @@ fn postfixes(
     m: u32,
 ) -> Read
     requires { ⌜ Ready (now s) c m × Few (now currencies) × (n < m) ⌝ }
-    ensures { λ r. ⌜ ((x : Tree) (o : List ℕ) → Tops n o x m (now (out .entry)) → Meets (now (s .entry)) (postfixes (inner (wordsIn (now (reserved .entry)) (now (currencies .entry)) (now (counters .entry))) depth) x (toksAt (now (s .entry)) (c .start))) n o r (now (out .exit))) ⌝ }
+    ensures { λ r. ⌜ ((x : Tree) (o : List ℕ) → Tops n o x m (now (out .entry)) → Meets (now (s .entry)) (postfixes (inner (wordsIn (now (reserved .entry)) (now (currencies .entry)) (now (counters .entry))) depth) place x (toksAt (now (s .entry)) (c .start))) n o r (now (out .exit))) ⌝ }
 {
     let mut at = c;
     let mut k = m;
@@ -523,7 +546,18 @@ fn postfixes(
         if !is_postfix(code) {
             return Read::Done(at, k, 0);
         }
-        let r = postfix(s, reserved, currencies, counters, at, depth, out, n, k);
+        let r = postfix(
+            s,
+            reserved,
+            currencies,
+            counters,
+            place,
+            at,
+            depth,
+            out,
+            n,
+            k,
+        );
         let Read::Done(e, j, _) = r else {
             return r;
         };
@@ -538,6 +572,7 @@ fn postfix(
     reserved: &[u8],
     currencies: &[u8],
     counters: &[u8],
+    place: u16,
     c: Cursor,
     depth: u32,
     out: &mut [u32],
@@ -545,16 +580,38 @@ fn postfix(
     m: u32,
 ) -> Read
     requires { ⌜ Ready (now s) c m × Few (now currencies) × (n < m) × (postfixSign (c .code) ≡ true) ⌝ }
-    ensures { λ r. ⌜ MeetsTurns (now (s .entry)) (λ x. postfixTurn (inner (wordsIn (now (reserved .entry)) (now (currencies .entry)) (now (counters .entry))) depth) x (toksAt (now (s .entry)) (c .start))) n m (now (out .entry)) c r (now (out .exit)) ⌝ }
+    ensures { λ r. ⌜ MeetsTurns (now (s .entry)) (λ x. postfixTurn (inner (wordsIn (now (reserved .entry)) (now (currencies .entry)) (now (counters .entry))) depth) place x (toksAt (now (s .entry)) (c .start))) n m (now (out .entry)) c r (now (out .exit)) ⌝ }
 {
     let d = next(s, c);
     if c.code == DOT {
-        return method(s, reserved, currencies, counters, d, depth, out, n, m);
+        return method(
+            s,
+            reserved,
+            currencies,
+            counters,
+            place,
+            d,
+            depth,
+            out,
+            n,
+            m,
+        );
     }
     if depth == 0 {
         return Read::Refused(15, c.start);
     }
-    index(s, reserved, currencies, counters, d, depth - 1, out, n, m)
+    index(
+        s,
+        reserved,
+        currencies,
+        counters,
+        place,
+        d,
+        depth - 1,
+        out,
+        n,
+        m,
+    )
 }
 
 // A method, behind its `.`.
@@ -563,6 +620,7 @@ fn method(
     reserved: &[u8],
     currencies: &[u8],
     counters: &[u8],
+    place: u16,
     c: Cursor,
     depth: u32,
     out: &mut [u32],
@@ -570,7 +628,7 @@ fn method(
     m: u32,
 ) -> Read
     requires { ⌜ Ready (now s) c m × Few (now currencies) × (n < m) ⌝ }
-    ensures { λ r. ⌜ MeetsTurns (now (s .entry)) (λ x. methodOf (inner (wordsIn (now (reserved .entry)) (now (currencies .entry)) (now (counters .entry))) depth) x (toksAt (now (s .entry)) (c .start))) n m (now (out .entry)) c r (now (out .exit)) ⌝ }
+    ensures { λ r. ⌜ MeetsTurns (now (s .entry)) (λ x. methodOf (inner (wordsIn (now (reserved .entry)) (now (currencies .entry)) (now (counters .entry))) depth) place x (toksAt (now (s .entry)) (c .start))) n m (now (out .entry)) c r (now (out .exit)) ⌝ }
 {
     let Took::Next(d) = take(s, c, NAME) else {
         return Read::Refused(8, c.start);
@@ -585,7 +643,7 @@ fn method(
     if kind == 0 {
         return Read::Refused(10, c.start);
     }
-    put(out, k, plain(kind, k - n + 1, count + 1));
+    put(out, k, plain(kind, k - n + 1, count + 1, place));
     Read::Done(e, k + 1, 0)
 }
 
@@ -595,6 +653,7 @@ fn index(
     reserved: &[u8],
     currencies: &[u8],
     counters: &[u8],
+    place: u16,
     c: Cursor,
     depth: u32,
     out: &mut [u32],
@@ -602,7 +661,7 @@ fn index(
     m: u32,
 ) -> Read
     requires { ⌜ Ready (now s) c m × Few (now currencies) × (n < m) ⌝ }
-    ensures { λ r. ⌜ MeetsTurns (now (s .entry)) (λ x. indexOf (primary (wordsIn (now (reserved .entry)) (now (currencies .entry)) (now (counters .entry))) depth) x (toksAt (now (s .entry)) (c .start))) n m (now (out .entry)) c r (now (out .exit)) ⌝ }
+    ensures { λ r. ⌜ MeetsTurns (now (s .entry)) (λ x. indexOf (primary (wordsIn (now (reserved .entry)) (now (currencies .entry)) (now (counters .entry))) depth) place x (toksAt (now (s .entry)) (c .start))) n m (now (out .entry)) c r (now (out .exit)) ⌝ }
 {
     let r = expression(s, reserved, currencies, counters, c, depth, out, m);
     let Read::Done(d, k, _) = r else {
@@ -611,6 +670,6 @@ fn index(
     let Took::Next(e) = take(s, d, CLOSE_BRACKET) else {
         return Read::Refused(8, d.start);
     };
-    put(out, k, plain(28, k - n + 1, 2));
+    put(out, k, plain(28, k - n + 1, 2, place));
     Read::Done(e, k + 1, 0)
 }

@@ -4,7 +4,7 @@ ghost use Prim.Native.Nat.{_≤_};
 ghost use Rattle.reading.specs.Rows.{nodeRow, putRow, entryRow, putEntry};
 ghost use Rattle.reading.specs.Joins.{Joins};
 
-// The words of a record: kind, nodes in subtree, direct parts, f1 to f4.
+// The words of a record: kind, nodes in subtree, direct parts, f1 to f4, place.
 pub struct Node {
     pub kind: u32,
     pub nodes: u32,
@@ -13,17 +13,18 @@ pub struct Node {
     pub f2: u32,
     pub f3: u32,
     pub f4: u32,
+    pub place: u32,
 }
 
 impl Node {
-    pub const WIDTH: usize = 7;
+    pub const WIDTH: usize = 8;
 
     pub const MOST: usize = 2048;
 }
 
 // A node without fields.
-pub fn plain(kind: u8, nodes: u32, parts: u32) -> Node
-    ensures { λ r. ⌜ r ≡ record { kind = kind; nodes = nodes; parts = parts; f1 = 0; f2 = 0; f3 = 0; f4 = 0 } ⌝ }
+pub fn plain(kind: u8, nodes: u32, parts: u32, place: u16) -> Node
+    ensures { λ r. ⌜ r ≡ record { kind = kind; nodes = nodes; parts = parts; f1 = 0; f2 = 0; f3 = 0; f4 = 0; place = place } ⌝ }
 {
     Node {
         kind: kind as u32,
@@ -33,6 +34,7 @@ pub fn plain(kind: u8, nodes: u32, parts: u32) -> Node
         f2: 0,
         f3: 0,
         f4: 0,
+        place: place as u32,
     }
 }
 
@@ -50,6 +52,7 @@ pub fn put(out: &mut [u32], n: u32, node: Node)
         out[at + 4] = node.f2;
         out[at + 5] = node.f3;
         out[at + 6] = node.f4;
+        out[at + 7] = node.place;
     }
 }
 
@@ -59,11 +62,11 @@ pub struct Joined {
     pub string: u16,
 }
 
-// Joins an operand to those before it, whose records are those from n, by the record of the sign between them. The first
-// operand has no sign before it, 0, and stays as it is.
-pub fn join(out: &mut [u32], sign: u8, n: u32, m: u32, p: u16) -> Joined
+// Joins an operand to those before it, whose records are those from n, by the record of the sign between them, at the
+// place where the first of them begins. The first operand has no sign before it, 0, and stays as it is.
+pub fn join(out: &mut [u32], sign: u8, n: u32, m: u32, p: u16, place: u16) -> Joined
     requires { ⌜ (n ≤ m) × (m ≤ 50000) ⌝ }
-    ensures { λ r. ⌜ Joins (now (out .entry)) sign n m p r (now (out .exit)) ⌝ }
+    ensures { λ r. ⌜ Joins (now (out .entry)) sign n m p place r (now (out .exit)) ⌝ }
 {
     if sign == 0 {
         return Joined {
@@ -71,7 +74,7 @@ pub fn join(out: &mut [u32], sign: u8, n: u32, m: u32, p: u16) -> Joined
             string: p,
         };
     }
-    put(out, m, plain(sign, m - n + 1, 2));
+    put(out, m, plain(sign, m - n + 1, 2, place));
     Joined {
         records: m + 1,
         string: 0,

@@ -81,7 +81,7 @@ fn conditional(
         return block_refusal(q);
     };
     if f.code != ELSE {
-        put(out, k, branch(k - n + 1, count + 1, 0));
+        put(out, k, branch(c.start, k - n + 1, count + 1, 0));
         return Read::Done(f, k + 1, 0);
     }
     let p = block(
@@ -97,7 +97,11 @@ fn conditional(
     let Block::Done(g, j, more) = p else {
         return block_refusal(p);
     };
-    put(out, j, branch(j - n + 1, count + more + 1, count + 1));
+    put(
+        out,
+        j,
+        branch(c.start, j - n + 1, count + more + 1, count + 1),
+    );
     Read::Done(g, j + 1, 0)
 }
 
@@ -131,7 +135,7 @@ fn repetition(
     let Block::Done(g, k, count) = q else {
         return block_refusal(q);
     };
-    put(out, k, each(d, k - n + 1, count + 1));
+    put(out, k, each(c.start, d, k - n + 1, count + 1));
     Read::Done(g, k + 1, 0)
 }
 

@@ -50,20 +50,26 @@ fn is_part(given: &[u8], source: &[u8], place: usize, size: usize) -> bool
     equal(given, front(&source[place..], size))
 }
 
-// Runs the lookup by numbers, on a record that is lent its seven words and none behind them, and compares.
+// The record at the start of words, with no word behind it.
+fn record_in(words: &[u32]) -> &[u32] {
+    if words.len() < RECORD_WIDTH {
+        return words;
+    }
+    &words[..RECORD_WIDTH]
+}
+
+// Runs the lookup by numbers, and compares.
 fn is_found(
     script: &[u8],
     currencies: &[u8],
-    words: &[u32],
+    record: &[u32],
     start: u32,
     second: bool,
     in_list: bool,
     place: usize,
     size: usize,
-) -> bool
-    requires { ⌜ 7 ≤ length (now words) ⌝ }
-{
-    let found = place_of(script, currencies, &words[..RECORD_WIDTH], start, second);
+) -> bool {
+    let found = place_of(script, currencies, record, start, second);
     if is_placed(found, in_list, place, size) {
         return true;
     }
@@ -71,34 +77,19 @@ fn is_found(
     false
 }
 
-// Runs the lookup that hands back a slice, on the same record.
-fn part_of_words<'a>(
-    script: &'a [u8],
-    currencies: &'a [u8],
-    words: &[u32],
-    start: u32,
-    second: bool,
-) -> &'a [u8]
-    requires { ⌜ 7 ≤ length (now words) ⌝ }
-{
-    part(script, currencies, &words[..RECORD_WIDTH], start, second)
-}
-
-// Runs that lookup and compares the bytes. Where they begin no run can tell, since the language compares no addresses: the
-// contract of `part` ties that to the lookup by numbers.
+// Runs the lookup that hands back a slice, and compares the bytes. Where they begin no run can tell, since the language
+// compares no addresses: the contract of `part` ties that to the lookup by numbers.
 fn is_handed_back<'a>(
     script: &'a [u8],
     currencies: &'a [u8],
-    words: &[u32],
+    record: &[u32],
     start: u32,
     second: bool,
     in_list: bool,
     place: usize,
     size: usize,
-) -> bool
-    requires { ⌜ 7 ≤ length (now words) ⌝ }
-{
-    let given = part_of_words(script, currencies, words, start, second);
+) -> bool {
+    let given = part(script, currencies, record, start, second);
     let same = if in_list {
         is_part(given, currencies, place, size)
     } else {
@@ -114,19 +105,17 @@ fn is_handed_back<'a>(
 fn is_stored<'a>(
     script: &'a [u8],
     currencies: &'a [u8],
-    words: &[u32],
+    record: &[u32],
     start: u32,
     second: bool,
     in_list: bool,
     place: usize,
     size: usize,
-) -> bool
-    requires { ⌜ 7 ≤ length (now words) ⌝ }
-{
+) -> bool {
     let found = is_found(
         script,
         currencies,
-        words,
+        record,
         start,
         second,
         in_list,
@@ -136,7 +125,7 @@ fn is_stored<'a>(
     let same = is_handed_back(
         script,
         currencies,
-        words,
+        record,
         start,
         second,
         in_list,
@@ -151,7 +140,7 @@ fn is_asked(which: usize, source: &[u8]) -> bool {
     (which == 1 || which == 2) && (equal(source, b"c ") || equal(source, b"s "))
 }
 
-// Looks up the name `which` of a record, and compares.
+// Looks up the name `which` of the record that words begin with, and compares.
 fn look_up<'a>(
     script: &'a [u8],
     currencies: &'a [u8],
@@ -172,7 +161,7 @@ fn look_up<'a>(
     if is_stored(
         script,
         currencies,
-        words,
+        record_in(words),
         start as u32,
         which == 2,
         in_list,

@@ -2,8 +2,9 @@
 #![allow(dead_code)] // each test program uses its own part
 
 pub mod calendar;
+pub mod desk;
 
-use gorembiin::{Date, Fields, Ground, Lists, Note, Refusal, Statement, Which};
+use gorembiin::{Date, Fields, Ground, Lists, Note, Record, Refusal, Statement, Which};
 
 /// Lists with names in all three.
 pub const LISTS: Lists =
@@ -17,8 +18,25 @@ pub fn refusal(ground: Ground, byte: u32, line: u32, column: u32) -> Refusal {
     Refusal { ground, byte, line, column }
 }
 
-/// A statement's tree on one line, as `Add(x, Constant 1)`: variables by their name, constants by their value.
+/// A statement's tree on one line, as `Add(x, 1)`: variables by their name, constants by their value.
 pub fn tree(statement: &Statement) -> String {
+    drawn(statement, |record| label(statement, record))
+}
+
+/// The same with the place of each node, as `Add@0(x@0, 1@4)`.
+pub fn placed_tree(statement: &Statement) -> String {
+    drawn(statement, |record| format!("{}@{}", label(statement, record), record.place()))
+}
+
+fn label(statement: &Statement, record: Record) -> String {
+    match record.fields() {
+        Fields::Name(_) => String::from_utf8_lossy(statement.text_of(record, Which::First).bytes).into_owned(),
+        Fields::Constant { value, .. } => value.to_string(),
+        _ => record.kind().unwrap().to_string(),
+    }
+}
+
+fn drawn(statement: &Statement, label: impl Fn(Record) -> String) -> String {
     let mut written = String::new();
     let mut depth = 0;
     for branch in statement.tree() {
@@ -29,12 +47,7 @@ pub fn tree(statement: &Statement) -> String {
             written.push_str(", ");
         }
         depth = branch.depth;
-        let name = statement.text_of(branch.record, Which::First).bytes;
-        written.push_str(&match branch.record.fields() {
-            Fields::Name(_) => String::from_utf8_lossy(name).into_owned(),
-            Fields::Constant { value, .. } => value.to_string(),
-            _ => branch.record.kind().unwrap().to_string(),
-        });
+        written.push_str(&label(branch.record));
     }
     written + &")".repeat(depth)
 }

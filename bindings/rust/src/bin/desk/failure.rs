@@ -8,6 +8,8 @@ pub enum Failure {
     Usage(String),
     /// A file that cannot be read or written, by its name.
     File(String),
+    /// A place that a script does not have.
+    Place(String),
     /// Standard output that takes no more.
     Output(io::Error),
 }
@@ -25,7 +27,7 @@ impl Failure {
     pub fn message(&self) -> Option<String> {
         match self {
             Failure::Usage(message) => Some(format!("{message}; desk help prints the commands")),
-            Failure::File(message) => Some(message.clone()),
+            Failure::File(message) | Failure::Place(message) => Some(message.clone()),
             Failure::Output(error) if error.kind() == io::ErrorKind::BrokenPipe => None,
             Failure::Output(error) => Some(format!("cannot write the answer: {error}")),
         }

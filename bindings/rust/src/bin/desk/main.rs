@@ -1,7 +1,8 @@
-//! The curator's tool for the scripts of notes. All that it says of a script is the library's answer; nothing is parsed
-//! here.
+//! The curator's tool for the scripts of notes. All that it says of a script is the library's answer, but for one thing: a
+//! record tells where its text begins, and where it ends is found here, in `spans`.
 
 mod amend;
+mod at;
 mod check;
 mod failure;
 mod files;
@@ -9,6 +10,8 @@ mod listed;
 mod options;
 mod refused;
 mod show;
+mod spans;
+mod tokens;
 mod visible;
 
 use std::env;
@@ -55,6 +58,7 @@ fn run(request: Request, out: &mut impl Write) -> Result<Verdict, Failure> {
     let listed = Listed::open(&lists)?;
     match task {
         Task::Show(file) => show::show(&Source::open(&file)?, &listed, out),
+        Task::At(file, asked) => at::at(&Source::open(&file)?, asked, &listed, out),
         Task::Check(file) => check::check(&Source::open(&file)?, &listed, out),
         Task::Amend(change) => amend::amend(&change, &listed, out),
     }

@@ -12,6 +12,7 @@ pub enum Request {
 
 pub enum Task {
     Show(PathBuf),
+    At(PathBuf, Asked),
     Check(PathBuf),
     Amend(Change),
 }
@@ -22,6 +23,14 @@ pub struct Change {
     pub statement: u32,
     pub text: PathBuf,
     pub write: bool,
+}
+
+/// A place of a script that is asked for.
+#[derive(Clone, Copy)]
+pub enum Asked {
+    Byte(u32),
+    /// Line and column.
+    Character(u32, u32),
 }
 
 /// The files of lists that were named.
@@ -58,12 +67,14 @@ pub fn parse(args: impl Iterator<Item = OsString>) -> Result<Request, Failure> {
     let task = match (command.to_str(), rest) {
         (Some("help"), []) => return Ok(Request::Help),
         (Some("show"), [file]) => Task::Show(file.into()),
+        (Some("at"), [file, place]) => Task::At(file.into(), asked(place)?),
         (Some("check"), [file]) => Task::Check(file.into()),
         (Some("amend"), [file, number, text]) => Task::Amend(change(file, number, text, write)?),
         (Some("help"), _) => return Err(usage("help takes no other word")),
         (Some(name @ ("show" | "check")), _) => {
             return Err(usage(&format!("{name} takes one file")));
         }
+        (Some("at"), _) => return Err(usage("at takes a file and a place")),
         (Some("amend"), _) => {
             return Err(usage("amend takes a file, a statement's number and the file of the new text"));
         }
@@ -122,10 +133,19 @@ fn change(file: &OsStr, number: &OsStr, text: &OsStr, write: bool) -> Result<Cha
     Ok(Change { file: file.into(), statement, text: text.into(), write })
 }
 
+fn asked(place: &OsStr) -> Result<Asked, Failure> {
+    let number = |digits: &str| digits.parse().ok();
+    let asked = place.to_str().and_then(|word| match word.split_once(':') {
+        None => number(word).map(Asked::Byte),
+        Some((line, column)) => Some(Asked::Character(number(line)?, number(column)?)),
+    });
+    asked.ok_or_else(|| usage(&format!("{} is not a place, which is a byte, or LINE:COLUMN", place.display())))
+}
+
 /// Standard input can be read once.
 fn one_reader_of_stdin(task: &Task, lists: &ListFiles) -> Result<(), Failure> {
     let mut files: Vec<&PathBuf> = match task {
-        Task::Show(file) | Task::Check(file) => vec![file],
+        Task::Show(file) | Task::Check(file) | Task::At(file, _) => vec![file],
         Task::Amend(change) => vec![&change.file, &change.text],
     };
     files.extend(&lists.reserved);

@@ -2,7 +2,7 @@
 
 use std::io::{self, Write};
 
-use gorembiin::{Date, Fields, Kind, Part, Place, Record, Source as Of, Statement, Which};
+use gorembiin::{Branch, Date, Fields, Kind, Part, Place, Record, Source as Of, Statement, Which};
 
 use crate::check::{counted, latest, print_counts};
 use crate::failure::Failure;
@@ -35,11 +35,14 @@ fn print_statement(statement: &Statement, line: usize, out: &mut impl Write) -> 
     let (number, start, end) = (statement.number(), statement.start(), statement.end());
     writeln!(out, "\nstatement {number}, line {line}, bytes {start}..{end}: {records}, {tokens}, {latest}")?;
     out.write_all(quoted(statement.text()).as_bytes())?;
-    for branch in statement.tree() {
-        let indent = 2 + 2 * branch.depth;
-        writeln!(out, "{:indent$}{}", "", described(statement, branch.record))?;
-    }
-    Ok(())
+    statement.tree().try_for_each(|branch| print_node(statement, branch, out))
+}
+
+/// A line for a node: the byte at which its text begins, and what it is.
+pub fn print_node(statement: &Statement, branch: Branch, out: &mut impl Write) -> io::Result<()> {
+    let place = statement.start() + branch.record.place();
+    let (width, indent) = (statement.end().to_string().len(), 2 * branch.depth);
+    writeln!(out, "  {place:>width$}  {:indent$}{}", "", described(statement, branch.record))
 }
 
 /// A record's kind, and what its fields say.
@@ -71,9 +74,12 @@ fn described(statement: &Statement, record: Record) -> String {
             first_else.map_or(String::new(), |part| format!(", part 0 is the condition, else from part {part} on"))
         }
     };
-    // the library writes no kind that has no name
-    let kind = record.kind().map_or(String::new(), |kind| kind.to_string());
-    kind + &said
+    kind_of(record) + &said
+}
+
+/// The name of a record's kind. The library writes none that has no name.
+pub fn kind_of(record: Record) -> String {
+    record.kind().map_or(String::new(), |kind| kind.to_string())
 }
 
 /// A name as it is written: strings have their quotes, and what is of the script has its place.

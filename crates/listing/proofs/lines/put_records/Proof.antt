@@ -3,6 +3,7 @@ use Prim.Native.Nat.{_*_, _-_, _≤_}
 use lib.ListN.{drop}
 use denote.Ref.{now}
 use borrow.Author.Needs.{needs}
+use Rattle.grammar.specs.Sizes.{recordWidth}
 use Rattle.listing.specs.Lines.{recordLines}
 use Rattle.listing.proofs.LineLaws.{Going, going-on, going-end, records-room, records-start, records-more, records-done}
 use Rattle.listing.proofs.lines.put_records.Statement.{statement}
@@ -10,7 +11,7 @@ use Rattle.listing.proofs.lines.put_records.Tie as tie
 
 abbrev Inv-loop : tie.InvT-loop
 Inv-loop out₀ at records count k₀ i₀ out k i =
-    (i ≤ count) × Going out₀ at (recordLines count records) k out (recordLines (count - i) (drop (i * 7) records))
+    (i ≤ count) × Going out₀ at (recordLines count records) k out (recordLines (count - i) (drop (i * recordWidth) records))
 
 abbrev μ-loop : tie.MeasureT-loop
 μ-loop out₀ at records count k₀ i₀ out k i = count - i

@@ -130,7 +130,7 @@ returns-3 c =
     let args = start .args in
     let pre = start .pre in
     let words = wordsIn (args .reserved .now) (args .currencies .now) (args .counters .now) in
-    assign-reads (wordsIn (args .reserved .now) [] []) words (named-words (args .reserved .now) (args .currencies .now) (args .counters .now)) (args .s .now) (args .c) (args .d) (args .n) (args .out .now) (pre .0) (pre .1) (pre .2) _ _ _ _ (done-reads _ _ _ _ _ _ _ _ _ (at-r .r .given .1) (at-variable-at .variable-at .ensures)) (primary words (args .depth)) (primary-size words (args .depth)) (λ z. omega (arith, z, pre .4)) (at-next .next .result) (at-next .next .ensures) _ _ _ _ (done-reads _ _ _ _ _ _ _ _ _ (at-q .q .given .1) (at-ended .ended .ensures)) _ (put-fields _ _ _ _ _ _ _ _ _ (at-put .before .plain .ensures) (at-put .put .ensures))
+    assign-reads (wordsIn (args .reserved .now) [] []) words (named-words (args .reserved .now) (args .currencies .now) (args .counters .now)) (args .s .now) (args .c) (args .d) (args .n) (args .out .now) (pre .0) (pre .1) (pre .2) _ _ _ _ (done-reads _ _ _ _ _ _ _ _ _ (at-r .r .given .1) (at-variable-at .variable-at .ensures)) (primary words (args .depth)) (primary-size words (args .depth)) (λ z. omega (arith, z, pre .4)) (at-next .next .result) (at-next .next .ensures) _ _ _ _ (done-reads _ _ _ _ _ _ _ _ _ (at-q .q .given .1) (at-ended .ended .ensures)) _ (put-fields _ _ _ _ _ _ _ _ _ _ (at-put .before .plain .ensures) (at-put .put .ensures))
 
 pub assign-spec : {M : Type 1} → statement M
 assign-spec =

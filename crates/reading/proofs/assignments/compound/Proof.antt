@@ -167,7 +167,7 @@ returns-3 c =
     let args = start .args in
     let pre = start .pre in
     let words = wordsIn (args .reserved .now) (args .currencies .now) (args .counters .now) in
-    compound-reads (wordsIn (args .reserved .now) [] []) words (named-words (args .reserved .now) (args .currencies .now) (args .counters .now)) (args .s .now) (args .c) (args .d) (args .n) (args .out .now) (pre .0) (pre .1) (pre .2) _ _ _ (twice-done _ _ _ _ _ _ _ _ _ (at-r .r .given .1) (at-doubled .doubled .ensures)) (λ z. omega (arith, z, pre .4)) (at-next .next .result) (at-next .next .ensures) (primary words (args .depth)) (primary-size words (args .depth)) _ _ _ _ (done-reads _ _ _ _ _ _ _ _ _ (at-q .q .given .1) (at-ended .ended .ensures)) _ _ (put-fields _ _ _ _ _ _ _ _ _ (at-put .before .plain .ensures) (at-put .put .ensures)) (put-fields _ _ _ _ _ _ _ _ _ (at-put2 .before .plain2 .ensures) (at-put2 .put2 .ensures))
+    compound-reads (wordsIn (args .reserved .now) [] []) words (named-words (args .reserved .now) (args .currencies .now) (args .counters .now)) (args .s .now) (args .c) (args .d) (args .n) (args .out .now) (pre .0) (pre .1) (pre .2) _ _ _ (twice-done _ _ _ _ _ _ _ _ _ (at-r .r .given .1) (at-doubled .doubled .ensures)) (λ z. omega (arith, z, pre .4)) (at-next .next .result) (at-next .next .ensures) (primary words (args .depth)) (primary-size words (args .depth)) _ _ _ _ (done-reads _ _ _ _ _ _ _ _ _ (at-q .q .given .1) (at-ended .ended .ensures)) _ _ (put-fields _ _ _ _ _ _ _ _ _ _ (at-put .before .plain .ensures) (at-put .put .ensures)) (put-fields _ _ _ _ _ _ _ _ _ _ (at-put2 .before .plain2 .ensures) (at-put2 .put2 .ensures))
 
 pub compound-spec : {M : Type 1} → statement M
 compound-spec =

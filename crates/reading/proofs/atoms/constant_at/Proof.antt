@@ -1,10 +1,10 @@
 -- A number's record has the bits of its value, its place and its length.
-use native.Mathlib.Omega.{arith}
-use Rattle.reading.proofs.HoldLaws.{start-in, end-in}
-use Rattle.reading.proofs.AtomLaws.{constant-reads}
 use borrow.Author.Needs.{needs}
 use Rattle.reading.proofs.atoms.constant_at.Statement.{statement}
 use Rattle.reading.proofs.atoms.constant_at.Tie as tie
+use native.Mathlib.Omega.{arith}
+use Rattle.reading.proofs.HoldLaws.{start-in, end-in}
+use Rattle.reading.proofs.AtomLaws.{constant-reads}
 
 cast-a : tie.Need-cast-a
 cast-a c = search needs
@@ -16,22 +16,26 @@ sub-bits-of : tie.Need-sub-bits-of
 sub-bits-of c = omega (arith, start-in (c .before .before .before .before .pre .0 .0))
 
 part-bits-of-start : tie.Need-part-bits-of-start
-part-bits-of-start c = omega (arith, start-in (c .before .before .before .before .pre .0 .0), end-in (c .before .before .before .before .pre .0 .0))
+part-bits-of-start c =
+    let start = c .before .before .before .before in
+    omega (arith, start-in (start .pre .0 .0), end-in (start .pre .0 .0))
 
 part-bits-of-end : tie.Need-part-bits-of-end
-part-bits-of-end c = omega (arith, start-in (c .before .before .before .before .pre .0 .0), end-in (c .before .before .before .before .pre .0 .0))
+part-bits-of-end c =
+    let start = c .before .before .before .before in
+    omega (arith, start-in (start .pre .0 .0), end-in (start .pre .0 .0))
 
 bits-of-requires : tie.Need-bits-of-requires
 bits-of-requires c κs = search needs
 
-cast-t16 : tie.Need-cast-t16
-cast-t16 c = search needs
+cast-t17 : tie.Need-cast-t17
+cast-t17 c = search needs
 
-sub-t17 : tie.Need-sub-t17
-sub-t17 c = omega (arith, start-in (c .before .before .before .before .before .before .before .before .before .pre .0 .0))
+sub-t18 : tie.Need-sub-t18
+sub-t18 c = omega (arith, start-in (c .before .before .before .before .before .before .before .before .before .pre .0 .0))
 
-cast-t18 : tie.Need-cast-t18
-cast-t18 c = search needs
+cast-t19 : tie.Need-cast-t19
+cast-t19 c = search needs
 
 put-requires : tie.Need-put-requires
 put-requires c κs = search needs
@@ -39,14 +43,18 @@ put-requires c κs = search needs
 next-requires : tie.Need-next-requires
 next-requires c κs = search needs
 
-add-t16 : tie.Need-add-t16
-add-t16 c = search needs
+add-t17 : tie.Need-add-t17
+add-t17 c = search needs
 
 same-length : tie.Need-same-length
 same-length c = search needs
 
 returns : tie.Need-returns
-returns c = constant-reads (c .before .before .before .before .before .before .before .before .before .before .before .before .before .pre .0 .0) (c .next .ensures) (c .before .before .before .before .before .before .before .before .before .before .before .before .before .args .minus) (c .before .before .before .before .before .before .before .before .before .before .before .before .before .pre .1) _ (c .before .before .before .before .before .before .before .bits-of .ensures) (c .before .before .before .put .ensures)
+returns c =
+    let at-put = c .before .before .before in
+    let at-bits-of = at-put .before .before .before .before in
+    let start = at-bits-of .before .before .before .before .before .before in
+    constant-reads (start .pre .0 .0) (c .next .ensures) (start .args .place) (start .args .minus) (start .pre .1) _ (at-bits-of .bits-of .ensures) (at-put .put .ensures)
 
 pub constant-at-spec : {M : Type 1} → statement M
 constant-at-spec =
@@ -58,11 +66,11 @@ constant-at-spec =
     part-bits-of-start
     part-bits-of-end
     bits-of-requires
-    cast-t16
-    sub-t17
-    cast-t18
+    cast-t17
+    sub-t18
+    cast-t19
     put-requires
     next-requires
-    add-t16
+    add-t17
     same-length
     returns)

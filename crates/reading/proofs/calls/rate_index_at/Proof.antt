@@ -1,9 +1,9 @@
 -- RateIndex: three strings behind their signs, and the closing sign.
-use Rattle.reading.proofs.HoldLaws.{takes-as}
-use Rattle.reading.proofs.CallLaws.{leads-as, leaf-as, index-name, index-from, index-to, index-close, index-is}
 use borrow.Author.Needs.{needs}
 use Rattle.reading.proofs.calls.rate_index_at.Statement.{statement}
 use Rattle.reading.proofs.calls.rate_index_at.Tie as tie
+use Rattle.reading.proofs.HoldLaws.{takes-as}
+use Rattle.reading.proofs.CallLaws.{leads-as, leaf-as, index-name, index-from, index-to, index-close, index-is}
 
 string-behind-requires : tie.Need-string-behind-requires
 string-behind-requires c κs = search needs
@@ -15,7 +15,10 @@ enum-known-name : tie.Need-enum-known-name
 enum-known-name c = search needs
 
 next-requires : tie.Need-next-requires
-next-requires c κs = leads-as (c .before .before .before .before .before .args .s .now) 40 (c .before .before .before .before .before .args .c) (c .before .name .given .1) (c .before .before .before .string-behind .ensures) .0
+next-requires c κs =
+    let at-string-behind = c .before .before .before in
+    let start = at-string-behind .before .before in
+    leads-as (start .args .s .now) 40 (start .args .c) (c .before .name .given .1) (at-string-behind .string-behind .ensures) .0
 
 string-behind-requires-2 : tie.Need-string-behind-requires-2
 string-behind-requires-2 c κs = search needs
@@ -27,7 +30,9 @@ enum-known-from : tie.Need-enum-known-from
 enum-known-from c = search needs
 
 next-requires-2 : tie.Need-next-requires-2
-next-requires-2 c κs = leads-as (c .before .before .before .before .before .before .before .before .before .before .args .s .now) 46 _ (c .before .from .given .1) (c .before .before .before .string-behind2 .ensures) .0
+next-requires-2 c κs =
+    let at-string-behind2 = c .before .before .before in
+    leads-as (at-string-behind2 .before .before .before .before .before .before .before .args .s .now) 46 _ (c .before .from .given .1) (at-string-behind2 .string-behind2 .ensures) .0
 
 string-behind-requires-3 : tie.Need-string-behind-requires-3
 string-behind-requires-3 c κs = search needs
@@ -39,7 +44,9 @@ enum-known-to : tie.Need-enum-known-to
 enum-known-to c = search needs
 
 next-requires-3 : tie.Need-next-requires-3
-next-requires-3 c κs = leads-as (c .before .before .before .before .before .before .before .before .before .before .before .before .before .before .before .args .s .now) 46 _ (c .before .to .given .1) (c .before .before .before .string-behind3 .ensures) .0
+next-requires-3 c κs =
+    let at-string-behind3 = c .before .before .before in
+    leads-as (at-string-behind3 .before .before .before .before .before .before .before .before .before .before .before .before .args .s .now) 46 _ (c .before .to .given .1) (at-string-behind3 .string-behind3 .ensures) .0
 
 take-requires : tie.Need-take-requires
 take-requires c κs = search needs
@@ -52,25 +59,67 @@ enum-known-d c = search needs
 
 rate-requires : tie.Need-rate-requires
 rate-requires c κs =
-    let a = leads-as (c .before .before .before .before .before .before .before .before .before .before .before .before .before .before .before .before .before .before .before .before .args .s .now) 40 (c .before .before .before .before .before .before .before .before .before .before .before .before .before .before .before .before .before .before .before .before .args .c) (c .before .before .before .before .before .before .before .before .before .before .before .before .before .before .before .before .name .given .1) (c .before .before .before .before .before .before .before .before .before .before .before .before .before .before .before .before .before .before .string-behind .ensures) in
-    let b = leads-as (c .before .before .before .before .before .before .before .before .before .before .before .before .before .before .before .before .before .before .before .before .args .s .now) 46 _ (c .before .before .before .before .before .before .before .before .before .before .before .from .given .1) (c .before .before .before .before .before .before .before .before .before .before .before .before .before .string-behind2 .ensures) in
-    let d = leads-as (c .before .before .before .before .before .before .before .before .before .before .before .before .before .before .before .before .before .before .before .before .args .s .now) 46 _ (c .before .before .before .before .before .before .to .given .1) (c .before .before .before .before .before .before .before .before .string-behind3 .ensures) in
-    (a .0, b .0, d .0, takes-as (c .before .before .before .before .before .before .before .before .before .before .before .before .before .before .before .before .before .before .before .before .args .s .now) 41 _ (c .before .d .given .1) (c .before .before .before .take .ensures) .0 .holds, a .1, b .1, d .1)
+    let at-take = c .before .before .before in
+    let at-to = at-take .before .before .before in
+    let at-string-behind3 = at-to .before .before in
+    let at-from = at-string-behind3 .before .before .before in
+    let at-string-behind2 = at-from .before .before in
+    let at-name = at-string-behind2 .before .before .before in
+    let at-string-behind = at-name .before .before in
+    let args = at-string-behind .before .before .args in
+    let a = leads-as (args .s .now) 40 (args .c) (at-name .name .given .1) (at-string-behind .string-behind .ensures) in
+    let b = leads-as (args .s .now) 46 _ (at-from .from .given .1) (at-string-behind2 .string-behind2 .ensures) in
+    let d = leads-as (args .s .now) 46 _ (at-to .to .given .1) (at-string-behind3 .string-behind3 .ensures) in
+    (a .0, b .0, d .0, takes-as (args .s .now) 41 _ (c .before .d .given .1) (at-take .take .ensures) .0 .holds, a .1, b .1, d .1)
 
 returns : tie.Need-returns
-returns c = index-name (c .before .before .before .before .before .args .s .now) (c .before .before .before .before .before .args .c) (c .before .b .given .1) (c .before .before .before .string-behind .ensures)
+returns c =
+    let at-string-behind = c .before .before .before in
+    let args = at-string-behind .before .before .args in
+    index-name (args .s .now) (args .place) (args .c) (c .before .b .given .1) (at-string-behind .string-behind .ensures)
 
 returns-2 : tie.Need-returns-2
-returns-2 c = index-from (c .before .before .before .before .before .before .before .before .before .before .args .s .now) (c .before .before .before .before .before .before .before .before .before .before .args .c) (c .before .before .before .before .before .before .name .given .1) (c .before .before .before .before .before .before .before .before .string-behind .ensures) (c .before .before .before .before .next .ensures) (c .before .b2 .given .1) (c .before .before .before .string-behind2 .ensures)
+returns-2 c =
+    let at-string-behind2 = c .before .before .before in
+    let at-name = at-string-behind2 .before .before .before in
+    let at-string-behind = at-name .before .before in
+    let args = at-string-behind .before .before .args in
+    index-from (args .s .now) (args .place) (args .c) (at-name .name .given .1) (at-string-behind .string-behind .ensures) (at-string-behind2 .before .next .ensures) (c .before .b2 .given .1) (at-string-behind2 .string-behind2 .ensures)
 
 returns-3 : tie.Need-returns-3
-returns-3 c = index-to (c .before .before .before .before .before .before .before .before .before .before .before .before .before .before .before .args .s .now) (c .before .before .before .before .before .before .before .before .before .before .before .before .before .before .before .args .c) (c .before .before .before .before .before .before .before .before .before .before .before .name .given .1) (c .before .before .before .before .before .before .before .before .before .before .before .before .before .string-behind .ensures) (c .before .before .before .before .before .before .before .before .before .next .ensures) (c .before .before .before .before .before .before .from .given .1) (c .before .before .before .before .before .before .before .before .string-behind2 .ensures) (c .before .before .before .before .next2 .ensures) (c .before .b3 .given .1) (c .before .before .before .string-behind3 .ensures)
+returns-3 c =
+    let at-string-behind3 = c .before .before .before in
+    let at-from = at-string-behind3 .before .before .before in
+    let at-string-behind2 = at-from .before .before in
+    let at-name = at-string-behind2 .before .before .before in
+    let at-string-behind = at-name .before .before in
+    let args = at-string-behind .before .before .args in
+    index-to (args .s .now) (args .place) (args .c) (at-name .name .given .1) (at-string-behind .string-behind .ensures) (at-string-behind2 .before .next .ensures) (at-from .from .given .1) (at-string-behind2 .string-behind2 .ensures) (at-string-behind3 .before .next2 .ensures) (c .before .b3 .given .1) (at-string-behind3 .string-behind3 .ensures)
 
 returns-4 : tie.Need-returns-4
-returns-4 c = index-close (c .before .before .before .before .before .before .before .before .before .before .before .before .before .before .before .before .before .before .before .before .args .s .now) (c .before .before .before .before .before .before .before .before .before .before .before .before .before .before .before .before .before .before .before .before .args .c) (c .before .before .before .before .before .before .before .before .before .before .before .before .before .before .before .before .name .given .1) (c .before .before .before .before .before .before .before .before .before .before .before .before .before .before .before .before .before .before .string-behind .ensures) (c .before .before .before .before .before .before .before .before .before .before .before .before .before .before .next .ensures) (c .before .before .before .before .before .before .before .before .before .before .before .from .given .1) (c .before .before .before .before .before .before .before .before .before .before .before .before .before .string-behind2 .ensures) (c .before .before .before .before .before .before .before .before .before .next2 .ensures) (c .before .before .before .before .before .before .to .given .1) (c .before .before .before .before .before .before .before .before .string-behind3 .ensures) (c .before .before .before .before .next3 .ensures) (c .before .b4 .given .1) (c .before .before .before .take .ensures)
+returns-4 c =
+    let at-take = c .before .before .before in
+    let at-to = at-take .before .before .before in
+    let at-string-behind3 = at-to .before .before in
+    let at-from = at-string-behind3 .before .before .before in
+    let at-string-behind2 = at-from .before .before in
+    let at-name = at-string-behind2 .before .before .before in
+    let at-string-behind = at-name .before .before in
+    let args = at-string-behind .before .before .args in
+    index-close (args .s .now) (args .place) (args .c) (at-name .name .given .1) (at-string-behind .string-behind .ensures) (at-string-behind2 .before .next .ensures) (at-from .from .given .1) (at-string-behind2 .string-behind2 .ensures) (at-string-behind3 .before .next2 .ensures) (at-to .to .given .1) (at-string-behind3 .string-behind3 .ensures) (at-take .before .next3 .ensures) (c .before .b4 .given .1) (at-take .take .ensures)
 
 returns-5 : tie.Need-returns-5
-returns-5 c = leaf-as (c .before .before .before .before .before .before .before .before .before .before .before .before .before .before .before .before .before .before .before .before .before .args .s .now) (c .rate .result) (index-is (c .before .before .before .before .before .before .before .before .before .before .before .before .before .before .before .before .before .before .before .before .before .args .s .now) (c .before .before .before .before .before .before .before .before .before .before .before .before .before .before .before .before .before .before .before .before .before .args .c) (c .before .before .before .before .before .before .before .before .before .before .before .before .before .before .before .before .before .name .given .1) (c .before .before .before .before .before .before .before .before .before .before .before .before .before .before .before .before .before .before .before .string-behind .ensures) (c .before .before .before .before .before .before .before .before .before .before .before .before .before .before .before .next .ensures) (c .before .before .before .before .before .before .before .before .before .before .before .before .from .given .1) (c .before .before .before .before .before .before .before .before .before .before .before .before .before .before .string-behind2 .ensures) (c .before .before .before .before .before .before .before .before .before .before .next2 .ensures) (c .before .before .before .before .before .before .before .to .given .1) (c .before .before .before .before .before .before .before .before .before .string-behind3 .ensures) (c .before .before .before .before .before .next3 .ensures) (c .before .before .d .given .1) (c .before .before .before .before .take .ensures)) (c .rate .ensures)
+returns-5 c =
+    let at-d = c .before .before in
+    let at-take = at-d .before .before in
+    let at-to = at-take .before .before .before in
+    let at-string-behind3 = at-to .before .before in
+    let at-from = at-string-behind3 .before .before .before in
+    let at-string-behind2 = at-from .before .before in
+    let at-name = at-string-behind2 .before .before .before in
+    let at-string-behind = at-name .before .before in
+    let args = at-string-behind .before .before .args in
+    leaf-as (args .s .now) (c .rate .result) (index-is (args .s .now) (args .place) (args .c) (at-name .name .given .1) (at-string-behind .string-behind .ensures) (at-string-behind2 .before .next .ensures) (at-from .from .given .1) (at-string-behind2 .string-behind2 .ensures) (at-string-behind3 .before .next2 .ensures) (at-to .to .given .1) (at-string-behind3 .string-behind3 .ensures) (at-take .before .next3 .ensures) (at-d .d .given .1) (at-take .take .ensures)) (c .rate .ensures)
 
 pub rate-index-at-spec : {M : Type 1} → statement M
 rate-index-at-spec =

@@ -115,7 +115,7 @@ abbrev μ-expression : Measures 5 expression-kinds.ps ℕ
 μ-expression κs a = 32 * (a .1 .1 .1 .1 .1 .0) + 10
 
 abbrev μ-index : Measures 5 index-kinds.ps ℕ
-μ-index κs a = 32 * (a .1 .1 .1 .1 .1 .0) + 12
+μ-index κs a = 32 * (a .1 .1 .1 .1 .1 .1 .0) + 12
 
 abbrev μ-items : Measures 5 items-kinds.ps ℕ
 μ-items κs a = 32 * (a .1 .1 .1 .1 .1 .1 .0) + 11
@@ -124,7 +124,7 @@ abbrev μ-list : Measures 5 list-kinds.ps ℕ
 μ-list κs a = 32 * (a .1 .1 .1 .1 .1 .1 .0) + 4
 
 abbrev μ-method : Measures 5 method-kinds.ps ℕ
-μ-method κs a = 32 * (a .1 .1 .1 .1 .1 .0) + 1
+μ-method κs a = 32 * (a .1 .1 .1 .1 .1 .1 .0) + 1
 
 abbrev μ-name : Measures 5 name-kinds.ps ℕ
 μ-name κs a = 32 * (a .1 .1 .1 .1 .1 .1 .0) + 4
@@ -136,10 +136,10 @@ abbrev μ-pays : Measures 5 pays-kinds.ps ℕ
 μ-pays κs a = 32 * (a .1 .1 .1 .1 .1 .1 .0) + 4
 
 abbrev μ-postfix : Measures 5 postfix-kinds.ps ℕ
-μ-postfix κs a = 32 * (a .1 .1 .1 .1 .1 .0) + 2
+μ-postfix κs a = 32 * (a .1 .1 .1 .1 .1 .1 .0) + 2
 
 abbrev μ-postfixes : Measures 5 postfixes-kinds.ps ℕ
-μ-postfixes κs a = 32 * (a .1 .1 .1 .1 .1 .0) + 3
+μ-postfixes κs a = 32 * (a .1 .1 .1 .1 .1 .1 .0) + 3
 
 abbrev μ-power : Measures 5 power-kinds.ps ℕ
 μ-power κs a = 32 * (a .1 .1 .1 .1 .1 .0) + 6
@@ -643,13 +643,13 @@ call-returns-3 t c =
     let start = at-arguments .before .before .before .before .before .before .before in
     let args = start .args in
     let pre = start .pre in
-    call-done (wordsIn (args .reserved .now) (args .currencies .now) (args .counters .now)) (args .depth) (tokenAt (args .s .now) (args .c)) (args .kind) (pre .1 .4) (pre .1 .5) (pre .1 .6) (args .s .now) (args .d) _ _ _ _ _ _ _ (done-items _ _ _ _ _ _ _ _ _ _ (at-r .r .given .1) (at-arguments .arguments .ensures)) _ (at-if1 .before .call-fault .ensures) (at-if1 .if1 .left) _ (put-fields _ _ _ _ _ _ _ _ _ (at-put .before .plain .ensures) (at-put .put .ensures))
+    call-done (wordsIn (args .reserved .now) (args .currencies .now) (args .counters .now)) (args .depth) (tokenAt (args .s .now) (args .c)) (args .kind) (pre .1 .4) (pre .1 .5) (pre .1 .6) (args .s .now) (args .d) _ _ _ _ _ _ _ (done-items _ _ _ _ _ _ _ _ _ _ (at-r .r .given .1) (at-arguments .arguments .ensures)) _ (at-if1 .before .call-fault .ensures) (at-if1 .if1 .left) _ (put-fields _ _ _ _ _ _ _ _ _ _ (at-put .before .plain .ensures) (at-put .put .ensures))
 
 abbrev comparison-Inv-loop : comparison-lts.InvT-loop
-comparison-Inv-loop s reserved currencies counters depth out₀ n at₀ m₀ sign₀ out at m sign = (length out ≡ length out₀) × Compares (G.primary (wordsIn reserved currencies counters) depth) s at₀ n out₀ sign at m out
+comparison-Inv-loop s reserved currencies counters c depth out₀ n at₀ m₀ sign₀ out at m sign = (length out ≡ length out₀) × Compares (G.primary (wordsIn reserved currencies counters) depth) s at₀ n out₀ sign at m out
 
 abbrev comparison-μ-loop : comparison-lts.MeasureT-loop
-comparison-μ-loop s reserved currencies counters depth out₀ n at₀ m₀ sign₀ out at m sign = 1 - sign
+comparison-μ-loop s reserved currencies counters c depth out₀ n at₀ m₀ sign₀ out at m sign = 1 - sign
 
 comparison-loop-holds : (t : ℕ) → comparison-lts.Need-loop-holds (
   sum-below t,
@@ -666,7 +666,7 @@ comparison-loop-holds t c =
     let args = start .args in
     let words = wordsIn (args .reserved .now) (args .currencies .now) (args .counters .now) in
     let reader = G.primary words (args .depth) in
-    (refl, compare-first reader (sum-size reader (primary-size words (args .depth))) (args .s .now) (args .c) (args .n) (args .out .now) (start .pre .1 .0 .1))
+    (refl, compare-first reader (sum-size reader (primary-size words (args .depth))) (args .s .now) (args .c) (args .n) (args .out .now) (start .pre .1 .0))
 
 comparison-sum-requires : (t : ℕ) → comparison-lts.Need-sum-requires (
   sum-below t,
@@ -684,7 +684,7 @@ comparison-sum-requires t c κs =
     let args = start .args in
     let words = wordsIn (args .reserved .now) (args .currencies .now) (args .counters .now) in
     let reader = G.primary words (args .depth) in
-    (omega (arith, pre .0), (compare-ready reader (sum-size reader (primary-size words (args .depth))) (args .s .now) (args .c) (args .n) (args .out .now) (pre .1 .0 .1) _ _ _ _ (c .before .loop .inv .1) (pre .1 .0 .0), pre .1 .1))
+    (omega (arith, pre .0), (compare-ready reader (sum-size reader (primary-size words (args .depth))) (args .s .now) (args .c) (args .n) (args .out .now) (pre .1 .0) _ _ _ _ (c .before .loop .inv .1), pre .1 .1))
 
 comparison-enum-known-r : (t : ℕ) → comparison-lts.Need-enum-known-r (
   sum-below t,
@@ -741,7 +741,7 @@ comparison-returns t c =
     let args = start .args in
     let words = wordsIn (args .reserved .now) (args .currencies .now) (args .counters .now) in
     let reader = G.primary words (args .depth) in
-    refused-on _ _ _ _ _ _ _ _ _ _ _ _ (c .enum-told .given .1) (at-sum .sum .ensures) (compare-refused reader (sum-size reader (primary-size words (args .depth))) (args .s .now) (args .c) (args .n) (args .out .now) (start .pre .1 .0 .1) _ _ _ _ (at-loop .loop .inv .1) _ _)
+    refused-on _ _ _ _ _ _ _ _ _ _ _ _ (c .enum-told .given .1) (at-sum .sum .ensures) (compare-refused reader (sum-size reader (primary-size words (args .depth))) (args .s .now) (args .c) (args .n) (args .out .now) (start .pre .1 .0) _ _ _ _ (at-loop .loop .inv .1) _ _)
 
 comparison-join-requires : (t : ℕ) → comparison-lts.Need-join-requires (
   sum-below t,
@@ -761,7 +761,7 @@ comparison-join-requires t c κs =
     let args = start .args in
     let words = wordsIn (args .reserved .now) (args .currencies .now) (args .counters .now) in
     let reader = G.primary words (args .depth) in
-    compare-numbers reader (sum-size reader (primary-size words (args .depth))) (args .s .now) (args .c) (args .n) (args .out .now) (start .pre .1 .0 .1) _ _ _ _ (at-loop .loop .inv .1) _ _ _ _ (done-reads _ _ _ _ _ _ _ _ _ (at-r .r .given .1) (at-sum .sum .ensures))
+    compare-numbers reader (sum-size reader (primary-size words (args .depth))) (args .s .now) (args .c) (args .n) (args .out .now) (start .pre .1 .0) _ _ _ _ (at-loop .loop .inv .1) _ _ _ _ (done-reads _ _ _ _ _ _ _ _ _ (at-r .r .given .1) (at-sum .sum .ensures))
 
 comparison-same-length-2 : (t : ℕ) → comparison-lts.Need-same-length-2 (
   sum-below t,
@@ -797,7 +797,7 @@ comparison-returns-2 t c =
     let args = start .args in
     let words = wordsIn (args .reserved .now) (args .currencies .now) (args .counters .now) in
     let reader = G.primary words (args .depth) in
-    compare-last reader (sum-size reader (primary-size words (args .depth))) (args .s .now) (args .c) (args .n) (args .out .now) (start .pre .1 .0 .1) _ _ _ _ (at-loop .loop .inv .1) _ _ _ _ (done-reads _ _ _ _ _ _ _ _ _ (at-r .r .given .1) (at-sum .sum .ensures)) (at-join .join .result) _ (at-join .join .ensures) (c .if1 .taken)
+    compare-last reader (sum-size reader (primary-size words (args .depth))) (args .s .now) (args .c) (args .n) (args .out .now) (start .pre .1 .0) _ _ _ _ (at-loop .loop .inv .1) _ _ _ _ (done-reads _ _ _ _ _ _ _ _ _ (at-r .r .given .1) (at-sum .sum .ensures)) (at-join .join .result) _ (at-join .join .ensures) (c .if1 .taken)
 
 comparison-is-comparator-requires : (t : ℕ) → comparison-lts.Need-is-comparator-requires (
   sum-below t,
@@ -846,7 +846,7 @@ comparison-returns-3 t c =
     let args = start .args in
     let words = wordsIn (args .reserved .now) (args .currencies .now) (args .counters .now) in
     let reader = G.primary words (args .depth) in
-    compare-none reader (sum-size reader (primary-size words (args .depth))) (args .s .now) (args .c) (args .n) (args .out .now) (start .pre .1 .0 .1) _ _ _ _ (at-loop .loop .inv .1) _ _ _ _ (done-reads _ _ _ _ _ _ _ _ _ (at-r .r .given .1) (at-sum .sum .ensures)) (at-join .join .result) _ (at-join .join .ensures) (at-if1 .if1 .left) (sym (c .before .is-comparator .ensures) ∙ not-true _ (c .if2 .taken))
+    compare-none reader (sum-size reader (primary-size words (args .depth))) (args .s .now) (args .c) (args .n) (args .out .now) (start .pre .1 .0) _ _ _ _ (at-loop .loop .inv .1) _ _ _ _ (done-reads _ _ _ _ _ _ _ _ _ (at-r .r .given .1) (at-sum .sum .ensures)) (at-join .join .result) _ (at-join .join .ensures) (at-if1 .if1 .left) (sym (c .before .is-comparator .ensures) ∙ not-true _ (c .if2 .taken))
 
 comparison-next-requires : (t : ℕ) → comparison-lts.Need-next-requires (
   sum-below t,
@@ -868,7 +868,7 @@ comparison-next-requires t c κs =
     let args = start .args in
     let words = wordsIn (args .reserved .now) (args .currencies .now) (args .counters .now) in
     let reader = G.primary words (args .depth) in
-    (compare-alone reader (sum-size reader (primary-size words (args .depth))) (args .s .now) (args .c) (args .n) (args .out .now) (start .pre .1 .0 .1) _ _ _ _ (at-loop .loop .inv .1) _ _ _ _ (done-reads _ _ _ _ _ _ _ _ _ (at-r .r .given .1) (at-sum .sum .ensures)) (at-join .join .result) _ (at-join .join .ensures) (at-if1 .if1 .left)) .holds
+    (compare-alone reader (sum-size reader (primary-size words (args .depth))) (args .s .now) (args .c) (args .n) (args .out .now) (start .pre .1 .0) _ _ _ _ (at-loop .loop .inv .1) _ _ _ _ (done-reads _ _ _ _ _ _ _ _ _ (at-r .r .given .1) (at-sum .sum .ensures)) (at-join .join .result) _ (at-join .join .ensures) (at-if1 .if1 .left)) .holds
 
 comparison-loop-less : (t : ℕ) → comparison-lts.Need-loop-less (
   sum-below t,
@@ -905,13 +905,13 @@ comparison-loop-again t c =
     let args = start .args in
     let words = wordsIn (args .reserved .now) (args .currencies .now) (args .counters .now) in
     let reader = G.primary words (args .depth) in
-    (join .kept .0 ∙ (at-sum .sum .kept .1 .1 .1 .1 .1 .1 .0 ∙ at-loop .loop .inv .0), compare-next reader (sum-size reader (primary-size words (args .depth))) (args .s .now) (args .c) (args .n) (args .out .now) (start .pre .1 .0 .1) _ _ _ _ (at-loop .loop .inv .1) _ _ _ _ (done-reads _ _ _ _ _ _ _ _ _ (at-r .r .given .1) (at-sum .sum .ensures)) (join .result) _ (join .ensures) (at-is-comparator .before .if1 .left) (sym (at-is-comparator .is-comparator .ensures) ∙ not-false _ (c .before .if2 .left)) (c .next .result) (c .next .ensures))
+    (join .kept .0 ∙ (at-sum .sum .kept .1 .1 .1 .1 .1 .1 .0 ∙ at-loop .loop .inv .0), compare-next reader (sum-size reader (primary-size words (args .depth))) (args .s .now) (args .c) (args .n) (args .out .now) (start .pre .1 .0) _ _ _ _ (at-loop .loop .inv .1) _ _ _ _ (done-reads _ _ _ _ _ _ _ _ _ (at-r .r .given .1) (at-sum .sum .ensures)) (join .result) _ (join .ensures) (at-is-comparator .before .if1 .left) (sym (at-is-comparator .is-comparator .ensures) ∙ not-false _ (c .before .if2 .left)) (c .next .result) (c .next .ensures))
 
 abbrev expression-Inv-loop : expression-lts.InvT-loop
-expression-Inv-loop s reserved currencies counters depth out₀ n at₀ m₀ sign₀ out at m sign = (length out ≡ length out₀) × Pending (λ u. isSign "and" u || isSign "or" u) jointSign (G.comparison (G.primary (wordsIn reserved currencies counters) depth)) s (G.expression (G.primary (wordsIn reserved currencies counters) depth) (toksAt s (at₀ .start))) n out₀ sign at m out
+expression-Inv-loop s reserved currencies counters c depth out₀ n at₀ m₀ sign₀ out at m sign = (length out ≡ length out₀) × Pending (λ u. isSign "and" u || isSign "or" u) jointSign (G.comparison (G.primary (wordsIn reserved currencies counters) depth)) s (at₀ .start) (G.expression (G.primary (wordsIn reserved currencies counters) depth) (toksAt s (at₀ .start))) n out₀ sign at m out
 
 abbrev expression-μ-loop : expression-lts.MeasureT-loop
-expression-μ-loop s reserved currencies counters depth out₀ n at₀ m₀ sign₀ out at m sign = length (toksAt s (at .start))
+expression-μ-loop s reserved currencies counters c depth out₀ n at₀ m₀ sign₀ out at m sign = length (toksAt s (at .start))
 
 expression-loop-holds : (t : ℕ) → expression-lts.Need-loop-holds (
   comparison-below t,
@@ -942,7 +942,7 @@ expression-comparison-requires : (t : ℕ) → expression-lts.Need-comparison-re
 expression-comparison-requires t c κs =
     let start = c .before .before .before .before .before .before .before in
     let args = start .args in
-    (omega (arith, start .pre .0), (pend-ready (joint-level (wordsIn (args .reserved .now) (args .currencies .now) (args .counters .now)) (args .depth)) (args .s .now) _ _ _ _ _ _ _ (c .before .loop .inv .1), start .pre .1 .1))
+    (omega (arith, start .pre .0), (pend-ready (joint-level (wordsIn (args .reserved .now) (args .currencies .now) (args .counters .now)) (args .depth)) (args .s .now) _ _ _ _ _ _ _ _ (c .before .loop .inv .1), start .pre .1 .1))
 
 expression-enum-known-r : (t : ℕ) → expression-lts.Need-enum-known-r (
   comparison-below t,
@@ -996,7 +996,7 @@ expression-returns t c =
     let at-comparison = c .before .before .before .before in
     let at-loop = at-comparison .before .before in
     let args = at-loop .before .before .before .before .before .before .args in
-    refused-on _ _ _ _ _ _ _ _ _ _ _ _ (c .enum-told .given .1) (at-comparison .comparison .ensures) (pend-refused (joint-level (wordsIn (args .reserved .now) (args .currencies .now) (args .counters .now)) (args .depth)) (args .s .now) _ _ _ _ _ _ _ (at-loop .loop .inv .1) _ _)
+    refused-on _ _ _ _ _ _ _ _ _ _ _ _ (c .enum-told .given .1) (at-comparison .comparison .ensures) (pend-refused (joint-level (wordsIn (args .reserved .now) (args .currencies .now) (args .counters .now)) (args .depth)) (args .s .now) _ _ _ _ _ _ _ _ (at-loop .loop .inv .1) _ _)
 
 expression-join-requires : (t : ℕ) → expression-lts.Need-join-requires (
   comparison-below t,
@@ -1013,7 +1013,7 @@ expression-join-requires t c κs =
     let at-comparison = at-r .before .before .before .before in
     let at-loop = at-comparison .before .before in
     let args = at-loop .before .before .before .before .before .before .args in
-    pend-numbers (joint-level (wordsIn (args .reserved .now) (args .currencies .now) (args .counters .now)) (args .depth)) (args .s .now) _ _ _ _ _ _ _ (at-loop .loop .inv .1) _ _ _ _ (done-reads _ _ _ _ _ _ _ _ _ (at-r .r .given .1) (at-comparison .comparison .ensures))
+    pend-numbers (joint-level (wordsIn (args .reserved .now) (args .currencies .now) (args .counters .now)) (args .depth)) (args .s .now) _ _ _ _ _ _ _ _ (at-loop .loop .inv .1) _ _ _ _ (done-reads _ _ _ _ _ _ _ _ _ (at-r .r .given .1) (at-comparison .comparison .ensures))
 
 expression-is-joint-requires : (t : ℕ) → expression-lts.Need-is-joint-requires (
   comparison-below t,
@@ -1059,7 +1059,7 @@ expression-returns-2 t c =
     let at-loop = at-comparison .before .before in
     let args = at-loop .before .before .before .before .before .before .args in
     let words = wordsIn (args .reserved .now) (args .currencies .now) (args .counters .now) in
-    chain-exit (joint-level words (args .depth)) (args .s .now) _ _ _ _ _ _ _ (pend-chain (joint-level words (args .depth)) (args .s .now) _ _ _ _ _ _ _ (at-loop .loop .inv .1) _ _ _ _ (done-reads _ _ _ _ _ _ _ _ _ (at-r .r .given .1) (at-comparison .comparison .ensures)) (at-join .join .result) _ (at-join .join .ensures)) (sym (c .before .is-joint .ensures) ∙ not-true _ (c .if1 .taken))
+    chain-exit (joint-level words (args .depth)) (args .s .now) _ _ _ _ _ _ _ _ (pend-chain (joint-level words (args .depth)) (args .s .now) _ _ _ _ _ _ _ _ (at-loop .loop .inv .1) _ _ _ _ (done-reads _ _ _ _ _ _ _ _ _ (at-r .r .given .1) (at-comparison .comparison .ensures)) (at-join .join .result) _ (at-join .join .ensures)) (sym (c .before .is-joint .ensures) ∙ not-true _ (c .if1 .taken))
 
 expression-next-requires : (t : ℕ) → expression-lts.Need-next-requires (
   comparison-below t,
@@ -1077,7 +1077,7 @@ expression-next-requires t c κs =
     let at-comparison = at-r .before .before .before .before in
     let at-loop = at-comparison .before .before in
     let args = at-loop .before .before .before .before .before .before .args in
-    (pend-chain (joint-level (wordsIn (args .reserved .now) (args .currencies .now) (args .counters .now)) (args .depth)) (args .s .now) _ _ _ _ _ _ _ (at-loop .loop .inv .1) _ _ _ _ (done-reads _ _ _ _ _ _ _ _ _ (at-r .r .given .1) (at-comparison .comparison .ensures)) (at-join .join .result) _ (at-join .join .ensures)) .holds
+    (pend-chain (joint-level (wordsIn (args .reserved .now) (args .currencies .now) (args .counters .now)) (args .depth)) (args .s .now) _ _ _ _ _ _ _ _ (at-loop .loop .inv .1) _ _ _ _ (done-reads _ _ _ _ _ _ _ _ _ (at-r .r .given .1) (at-comparison .comparison .ensures)) (at-join .join .result) _ (at-join .join .ensures)) .holds
 
 expression-loop-less : (t : ℕ) → expression-lts.Need-loop-less (
   comparison-below t,
@@ -1095,7 +1095,7 @@ expression-loop-less t c =
     let at-comparison = at-r .before .before .before .before in
     let at-loop = at-comparison .before .before in
     let args = at-loop .before .before .before .before .before .before .args in
-    pend-less (joint-level (wordsIn (args .reserved .now) (args .currencies .now) (args .counters .now)) (args .depth)) (args .s .now) _ _ _ _ _ _ _ (at-loop .loop .inv .1) _ _ _ _ (done-reads _ _ _ _ _ _ _ _ _ (at-r .r .given .1) (at-comparison .comparison .ensures)) (sym (at-is-joint .is-joint .ensures) ∙ not-false _ (c .before .if1 .left)) (c .next .result) (c .next .ensures)
+    pend-less (joint-level (wordsIn (args .reserved .now) (args .currencies .now) (args .counters .now)) (args .depth)) (args .s .now) _ _ _ _ _ _ _ _ (at-loop .loop .inv .1) _ _ _ _ (done-reads _ _ _ _ _ _ _ _ _ (at-r .r .given .1) (at-comparison .comparison .ensures)) (sym (at-is-joint .is-joint .ensures) ∙ not-false _ (c .before .if1 .left)) (c .next .result) (c .next .ensures)
 
 expression-loop-again : (t : ℕ) → expression-lts.Need-loop-again (
   comparison-below t,
@@ -1116,7 +1116,7 @@ expression-loop-again t c =
     let join = at-join .join in
     let args = at-loop .before .before .before .before .before .before .args in
     let words = wordsIn (args .reserved .now) (args .currencies .now) (args .counters .now) in
-    (join .kept .0 ∙ (at-comparison .comparison .kept .1 .1 .1 .1 .1 .1 .0 ∙ at-loop .loop .inv .0), pend-next (joint-level words (args .depth)) (args .s .now) _ _ _ _ _ _ _ (pend-chain (joint-level words (args .depth)) (args .s .now) _ _ _ _ _ _ _ (at-loop .loop .inv .1) _ _ _ _ (done-reads _ _ _ _ _ _ _ _ _ (at-r .r .given .1) (at-comparison .comparison .ensures)) (join .result) _ (join .ensures)) (sym (at-is-joint .is-joint .ensures) ∙ not-false _ (c .before .if1 .left)) (c .next .result) (c .next .ensures))
+    (join .kept .0 ∙ (at-comparison .comparison .kept .1 .1 .1 .1 .1 .1 .0 ∙ at-loop .loop .inv .0), pend-next (joint-level words (args .depth)) (args .s .now) _ _ _ _ _ _ _ _ (pend-chain (joint-level words (args .depth)) (args .s .now) _ _ _ _ _ _ _ _ (at-loop .loop .inv .1) _ _ _ _ (done-reads _ _ _ _ _ _ _ _ _ (at-r .r .given .1) (at-comparison .comparison .ensures)) (join .result) _ (join .ensures)) (sym (at-is-joint .is-joint .ensures) ∙ not-false _ (c .before .if1 .left)) (c .next .result) (c .next .ensures))
 
 index-expression-requires : (t : ℕ) → index-lts.Need-expression-requires (
   expression-below t,
@@ -1180,7 +1180,7 @@ index-returns t c =
     let at-expression = c .before .before .before .before in
     let args = at-expression .before .before .before .before .before .before .before .args in
     let words = wordsIn (args .reserved .now) (args .currencies .now) (args .counters .now) in
-    index-refuses (primaryG words (args .depth)) (primary-law words (args .depth)) (primary-size words (args .depth)) (args .s .now) (args .c) (args .n) (args .m) (args .out .now) _ (at-expression .expression .result) _ _ (c .enum-told .given .1) (at-expression .expression .ensures)
+    index-refuses (primaryG words (args .depth)) (primary-law words (args .depth)) (primary-size words (args .depth)) (args .place) (args .s .now) (args .c) (args .n) (args .m) (args .out .now) _ (at-expression .expression .result) _ _ (c .enum-told .given .1) (at-expression .expression .ensures)
 
 index-take-requires : (t : ℕ) → index-lts.Need-take-requires (
   expression-below t,
@@ -1248,7 +1248,7 @@ index-returns-2 t c =
     let at-expression = at-r .before .before .before .before in
     let args = at-expression .before .before .before .before .before .before .before .args in
     let words = wordsIn (args .reserved .now) (args .currencies .now) (args .counters .now) in
-    index-open (primaryG words (args .depth)) (primary-law words (args .depth)) (primary-size words (args .depth)) (args .s .now) (args .c) (args .n) (args .m) (args .out .now) _ _ _ _ (done-reads _ _ _ _ (at-expression .expression .result) _ _ _ _ (at-r .r .given .1) (at-expression .expression .ensures)) (at-take .take .result) _ (c .enum-told2 .given .1) (at-take .take .ensures) (args .out .now)
+    index-open (primaryG words (args .depth)) (primary-law words (args .depth)) (primary-size words (args .depth)) (args .place) (args .s .now) (args .c) (args .n) (args .m) (args .out .now) _ _ _ _ (done-reads _ _ _ _ (at-expression .expression .result) _ _ _ _ (at-r .r .given .1) (at-expression .expression .ensures)) (at-take .take .result) _ (c .enum-told2 .given .1) (at-take .take .ensures) (args .out .now)
 
 index-sub-plain : (t : ℕ) → index-lts.Need-sub-plain (
   expression-below t,
@@ -1268,7 +1268,7 @@ index-sub-plain t c =
     let start = at-expression .before .before .before .before .before .before .before in
     let args = start .args in
     let words = wordsIn (args .reserved .now) (args .currencies .now) (args .counters .now) in
-    omega (arith, index-numbers (primaryG words (args .depth)) (primary-law words (args .depth)) (primary-size words (args .depth)) (args .s .now) (args .c) (args .n) (args .m) (args .out .now) _ _ _ _ (done-reads _ _ _ _ (at-expression .expression .result) _ _ _ _ (at-r .r .given .1) (at-expression .expression .ensures)) (start .pre .1 .0 .1) (start .pre .1 .2) (at-take .take .result) _ (at-e .e .given .1) (at-take .take .ensures))
+    omega (arith, index-numbers (primaryG words (args .depth)) (primary-law words (args .depth)) (primary-size words (args .depth)) (args .place) (args .s .now) (args .c) (args .n) (args .m) (args .out .now) _ _ _ _ (done-reads _ _ _ _ (at-expression .expression .result) _ _ _ _ (at-r .r .given .1) (at-expression .expression .ensures)) (start .pre .1 .0 .1) (start .pre .1 .2) (at-take .take .result) _ (at-e .e .given .1) (at-take .take .ensures))
 
 index-add-plain : (t : ℕ) → index-lts.Need-add-plain (
   expression-below t,
@@ -1288,7 +1288,7 @@ index-add-plain t c =
     let start = at-expression .before .before .before .before .before .before .before in
     let args = start .args in
     let words = wordsIn (args .reserved .now) (args .currencies .now) (args .counters .now) in
-    omega (arith, index-numbers (primaryG words (args .depth)) (primary-law words (args .depth)) (primary-size words (args .depth)) (args .s .now) (args .c) (args .n) (args .m) (args .out .now) _ _ _ _ (done-reads _ _ _ _ (at-expression .expression .result) _ _ _ _ (at-r .r .given .1) (at-expression .expression .ensures)) (start .pre .1 .0 .1) (start .pre .1 .2) (at-take .take .result) _ (at-e .e .given .1) (at-take .take .ensures))
+    omega (arith, index-numbers (primaryG words (args .depth)) (primary-law words (args .depth)) (primary-size words (args .depth)) (args .place) (args .s .now) (args .c) (args .n) (args .m) (args .out .now) _ _ _ _ (done-reads _ _ _ _ (at-expression .expression .result) _ _ _ _ (at-r .r .given .1) (at-expression .expression .ensures)) (start .pre .1 .0 .1) (start .pre .1 .2) (at-take .take .result) _ (at-e .e .given .1) (at-take .take .ensures))
 
 index-plain-requires : (t : ℕ) → index-lts.Need-plain-requires (
   expression-below t,
@@ -1314,7 +1314,7 @@ index-put-requires : (t : ℕ) → index-lts.Need-put-requires (
 ) (index-at t) index.Post
 index-put-requires t c κs = search needs
 
-index-add-t21 : (t : ℕ) → index-lts.Need-add-t21 (
+index-add-t22 : (t : ℕ) → index-lts.Need-add-t22 (
   expression-below t,
   expression.Post,
   take-reads.Asked,
@@ -1324,7 +1324,7 @@ index-add-t21 : (t : ℕ) → index-lts.Need-add-t21 (
   put-reads.Asked,
   put-reads.Learnt,
 ) (index-at t) index.Post
-index-add-t21 t c =
+index-add-t22 t c =
     let at-e = c .before .before .before .before .before .before in
     let at-take = at-e .before .before in
     let at-r = at-take .before .before in
@@ -1332,7 +1332,7 @@ index-add-t21 t c =
     let start = at-expression .before .before .before .before .before .before .before in
     let args = start .args in
     let words = wordsIn (args .reserved .now) (args .currencies .now) (args .counters .now) in
-    omega (arith, index-numbers (primaryG words (args .depth)) (primary-law words (args .depth)) (primary-size words (args .depth)) (args .s .now) (args .c) (args .n) (args .m) (args .out .now) _ _ _ _ (done-reads _ _ _ _ (at-expression .expression .result) _ _ _ _ (at-r .r .given .1) (at-expression .expression .ensures)) (start .pre .1 .0 .1) (start .pre .1 .2) (at-take .take .result) _ (at-e .e .given .1) (at-take .take .ensures))
+    omega (arith, index-numbers (primaryG words (args .depth)) (primary-law words (args .depth)) (primary-size words (args .depth)) (args .place) (args .s .now) (args .c) (args .n) (args .m) (args .out .now) _ _ _ _ (done-reads _ _ _ _ (at-expression .expression .result) _ _ _ _ (at-r .r .given .1) (at-expression .expression .ensures)) (start .pre .1 .0 .1) (start .pre .1 .2) (at-take .take .result) _ (at-e .e .given .1) (at-take .take .ensures))
 
 index-same-length-3 : (t : ℕ) → index-lts.Need-same-length-3 (
   expression-below t,
@@ -1365,7 +1365,7 @@ index-returns-3 t c =
     let start = at-expression .before .before .before .before .before .before .before in
     let args = start .args in
     let words = wordsIn (args .reserved .now) (args .currencies .now) (args .counters .now) in
-    index-reads (primaryG words (args .depth)) (primary-law words (args .depth)) (primary-size words (args .depth)) (args .s .now) (args .c) (args .n) (args .m) (args .out .now) _ _ _ _ (done-reads _ _ _ _ (at-expression .expression .result) _ _ _ _ (at-r .r .given .1) (at-expression .expression .ensures)) (start .pre .1 .0 .1) (start .pre .1 .2) (at-take .take .result) _ (at-e .e .given .1) (at-take .take .ensures) _ (put-fields _ _ _ _ _ _ _ _ _ (at-put .before .plain .ensures) (at-put .put .ensures))
+    index-reads (primaryG words (args .depth)) (primary-law words (args .depth)) (primary-size words (args .depth)) (args .place) (args .s .now) (args .c) (args .n) (args .m) (args .out .now) _ _ _ _ (done-reads _ _ _ _ (at-expression .expression .result) _ _ _ _ (at-r .r .given .1) (at-expression .expression .ensures)) (start .pre .1 .0 .1) (start .pre .1 .2) (at-take .take .result) _ (at-e .e .given .1) (at-take .take .ensures) _ (put-fields _ _ _ _ _ _ _ _ _ _ (at-put .before .plain .ensures) (at-put .put .ensures))
 
 abbrev items-Inv-loop : items-lts.InvT-loop
 items-Inv-loop s reserved currencies counters close depth out₀ n at₀ m₀ count₀ texts₀ out at m count texts = (length out ≡ length out₀) × ItemChain close (G.primary (wordsIn reserved currencies counters) depth) s (itemsBy close (G.primary (wordsIn reserved currencies counters) depth) (toksAt s (at₀ .start))) n out₀ at m count texts out
@@ -1948,7 +1948,7 @@ list-same-length-2 : (t : ℕ) → list-lts.Need-same-length-2 (
 list-same-length-2 t c =
     let at-postfixes = c .before .before in
     let at-put = at-postfixes .before .before .before .before in
-    at-postfixes .postfixes .kept .1 .1 .1 .1 .1 .1 .0 ∙ (at-put .put .kept .0 ∙ at-put .before .before .before .before .before .before .before .before .before .items .kept .1 .1 .1 .1 .1 .1 .1 .0)
+    at-postfixes .postfixes .kept .1 .1 .1 .1 .1 .1 .1 .0 ∙ (at-put .put .kept .0 ∙ at-put .before .before .before .before .before .before .before .before .before .items .kept .1 .1 .1 .1 .1 .1 .1 .0)
 
 list-returns-3 : (t : ℕ) → list-lts.Need-returns-3 (
   items-below t,
@@ -1977,7 +1977,7 @@ list-returns-3 t c =
     let r = at-r .r in
     let items = at-items .items in
     let words = wordsIn (args .reserved .now) (args .currencies .now) (args .counters .now) in
-    meets-as _ _ _ _ _ (at-postfixes .postfixes .result) _ (list-done words (args .depth) (args .s .now) (args .c) (args .d) (pre .1 .1) (pre .1 .2) (at-if1 .if1 .left) _ (pre .1 .0 .1) _ _ _ _ _ _ (done-items _ _ _ _ _ _ _ _ _ _ (r .given .1) (items .ensures .0)) (closed-code _ _ _ _ _ _ (r .given .1) (items .ensures .1)) (at-next .next .result) (at-next .next .ensures)) (at-postfixes .postfixes .ensures _ _ (list-tops words (args .depth) (args .s .now) (args .c) (args .d) (pre .1 .1) (pre .1 .2) (at-if1 .if1 .left) _ (pre .1 .0 .1) _ _ _ _ _ _ (done-items _ _ _ _ _ _ _ _ _ _ (r .given .1) (items .ensures .0)) _ (put-fields _ _ _ _ _ _ _ _ _ (at-put .before .plain .ensures) (at-put .put .ensures))))
+    meets-as _ _ _ _ _ (at-postfixes .postfixes .result) _ (list-done words (args .depth) (args .s .now) (args .c) (args .d) (pre .1 .1) (pre .1 .2) (at-if1 .if1 .left) _ (pre .1 .0 .1) _ _ _ _ _ _ (done-items _ _ _ _ _ _ _ _ _ _ (r .given .1) (items .ensures .0)) (closed-code _ _ _ _ _ _ (r .given .1) (items .ensures .1)) (at-next .next .result) (at-next .next .ensures)) (at-postfixes .postfixes .ensures _ _ (list-tops words (args .depth) (args .s .now) (args .c) (args .d) (pre .1 .1) (pre .1 .2) (at-if1 .if1 .left) _ (pre .1 .0 .1) _ _ _ _ _ _ (done-items _ _ _ _ _ _ _ _ _ _ (r .given .1) (items .ensures .0)) _ (put-fields _ _ _ _ _ _ _ _ _ _ (at-put .before .plain .ensures) (at-put .put .ensures))))
 
 method-take-requires : (t : ℕ) → method-lts.Need-take-requires (
   take-reads.Asked,
@@ -2046,7 +2046,7 @@ method-returns t c =
     let start = at-take .before .before .before .before .before .before in
     let args = start .args in
     let words = wordsIn (args .reserved .now) (args .currencies .now) (args .counters .now) in
-    method-unnamed (inner words (args .depth)) (inner-sized words (args .depth)) (args .s .now) (args .c) (start .pre .1 .0 .0) (args .n) (args .m) (args .out .now) (at-take .take .result) _ (c .enum-told .given .1) (at-take .take .ensures) (args .out .now)
+    method-unnamed (inner words (args .depth)) (inner-sized words (args .depth)) (args .place) (args .s .now) (args .c) (start .pre .1 .0 .0) (args .n) (args .m) (args .out .now) (at-take .take .result) _ (c .enum-told .given .1) (at-take .take .ensures) (args .out .now)
 
 method-arguments-requires : (t : ℕ) → method-lts.Need-arguments-requires (
   take-reads.Asked,
@@ -2069,7 +2069,7 @@ method-arguments-requires t c κs =
     let args = start .args in
     let pre = start .pre in
     let words = wordsIn (args .reserved .now) (args .currencies .now) (args .counters .now) in
-    (omega arith, (method-ready (inner words (args .depth)) (inner-sized words (args .depth)) (args .s .now) (args .c) (pre .1 .0 .0) (args .n) (args .m) (args .out .now) (at-take .take .result) _ (at-d .d .given .1) (at-take .take .ensures) (pre .1 .0 .1), pre .1 .1))
+    (omega arith, (method-ready (inner words (args .depth)) (inner-sized words (args .depth)) (args .place) (args .s .now) (args .c) (pre .1 .0 .0) (args .n) (args .m) (args .out .now) (at-take .take .result) _ (at-d .d .given .1) (at-take .take .ensures) (pre .1 .0 .1), pre .1 .1))
 
 method-enum-known-r : (t : ℕ) → method-lts.Need-enum-known-r (
   take-reads.Asked,
@@ -2156,7 +2156,7 @@ method-returns-2 t c =
     let start = at-take .before .before .before .before .before .before in
     let args = start .args in
     let words = wordsIn (args .reserved .now) (args .currencies .now) (args .counters .now) in
-    method-refuses (inner words (args .depth)) (inner-sized words (args .depth)) (args .s .now) (args .c) (start .pre .1 .0 .0) (args .n) (args .m) (args .out .now) (at-take .take .result) _ (at-d .d .given .1) (at-take .take .ensures) _ (at-arguments .arguments .result) (c .refusal .result) _ _ (c .before .enum-told2 .given .1) (c .refusal .ensures) (at-arguments .arguments .ensures)
+    method-refuses (inner words (args .depth)) (inner-sized words (args .depth)) (args .place) (args .s .now) (args .c) (start .pre .1 .0 .0) (args .n) (args .m) (args .out .now) (at-take .take .result) _ (at-d .d .given .1) (at-take .take .ensures) _ (at-arguments .arguments .result) (c .refusal .result) _ _ (c .before .enum-told2 .given .1) (c .refusal .ensures) (at-arguments .arguments .ensures)
 
 method-cast-a : (t : ℕ) → method-lts.Need-cast-a (
   take-reads.Asked,
@@ -2298,7 +2298,7 @@ method-returns-3 t c =
     let start = at-take .before .before .before .before .before .before in
     let args = start .args in
     let words = wordsIn (args .reserved .now) (args .currencies .now) (args .counters .now) in
-    method-none (inner words (args .depth)) (inner-sized words (args .depth)) (args .s .now) (args .c) (start .pre .1 .0 .0) (args .n) (args .m) (args .out .now) (at-take .take .result) _ (at-d .d .given .1) (at-take .take .ensures) _ _ _ _ _ (done-items _ _ _ _ (at-arguments .arguments .result) _ _ _ _ _ (at-r .r .given .1) (at-arguments .arguments .ensures)) _ (c .before .method-of .ensures) (c .if1 .taken) (args .out .now)
+    method-none (inner words (args .depth)) (inner-sized words (args .depth)) (args .place) (args .s .now) (args .c) (start .pre .1 .0 .0) (args .n) (args .m) (args .out .now) (at-take .take .result) _ (at-d .d .given .1) (at-take .take .ensures) _ _ _ _ _ (done-items _ _ _ _ (at-arguments .arguments .result) _ _ _ _ _ (at-r .r .given .1) (at-arguments .arguments .ensures)) _ (c .before .method-of .ensures) (c .if1 .taken) (args .out .now)
 
 method-sub-plain : (t : ℕ) → method-lts.Need-sub-plain (
   take-reads.Asked,
@@ -2323,7 +2323,7 @@ method-sub-plain t c =
     let args = start .args in
     let pre = start .pre in
     let words = wordsIn (args .reserved .now) (args .currencies .now) (args .counters .now) in
-    omega (arith, method-numbers (inner words (args .depth)) (inner-sized words (args .depth)) (args .s .now) (args .c) (pre .1 .0 .0) (args .n) (args .m) (args .out .now) (at-take .take .result) _ (at-d .d .given .1) (at-take .take .ensures) _ _ _ _ _ (done-items _ _ _ _ (at-arguments .arguments .result) _ _ _ _ _ (at-r .r .given .1) (at-arguments .arguments .ensures)) (pre .1 .0 .1) (pre .1 .2))
+    omega (arith, method-numbers (inner words (args .depth)) (inner-sized words (args .depth)) (args .place) (args .s .now) (args .c) (pre .1 .0 .0) (args .n) (args .m) (args .out .now) (at-take .take .result) _ (at-d .d .given .1) (at-take .take .ensures) _ _ _ _ _ (done-items _ _ _ _ (at-arguments .arguments .result) _ _ _ _ _ (at-r .r .given .1) (at-arguments .arguments .ensures)) (pre .1 .0 .1) (pre .1 .2))
 
 method-add-plain : (t : ℕ) → method-lts.Need-add-plain (
   take-reads.Asked,
@@ -2348,7 +2348,7 @@ method-add-plain t c =
     let args = start .args in
     let pre = start .pre in
     let words = wordsIn (args .reserved .now) (args .currencies .now) (args .counters .now) in
-    omega (arith, method-numbers (inner words (args .depth)) (inner-sized words (args .depth)) (args .s .now) (args .c) (pre .1 .0 .0) (args .n) (args .m) (args .out .now) (at-take .take .result) _ (at-d .d .given .1) (at-take .take .ensures) _ _ _ _ _ (done-items _ _ _ _ (at-arguments .arguments .result) _ _ _ _ _ (at-r .r .given .1) (at-arguments .arguments .ensures)) (pre .1 .0 .1) (pre .1 .2))
+    omega (arith, method-numbers (inner words (args .depth)) (inner-sized words (args .depth)) (args .place) (args .s .now) (args .c) (pre .1 .0 .0) (args .n) (args .m) (args .out .now) (at-take .take .result) _ (at-d .d .given .1) (at-take .take .ensures) _ _ _ _ _ (done-items _ _ _ _ (at-arguments .arguments .result) _ _ _ _ _ (at-r .r .given .1) (at-arguments .arguments .ensures)) (pre .1 .0 .1) (pre .1 .2))
 
 method-add-plain-2 : (t : ℕ) → method-lts.Need-add-plain-2 (
   take-reads.Asked,
@@ -2373,7 +2373,7 @@ method-add-plain-2 t c =
     let args = start .args in
     let pre = start .pre in
     let words = wordsIn (args .reserved .now) (args .currencies .now) (args .counters .now) in
-    omega (arith, method-numbers (inner words (args .depth)) (inner-sized words (args .depth)) (args .s .now) (args .c) (pre .1 .0 .0) (args .n) (args .m) (args .out .now) (at-take .take .result) _ (at-d .d .given .1) (at-take .take .ensures) _ _ _ _ _ (done-items _ _ _ _ (at-arguments .arguments .result) _ _ _ _ _ (at-r .r .given .1) (at-arguments .arguments .ensures)) (pre .1 .0 .1) (pre .1 .2))
+    omega (arith, method-numbers (inner words (args .depth)) (inner-sized words (args .depth)) (args .place) (args .s .now) (args .c) (pre .1 .0 .0) (args .n) (args .m) (args .out .now) (at-take .take .result) _ (at-d .d .given .1) (at-take .take .ensures) _ _ _ _ _ (done-items _ _ _ _ (at-arguments .arguments .result) _ _ _ _ _ (at-r .r .given .1) (at-arguments .arguments .ensures)) (pre .1 .0 .1) (pre .1 .2))
 
 method-plain-requires : (t : ℕ) → method-lts.Need-plain-requires (
   take-reads.Asked,
@@ -2407,7 +2407,7 @@ method-put-requires : (t : ℕ) → method-lts.Need-put-requires (
 ) (method-at t) method.Post
 method-put-requires t c κs = search needs
 
-method-add-t30 : (t : ℕ) → method-lts.Need-add-t30 (
+method-add-t31 : (t : ℕ) → method-lts.Need-add-t31 (
   take-reads.Asked,
   take-reads.Learnt,
   arguments-below t,
@@ -2421,7 +2421,7 @@ method-add-t30 : (t : ℕ) → method-lts.Need-add-t30 (
   put-reads.Asked,
   put-reads.Learnt,
 ) (method-at t) method.Post
-method-add-t30 t c =
+method-add-t31 t c =
     let at-r = c .before .before .before .before .before .before .before .before .before .before .before in
     let at-arguments = at-r .before .before .before .before in
     let at-d = at-arguments .before .before .before in
@@ -2430,7 +2430,7 @@ method-add-t30 t c =
     let args = start .args in
     let pre = start .pre in
     let words = wordsIn (args .reserved .now) (args .currencies .now) (args .counters .now) in
-    omega (arith, method-numbers (inner words (args .depth)) (inner-sized words (args .depth)) (args .s .now) (args .c) (pre .1 .0 .0) (args .n) (args .m) (args .out .now) (at-take .take .result) _ (at-d .d .given .1) (at-take .take .ensures) _ _ _ _ _ (done-items _ _ _ _ (at-arguments .arguments .result) _ _ _ _ _ (at-r .r .given .1) (at-arguments .arguments .ensures)) (pre .1 .0 .1) (pre .1 .2))
+    omega (arith, method-numbers (inner words (args .depth)) (inner-sized words (args .depth)) (args .place) (args .s .now) (args .c) (pre .1 .0 .0) (args .n) (args .m) (args .out .now) (at-take .take .result) _ (at-d .d .given .1) (at-take .take .ensures) _ _ _ _ _ (done-items _ _ _ _ (at-arguments .arguments .result) _ _ _ _ _ (at-r .r .given .1) (at-arguments .arguments .ensures)) (pre .1 .0 .1) (pre .1 .2))
 
 method-same-length-3 : (t : ℕ) → method-lts.Need-same-length-3 (
   take-reads.Asked,
@@ -2473,7 +2473,7 @@ method-returns-4 t c =
     let args = start .args in
     let pre = start .pre in
     let words = wordsIn (args .reserved .now) (args .currencies .now) (args .counters .now) in
-    method-reads (inner words (args .depth)) (inner-sized words (args .depth)) (args .s .now) (args .c) (pre .1 .0 .0) (args .n) (args .m) (args .out .now) (at-take .take .result) _ (at-d .d .given .1) (at-take .take .ensures) _ _ _ _ _ (done-items _ _ _ _ (at-arguments .arguments .result) _ _ _ _ _ (at-r .r .given .1) (at-arguments .arguments .ensures)) (pre .1 .0 .1) (pre .1 .2) _ (at-if1 .before .method-of .ensures) (at-if1 .if1 .left) _ (put-fields _ _ _ _ _ _ _ _ _ (at-put .before .plain .ensures) (at-put .put .ensures))
+    method-reads (inner words (args .depth)) (inner-sized words (args .depth)) (args .place) (args .s .now) (args .c) (pre .1 .0 .0) (args .n) (args .m) (args .out .now) (at-take .take .result) _ (at-d .d .given .1) (at-take .take .ensures) _ _ _ _ _ (done-items _ _ _ _ (at-arguments .arguments .result) _ _ _ _ _ (at-r .r .given .1) (at-arguments .arguments .ensures)) (pre .1 .0 .1) (pre .1 .2) _ (at-if1 .before .method-of .ensures) (at-if1 .if1 .left) _ (put-fields _ _ _ _ _ _ _ _ _ _ (at-put .before .plain .ensures) (at-put .put .ensures))
 
 name-cast-a : (t : ℕ) → name-lts.Need-cast-a (
   call-of-reads.Asked,
@@ -2936,10 +2936,10 @@ parenthesis-returns-4 t c =
     parenthesis-closed (wordsIn (args .reserved .now) (args .currencies .now) (args .counters .now)) (args .s .now) (args .c) (args .d) (args .n) (args .out .now) (args .depth) (start .pre .1 .1) (λ z. omega (arith, z, start .pre .1 .2)) (at-if1 .if1 .left) _ _ _ _ (done-reads _ _ _ _ _ _ _ _ _ (at-r .r .given .1) (at-expression .expression .ensures)) _ (takes-as _ _ _ (c .before .f .given .1) (at-take .take .ensures))
 
 abbrev pays-Inv-loop : pays-lts.InvT-loop
-pays-Inv-loop s reserved currencies counters depth out₀ n at₀ m₀ count₀ out at m count = (length out ≡ length out₀) × PayChain (wordsIn reserved currencies counters) (G.primary (wordsIn reserved currencies counters) (depth - 1)) s (G.payments (wordsIn reserved currencies counters) (G.primary (wordsIn reserved currencies counters) (depth - 1)) (toksAt s (at₀ .start))) n out₀ at m count out
+pays-Inv-loop s reserved currencies counters c depth out₀ n at₀ m₀ count₀ out at m count = (length out ≡ length out₀) × PayChain (wordsIn reserved currencies counters) (G.primary (wordsIn reserved currencies counters) (depth - 1)) s (G.payments (wordsIn reserved currencies counters) (G.primary (wordsIn reserved currencies counters) (depth - 1)) (toksAt s (at₀ .start))) n out₀ at m count out
 
 abbrev pays-μ-loop : pays-lts.MeasureT-loop
-pays-μ-loop s reserved currencies counters depth out₀ n at₀ m₀ count₀ out at m count = length (toksAt s (at .start))
+pays-μ-loop s reserved currencies counters c depth out₀ n at₀ m₀ count₀ out at m count = length (toksAt s (at .start))
 
 pays-returns : (t : ℕ) → pays-lts.Need-returns (
   stops-pays-reads.Asked,
@@ -3006,7 +3006,7 @@ pays-same-length : (t : ℕ) → pays-lts.Need-same-length (
 ) (pays-at t) pays.Post pays-Inv-loop pays-μ-loop
 pays-same-length t c =
     let at-payday-at = c .before .before in
-    at-payday-at .payday-at .kept .1 .1 .1 .0 ∙ at-payday-at .before .before .before .before .loop .inv .0
+    at-payday-at .payday-at .kept .1 .1 .1 .1 .0 ∙ at-payday-at .before .before .before .before .loop .inv .0
 
 pays-returns-2 : (t : ℕ) → pays-lts.Need-returns-2 (
   stops-pays-reads.Asked,
@@ -3171,7 +3171,7 @@ postfix-method-requires t c κs =
     let start = at-next .before .before .before .before .before .before in
     let args = start .args in
     let pre = start .pre in
-    (omega arith, (postfix-ready (wordsIn (args .reserved .now) (args .currencies .now) (args .counters .now)) (args .depth) (args .s .now) (args .c) (at-next .next .result) (pre .1 .0 .0) (at-next .next .ensures) (args .m) (pre .1 .3) (pre .1 .0 .1), pre .1 .1, pre .1 .2))
+    (omega arith, (postfix-ready (wordsIn (args .reserved .now) (args .currencies .now) (args .counters .now)) (args .depth) (args .place) (args .s .now) (args .c) (at-next .next .result) (pre .1 .0 .0) (at-next .next .ensures) (args .m) (pre .1 .3) (pre .1 .0 .1), pre .1 .1, pre .1 .2))
 
 postfix-same-length : (t : ℕ) → postfix-lts.Need-same-length (
   next-reads.Asked,
@@ -3201,7 +3201,7 @@ postfix-returns t c =
     let pre = start .pre in
     let words = wordsIn (args .reserved .now) (args .currencies .now) (args .counters .now) in
     let inside = inner words (args .depth) in
-    turns-as (args .s .now) (λ x. postfixTurn inside x (toksAt (args .s .now) (args .c .start))) (λ x. methodOf inside x (toksAt (args .s .now) (next .result .start))) _ _ _ _ (args .c) (next .result) (at-method .method .result) (postfix-dot words (args .depth) (args .s .now) (args .c) (next .result) (pre .1 .0 .0) (next .ensures) (at-if1 .if1 .taken)) (omega (arith, postfix-fewer words (args .depth) (args .s .now) (args .c) (next .result) (pre .1 .0 .0) (next .ensures) (pre .1 .3))) (at-method .method .ensures)
+    turns-as (args .s .now) (λ x. postfixTurn inside (args .place) x (toksAt (args .s .now) (args .c .start))) (λ x. methodOf inside (args .place) x (toksAt (args .s .now) (next .result .start))) _ _ _ _ (args .c) (next .result) (at-method .method .result) (postfix-dot words (args .depth) (args .place) (args .s .now) (args .c) (next .result) (pre .1 .0 .0) (next .ensures) (at-if1 .if1 .taken)) (omega (arith, postfix-fewer words (args .depth) (args .place) (args .s .now) (args .c) (next .result) (pre .1 .0 .0) (next .ensures) (pre .1 .3))) (at-method .method .ensures)
 
 postfix-returns-2 : (t : ℕ) → postfix-lts.Need-returns-2 (
   next-reads.Asked,
@@ -3215,7 +3215,7 @@ postfix-returns-2 t c =
     let at-next = c .before .before .before in
     let start = at-next .before .before .before .before .before .before in
     let args = start .args in
-    postfix-low (wordsIn (args .reserved .now) (args .currencies .now) (args .counters .now)) (args .depth) (args .s .now) (args .c) (at-next .next .result) (start .pre .1 .0 .0) (at-next .next .ensures) (start .pre .1 .3) (c .before .if1 .left) (c .if2 .taken) _ _ _ (args .out .now)
+    postfix-low (wordsIn (args .reserved .now) (args .currencies .now) (args .counters .now)) (args .depth) (args .place) (args .s .now) (args .c) (at-next .next .result) (start .pre .1 .0 .0) (at-next .next .ensures) (start .pre .1 .3) (c .before .if1 .left) (c .if2 .taken) _ _ _ (args .out .now)
 
 postfix-sub-index : (t : ℕ) → postfix-lts.Need-sub-index (
   next-reads.Asked,
@@ -3240,7 +3240,7 @@ postfix-index-requires t c κs =
     let start = at-next .before .before .before .before .before .before in
     let args = start .args in
     let pre = start .pre in
-    (omega (arith, above _ (c .before .if2 .left)), (postfix-ready (wordsIn (args .reserved .now) (args .currencies .now) (args .counters .now)) (args .depth) (args .s .now) (args .c) (at-next .next .result) (pre .1 .0 .0) (at-next .next .ensures) (args .m) (pre .1 .3) (pre .1 .0 .1), pre .1 .1, pre .1 .2))
+    (omega (arith, above _ (c .before .if2 .left)), (postfix-ready (wordsIn (args .reserved .now) (args .currencies .now) (args .counters .now)) (args .depth) (args .place) (args .s .now) (args .c) (at-next .next .result) (pre .1 .0 .0) (at-next .next .ensures) (args .m) (pre .1 .3) (pre .1 .0 .1), pre .1 .1, pre .1 .2))
 
 postfix-same-length-2 : (t : ℕ) → postfix-lts.Need-same-length-2 (
   next-reads.Asked,
@@ -3269,13 +3269,13 @@ postfix-returns-3 t c =
     let next = at-next .next in
     let pre = start .pre in
     let words = wordsIn (args .reserved .now) (args .currencies .now) (args .counters .now) in
-    turns-as (args .s .now) (λ x. postfixTurn (inner words (args .depth)) x (toksAt (args .s .now) (args .c .start))) (λ x. indexOf (primaryG words ((args .depth) - 1)) x (toksAt (args .s .now) (next .result .start))) _ _ _ _ (args .c) (next .result) (at-index .index .result) (postfix-index words (args .depth) (args .s .now) (args .c) (next .result) (pre .1 .0 .0) (next .ensures) (pre .1 .3) (at-if2 .before .if1 .left) (at-if2 .if2 .left)) (omega (arith, postfix-fewer words (args .depth) (args .s .now) (args .c) (next .result) (pre .1 .0 .0) (next .ensures) (pre .1 .3))) (at-index .index .ensures)
+    turns-as (args .s .now) (λ x. postfixTurn (inner words (args .depth)) (args .place) x (toksAt (args .s .now) (args .c .start))) (λ x. indexOf (primaryG words ((args .depth) - 1)) (args .place) x (toksAt (args .s .now) (next .result .start))) _ _ _ _ (args .c) (next .result) (at-index .index .result) (postfix-index words (args .depth) (args .place) (args .s .now) (args .c) (next .result) (pre .1 .0 .0) (next .ensures) (pre .1 .3) (at-if2 .before .if1 .left) (at-if2 .if2 .left)) (omega (arith, postfix-fewer words (args .depth) (args .place) (args .s .now) (args .c) (next .result) (pre .1 .0 .0) (next .ensures) (pre .1 .3))) (at-index .index .ensures)
 
 abbrev postfixes-Inv-loop : postfixes-lts.InvT-loop
-postfixes-Inv-loop s reserved currencies counters depth out₀ n m at₀ k₀ out at k = (length out ≡ length out₀) × Ready s at k × (n < k) × ((R : Out Tree) (o : List ℕ) → PostChain (inner (wordsIn reserved currencies counters) depth) s R n o at₀ k₀ out₀ → PostChain (inner (wordsIn reserved currencies counters) depth) s R n o at k out)
+postfixes-Inv-loop s reserved currencies counters place depth out₀ n m at₀ k₀ out at k = (length out ≡ length out₀) × Ready s at k × (n < k) × ((R : Out Tree) (o : List ℕ) → PostChain (inner (wordsIn reserved currencies counters) depth) place s R n o at₀ k₀ out₀ → PostChain (inner (wordsIn reserved currencies counters) depth) place s R n o at k out)
 
 abbrev postfixes-μ-loop : postfixes-lts.MeasureT-loop
-postfixes-μ-loop s reserved currencies counters depth out₀ n m at₀ k₀ out at k = length (toksAt s (at .start))
+postfixes-μ-loop s reserved currencies counters place depth out₀ n m at₀ k₀ out at k = length (toksAt s (at .start))
 
 postfixes-loop-holds : (t : ℕ) → postfixes-lts.Need-loop-holds (
   is-postfix-reads.Asked,
@@ -3314,7 +3314,7 @@ postfixes-returns t c =
     let args = at-loop .before .before .before .before .before .before .args in
     let words = wordsIn (args .reserved .now) (args .currencies .now) (args .counters .now) in
     let inside = inner words (args .depth) in
-    λ x o h. post-exit inside (each-inner words (args .depth)) (args .s .now) _ _ o _ _ _ (at-loop .loop .inv .3 _ o (post-enter inside (each-inner words (args .depth)) (args .s .now) x _ o _ _ _ h)) (at-loop .loop .inv .1 .0) (sign-no (c .before .is-postfix .result) _ (c .before .is-postfix .ensures) (c .if1 .taken))
+    λ x o h. post-exit inside (each-inner words (args .depth)) (args .place) (args .s .now) _ _ o _ _ _ (at-loop .loop .inv .3 _ o (post-enter inside (each-inner words (args .depth)) (args .place) (args .s .now) x _ o _ _ _ h)) (at-loop .loop .inv .1 .0) (sign-no (c .before .is-postfix .result) _ (c .before .is-postfix .ensures) (c .if1 .taken))
 
 postfixes-postfix-requires : (t : ℕ) → postfixes-lts.Need-postfix-requires (
   is-postfix-reads.Asked,
@@ -3351,7 +3351,7 @@ postfixes-same-length-2 : (t : ℕ) → postfixes-lts.Need-same-length-2 (
 ) (postfixes-at t) postfixes.Post postfixes-Inv-loop postfixes-μ-loop
 postfixes-same-length-2 t c =
     let at-postfix = c .before .before .before .before in
-    at-postfix .postfix .kept .1 .1 .1 .1 .1 .1 .0 ∙ at-postfix .before .before .before .before .loop .inv .0
+    at-postfix .postfix .kept .1 .1 .1 .1 .1 .1 .1 .0 ∙ at-postfix .before .before .before .before .loop .inv .0
 
 postfixes-returns-2 : (t : ℕ) → postfixes-lts.Need-returns-2 (
   is-postfix-reads.Asked,
@@ -3365,7 +3365,7 @@ postfixes-returns-2 t c =
     let args = at-loop .before .before .before .before .before .before .args in
     let words = wordsIn (args .reserved .now) (args .currencies .now) (args .counters .now) in
     let inside = inner words (args .depth) in
-    λ x o h. post-refused inside (each-inner words (args .depth)) (args .s .now) _ _ o _ _ _ (at-loop .loop .inv .3 _ o (post-enter inside (each-inner words (args .depth)) (args .s .now) x _ o _ _ _ h)) (at-postfix .postfix .result) _ (at-postfix .postfix .ensures) _ _ (c .enum-told .given .1)
+    λ x o h. post-refused inside (each-inner words (args .depth)) (args .place) (args .s .now) _ _ o _ _ _ (at-loop .loop .inv .3 _ o (post-enter inside (each-inner words (args .depth)) (args .place) (args .s .now) x _ o _ _ _ h)) (at-postfix .postfix .result) _ (at-postfix .postfix .ensures) _ _ (c .enum-told .given .1)
 
 postfixes-loop-less : (t : ℕ) → postfixes-lts.Need-loop-less (
   is-postfix-reads.Asked,
@@ -3390,13 +3390,13 @@ postfixes-loop-again t c =
     let r = c .before .r in
     let args = at-loop .before .before .before .before .before .before .args in
     let words = wordsIn (args .reserved .now) (args .currencies .now) (args .counters .now) in
-    (postfix .kept .1 .1 .1 .1 .1 .1 .0 ∙ at-loop .loop .inv .0, (onward-done _ _ _ (postfix .result) _ _ _ (r .given .1) (postfix .ensures .1)) .0, (onward-done _ _ _ (postfix .result) _ _ _ (r .given .1) (postfix .ensures .1)) .1, λ R o h. post-more (inner words (args .depth)) (each-inner words (args .depth)) (args .s .now) R _ o _ _ _ (at-loop .loop .inv .3 R o h) (postfix .result) _ (postfix .ensures) _ _ _ (r .given .1))
+    (postfix .kept .1 .1 .1 .1 .1 .1 .1 .0 ∙ at-loop .loop .inv .0, (onward-done _ _ _ (postfix .result) _ _ _ (r .given .1) (postfix .ensures .1)) .0, (onward-done _ _ _ (postfix .result) _ _ _ (r .given .1) (postfix .ensures .1)) .1, λ R o h. post-more (inner words (args .depth)) (each-inner words (args .depth)) (args .place) (args .s .now) R _ o _ _ _ (at-loop .loop .inv .3 R o h) (postfix .result) _ (postfix .ensures) _ _ _ (r .given .1))
 
 abbrev power-Inv-loop : power-lts.InvT-loop
-power-Inv-loop s reserved currencies counters depth out₀ n at₀ m₀ sign₀ out at m sign = (length out ≡ length out₀) × Pending (isSign "**") powerSign (G.primary (wordsIn reserved currencies counters) depth) s (G.power (G.primary (wordsIn reserved currencies counters) depth) (toksAt s (at₀ .start))) n out₀ sign at m out
+power-Inv-loop s reserved currencies counters c depth out₀ n at₀ m₀ sign₀ out at m sign = (length out ≡ length out₀) × Pending (isSign "**") powerSign (G.primary (wordsIn reserved currencies counters) depth) s (at₀ .start) (G.power (G.primary (wordsIn reserved currencies counters) depth) (toksAt s (at₀ .start))) n out₀ sign at m out
 
 abbrev power-μ-loop : power-lts.MeasureT-loop
-power-μ-loop s reserved currencies counters depth out₀ n at₀ m₀ sign₀ out at m sign = length (toksAt s (at .start))
+power-μ-loop s reserved currencies counters c depth out₀ n at₀ m₀ sign₀ out at m sign = length (toksAt s (at .start))
 
 power-loop-holds : (t : ℕ) → power-lts.Need-loop-holds (
   primary-below t,
@@ -3426,7 +3426,7 @@ power-primary-requires : (t : ℕ) → power-lts.Need-primary-requires (
 power-primary-requires t c κs =
     let start = c .before .before .before .before .before .before .before in
     let args = start .args in
-    (omega (arith, start .pre .0), (pend-ready (power-level (wordsIn (args .reserved .now) (args .currencies .now) (args .counters .now)) (args .depth)) (args .s .now) _ _ _ _ _ _ _ (c .before .loop .inv .1), start .pre .1 .1))
+    (omega (arith, start .pre .0), (pend-ready (power-level (wordsIn (args .reserved .now) (args .currencies .now) (args .counters .now)) (args .depth)) (args .s .now) _ _ _ _ _ _ _ _ (c .before .loop .inv .1), start .pre .1 .1))
 
 power-enum-known-r : (t : ℕ) → power-lts.Need-enum-known-r (
   primary-below t,
@@ -3480,7 +3480,7 @@ power-returns t c =
     let at-primary = c .before .before .before .before in
     let at-loop = at-primary .before .before in
     let args = at-loop .before .before .before .before .before .before .args in
-    refused-on _ _ _ _ _ _ _ _ _ _ _ _ (c .enum-told .given .1) (at-primary .primary .ensures) (pend-refused (power-level (wordsIn (args .reserved .now) (args .currencies .now) (args .counters .now)) (args .depth)) (args .s .now) _ _ _ _ _ _ _ (at-loop .loop .inv .1) _ _)
+    refused-on _ _ _ _ _ _ _ _ _ _ _ _ (c .enum-told .given .1) (at-primary .primary .ensures) (pend-refused (power-level (wordsIn (args .reserved .now) (args .currencies .now) (args .counters .now)) (args .depth)) (args .s .now) _ _ _ _ _ _ _ _ (at-loop .loop .inv .1) _ _)
 
 power-join-requires : (t : ℕ) → power-lts.Need-join-requires (
   primary-below t,
@@ -3497,7 +3497,7 @@ power-join-requires t c κs =
     let at-primary = at-r .before .before .before .before in
     let at-loop = at-primary .before .before in
     let args = at-loop .before .before .before .before .before .before .args in
-    pend-numbers (power-level (wordsIn (args .reserved .now) (args .currencies .now) (args .counters .now)) (args .depth)) (args .s .now) _ _ _ _ _ _ _ (at-loop .loop .inv .1) _ _ _ _ (done-reads _ _ _ _ _ _ _ _ _ (at-r .r .given .1) (at-primary .primary .ensures))
+    pend-numbers (power-level (wordsIn (args .reserved .now) (args .currencies .now) (args .counters .now)) (args .depth)) (args .s .now) _ _ _ _ _ _ _ _ (at-loop .loop .inv .1) _ _ _ _ (done-reads _ _ _ _ _ _ _ _ _ (at-r .r .given .1) (at-primary .primary .ensures))
 
 power-is-power-requires : (t : ℕ) → power-lts.Need-is-power-requires (
   primary-below t,
@@ -3543,7 +3543,7 @@ power-returns-2 t c =
     let at-loop = at-primary .before .before in
     let args = at-loop .before .before .before .before .before .before .args in
     let words = wordsIn (args .reserved .now) (args .currencies .now) (args .counters .now) in
-    chain-exit (power-level words (args .depth)) (args .s .now) _ _ _ _ _ _ _ (pend-chain (power-level words (args .depth)) (args .s .now) _ _ _ _ _ _ _ (at-loop .loop .inv .1) _ _ _ _ (done-reads _ _ _ _ _ _ _ _ _ (at-r .r .given .1) (at-primary .primary .ensures)) (at-join .join .result) _ (at-join .join .ensures)) (sym (c .before .is-power .ensures) ∙ not-true _ (c .if1 .taken))
+    chain-exit (power-level words (args .depth)) (args .s .now) _ _ _ _ _ _ _ _ (pend-chain (power-level words (args .depth)) (args .s .now) _ _ _ _ _ _ _ _ (at-loop .loop .inv .1) _ _ _ _ (done-reads _ _ _ _ _ _ _ _ _ (at-r .r .given .1) (at-primary .primary .ensures)) (at-join .join .result) _ (at-join .join .ensures)) (sym (c .before .is-power .ensures) ∙ not-true _ (c .if1 .taken))
 
 power-next-requires : (t : ℕ) → power-lts.Need-next-requires (
   primary-below t,
@@ -3561,7 +3561,7 @@ power-next-requires t c κs =
     let at-primary = at-r .before .before .before .before in
     let at-loop = at-primary .before .before in
     let args = at-loop .before .before .before .before .before .before .args in
-    (pend-chain (power-level (wordsIn (args .reserved .now) (args .currencies .now) (args .counters .now)) (args .depth)) (args .s .now) _ _ _ _ _ _ _ (at-loop .loop .inv .1) _ _ _ _ (done-reads _ _ _ _ _ _ _ _ _ (at-r .r .given .1) (at-primary .primary .ensures)) (at-join .join .result) _ (at-join .join .ensures)) .holds
+    (pend-chain (power-level (wordsIn (args .reserved .now) (args .currencies .now) (args .counters .now)) (args .depth)) (args .s .now) _ _ _ _ _ _ _ _ (at-loop .loop .inv .1) _ _ _ _ (done-reads _ _ _ _ _ _ _ _ _ (at-r .r .given .1) (at-primary .primary .ensures)) (at-join .join .result) _ (at-join .join .ensures)) .holds
 
 power-loop-less : (t : ℕ) → power-lts.Need-loop-less (
   primary-below t,
@@ -3579,7 +3579,7 @@ power-loop-less t c =
     let at-primary = at-r .before .before .before .before in
     let at-loop = at-primary .before .before in
     let args = at-loop .before .before .before .before .before .before .args in
-    pend-less (power-level (wordsIn (args .reserved .now) (args .currencies .now) (args .counters .now)) (args .depth)) (args .s .now) _ _ _ _ _ _ _ (at-loop .loop .inv .1) _ _ _ _ (done-reads _ _ _ _ _ _ _ _ _ (at-r .r .given .1) (at-primary .primary .ensures)) (sym (at-is-power .is-power .ensures) ∙ not-false _ (c .before .if1 .left)) (c .next .result) (c .next .ensures)
+    pend-less (power-level (wordsIn (args .reserved .now) (args .currencies .now) (args .counters .now)) (args .depth)) (args .s .now) _ _ _ _ _ _ _ _ (at-loop .loop .inv .1) _ _ _ _ (done-reads _ _ _ _ _ _ _ _ _ (at-r .r .given .1) (at-primary .primary .ensures)) (sym (at-is-power .is-power .ensures) ∙ not-false _ (c .before .if1 .left)) (c .next .result) (c .next .ensures)
 
 power-loop-again : (t : ℕ) → power-lts.Need-loop-again (
   primary-below t,
@@ -3600,7 +3600,7 @@ power-loop-again t c =
     let join = at-join .join in
     let args = at-loop .before .before .before .before .before .before .args in
     let words = wordsIn (args .reserved .now) (args .currencies .now) (args .counters .now) in
-    (join .kept .0 ∙ (at-primary .primary .kept .1 .1 .1 .1 .1 .1 .0 ∙ at-loop .loop .inv .0), pend-next (power-level words (args .depth)) (args .s .now) _ _ _ _ _ _ _ (pend-chain (power-level words (args .depth)) (args .s .now) _ _ _ _ _ _ _ (at-loop .loop .inv .1) _ _ _ _ (done-reads _ _ _ _ _ _ _ _ _ (at-r .r .given .1) (at-primary .primary .ensures)) (join .result) _ (join .ensures)) (sym (at-is-power .is-power .ensures) ∙ not-false _ (c .before .if1 .left)) (c .next .result) (c .next .ensures))
+    (join .kept .0 ∙ (at-primary .primary .kept .1 .1 .1 .1 .1 .1 .0 ∙ at-loop .loop .inv .0), pend-next (power-level words (args .depth)) (args .s .now) _ _ _ _ _ _ _ _ (pend-chain (power-level words (args .depth)) (args .s .now) _ _ _ _ _ _ _ _ (at-loop .loop .inv .1) _ _ _ _ (done-reads _ _ _ _ _ _ _ _ _ (at-r .r .given .1) (at-primary .primary .ensures)) (join .result) _ (join .ensures)) (sym (at-is-power .is-power .ensures) ∙ not-false _ (c .before .if1 .left)) (c .next .result) (c .next .ensures))
 
 primary-next-requires : (t : ℕ) → primary-lts.Need-next-requires (
   next-reads.Asked,
@@ -4392,7 +4392,7 @@ primary-returns-7 t c =
     let start = at-match .before .before .before .before .before .before .before in
     let args = start .args in
     let words = wordsIn (args .reserved .now) (args .currencies .now) (args .counters .now) in
-    reads-as _ _ _ _ _ _ _ _ _ (prim-minus words (args .s .now) (args .c) (start .pre .1 .0 .0) (args .depth) (at-match .before .next .result) (at-match .before .next .ensures) (at-match .match .keys3) (at-if3 .before .if2 .left) (at-if3 .if3 .left)) (negate-reads words (G.primary words (args .depth - 1)) _ _ _ _ _ _ _ _ _ (done-reads _ _ _ _ _ _ _ _ _ (at-r .r .given .1) (at-primary2 .primary2 .ensures)) (put-fields _ _ _ _ _ _ _ _ _ (at-put .before .plain .ensures) (at-put .put .ensures)))
+    reads-as _ _ _ _ _ _ _ _ _ (prim-minus words (args .s .now) (args .c) (start .pre .1 .0 .0) (args .depth) (at-match .before .next .result) (at-match .before .next .ensures) (at-match .match .keys3) (at-if3 .before .if2 .left) (at-if3 .if3 .left)) (negate-reads words (args .c .start) (G.primary words (args .depth - 1)) _ _ _ _ _ _ _ _ _ (done-reads _ _ _ _ _ _ _ _ _ (at-r .r .given .1) (at-primary2 .primary2 .ensures)) (put-fields _ _ _ _ _ _ _ _ _ _ (at-put .before .plain .ensures) (at-put .put .ensures)))
 
 primary-same-length-6 : (t : ℕ) → primary-lts.Need-same-length-6 (
   next-reads.Asked,
@@ -4608,10 +4608,10 @@ primary-returns-11 t c =
     meets-as _ _ _ _ _ (at-atom-at .atom-at .result) _ (prim-atom (wordsIn (args .reserved .now) (args .currencies .now) (args .counters .now)) (args .s .now) (args .c) (start .pre .1 .0 .0) (args .depth) (r .0 .0 .0 .0 .0 .1) (r .0 .0 .0 .0 .1) (r .0 .0 .0 .1) (r .0 .0 .1) (r .0 .1) (r .1)) (at-atom-at .atom-at .ensures)
 
 abbrev product-Inv-loop : product-lts.InvT-loop
-product-Inv-loop s reserved currencies counters depth out₀ n at₀ m₀ sign₀ out at m sign = (length out ≡ length out₀) × Pending (λ u. isSign "*" u || isSign "/" u) productSign (G.power (G.primary (wordsIn reserved currencies counters) depth)) s (G.product (G.primary (wordsIn reserved currencies counters) depth) (toksAt s (at₀ .start))) n out₀ sign at m out
+product-Inv-loop s reserved currencies counters c depth out₀ n at₀ m₀ sign₀ out at m sign = (length out ≡ length out₀) × Pending (λ u. isSign "*" u || isSign "/" u) productSign (G.power (G.primary (wordsIn reserved currencies counters) depth)) s (at₀ .start) (G.product (G.primary (wordsIn reserved currencies counters) depth) (toksAt s (at₀ .start))) n out₀ sign at m out
 
 abbrev product-μ-loop : product-lts.MeasureT-loop
-product-μ-loop s reserved currencies counters depth out₀ n at₀ m₀ sign₀ out at m sign = length (toksAt s (at .start))
+product-μ-loop s reserved currencies counters c depth out₀ n at₀ m₀ sign₀ out at m sign = length (toksAt s (at .start))
 
 product-loop-holds : (t : ℕ) → product-lts.Need-loop-holds (
   power-below t,
@@ -4641,7 +4641,7 @@ product-power-requires : (t : ℕ) → product-lts.Need-power-requires (
 product-power-requires t c κs =
     let start = c .before .before .before .before .before .before .before in
     let args = start .args in
-    (omega (arith, start .pre .0), (pend-ready (product-level (wordsIn (args .reserved .now) (args .currencies .now) (args .counters .now)) (args .depth)) (args .s .now) _ _ _ _ _ _ _ (c .before .loop .inv .1), start .pre .1 .1))
+    (omega (arith, start .pre .0), (pend-ready (product-level (wordsIn (args .reserved .now) (args .currencies .now) (args .counters .now)) (args .depth)) (args .s .now) _ _ _ _ _ _ _ _ (c .before .loop .inv .1), start .pre .1 .1))
 
 product-enum-known-r : (t : ℕ) → product-lts.Need-enum-known-r (
   power-below t,
@@ -4695,7 +4695,7 @@ product-returns t c =
     let at-power = c .before .before .before .before in
     let at-loop = at-power .before .before in
     let args = at-loop .before .before .before .before .before .before .args in
-    refused-on _ _ _ _ _ _ _ _ _ _ _ _ (c .enum-told .given .1) (at-power .power .ensures) (pend-refused (product-level (wordsIn (args .reserved .now) (args .currencies .now) (args .counters .now)) (args .depth)) (args .s .now) _ _ _ _ _ _ _ (at-loop .loop .inv .1) _ _)
+    refused-on _ _ _ _ _ _ _ _ _ _ _ _ (c .enum-told .given .1) (at-power .power .ensures) (pend-refused (product-level (wordsIn (args .reserved .now) (args .currencies .now) (args .counters .now)) (args .depth)) (args .s .now) _ _ _ _ _ _ _ _ (at-loop .loop .inv .1) _ _)
 
 product-join-requires : (t : ℕ) → product-lts.Need-join-requires (
   power-below t,
@@ -4712,7 +4712,7 @@ product-join-requires t c κs =
     let at-power = at-r .before .before .before .before in
     let at-loop = at-power .before .before in
     let args = at-loop .before .before .before .before .before .before .args in
-    pend-numbers (product-level (wordsIn (args .reserved .now) (args .currencies .now) (args .counters .now)) (args .depth)) (args .s .now) _ _ _ _ _ _ _ (at-loop .loop .inv .1) _ _ _ _ (done-reads _ _ _ _ _ _ _ _ _ (at-r .r .given .1) (at-power .power .ensures))
+    pend-numbers (product-level (wordsIn (args .reserved .now) (args .currencies .now) (args .counters .now)) (args .depth)) (args .s .now) _ _ _ _ _ _ _ _ (at-loop .loop .inv .1) _ _ _ _ (done-reads _ _ _ _ _ _ _ _ _ (at-r .r .given .1) (at-power .power .ensures))
 
 product-is-product-requires : (t : ℕ) → product-lts.Need-is-product-requires (
   power-below t,
@@ -4758,7 +4758,7 @@ product-returns-2 t c =
     let at-loop = at-power .before .before in
     let args = at-loop .before .before .before .before .before .before .args in
     let words = wordsIn (args .reserved .now) (args .currencies .now) (args .counters .now) in
-    chain-exit (product-level words (args .depth)) (args .s .now) _ _ _ _ _ _ _ (pend-chain (product-level words (args .depth)) (args .s .now) _ _ _ _ _ _ _ (at-loop .loop .inv .1) _ _ _ _ (done-reads _ _ _ _ _ _ _ _ _ (at-r .r .given .1) (at-power .power .ensures)) (at-join .join .result) _ (at-join .join .ensures)) (sym (c .before .is-product .ensures) ∙ not-true _ (c .if1 .taken))
+    chain-exit (product-level words (args .depth)) (args .s .now) _ _ _ _ _ _ _ _ (pend-chain (product-level words (args .depth)) (args .s .now) _ _ _ _ _ _ _ _ (at-loop .loop .inv .1) _ _ _ _ (done-reads _ _ _ _ _ _ _ _ _ (at-r .r .given .1) (at-power .power .ensures)) (at-join .join .result) _ (at-join .join .ensures)) (sym (c .before .is-product .ensures) ∙ not-true _ (c .if1 .taken))
 
 product-next-requires : (t : ℕ) → product-lts.Need-next-requires (
   power-below t,
@@ -4776,7 +4776,7 @@ product-next-requires t c κs =
     let at-power = at-r .before .before .before .before in
     let at-loop = at-power .before .before in
     let args = at-loop .before .before .before .before .before .before .args in
-    (pend-chain (product-level (wordsIn (args .reserved .now) (args .currencies .now) (args .counters .now)) (args .depth)) (args .s .now) _ _ _ _ _ _ _ (at-loop .loop .inv .1) _ _ _ _ (done-reads _ _ _ _ _ _ _ _ _ (at-r .r .given .1) (at-power .power .ensures)) (at-join .join .result) _ (at-join .join .ensures)) .holds
+    (pend-chain (product-level (wordsIn (args .reserved .now) (args .currencies .now) (args .counters .now)) (args .depth)) (args .s .now) _ _ _ _ _ _ _ _ (at-loop .loop .inv .1) _ _ _ _ (done-reads _ _ _ _ _ _ _ _ _ (at-r .r .given .1) (at-power .power .ensures)) (at-join .join .result) _ (at-join .join .ensures)) .holds
 
 product-loop-less : (t : ℕ) → product-lts.Need-loop-less (
   power-below t,
@@ -4794,7 +4794,7 @@ product-loop-less t c =
     let at-power = at-r .before .before .before .before in
     let at-loop = at-power .before .before in
     let args = at-loop .before .before .before .before .before .before .args in
-    pend-less (product-level (wordsIn (args .reserved .now) (args .currencies .now) (args .counters .now)) (args .depth)) (args .s .now) _ _ _ _ _ _ _ (at-loop .loop .inv .1) _ _ _ _ (done-reads _ _ _ _ _ _ _ _ _ (at-r .r .given .1) (at-power .power .ensures)) (sym (at-is-product .is-product .ensures) ∙ not-false _ (c .before .if1 .left)) (c .next .result) (c .next .ensures)
+    pend-less (product-level (wordsIn (args .reserved .now) (args .currencies .now) (args .counters .now)) (args .depth)) (args .s .now) _ _ _ _ _ _ _ _ (at-loop .loop .inv .1) _ _ _ _ (done-reads _ _ _ _ _ _ _ _ _ (at-r .r .given .1) (at-power .power .ensures)) (sym (at-is-product .is-product .ensures) ∙ not-false _ (c .before .if1 .left)) (c .next .result) (c .next .ensures)
 
 product-loop-again : (t : ℕ) → product-lts.Need-loop-again (
   power-below t,
@@ -4815,13 +4815,13 @@ product-loop-again t c =
     let join = at-join .join in
     let args = at-loop .before .before .before .before .before .before .args in
     let words = wordsIn (args .reserved .now) (args .currencies .now) (args .counters .now) in
-    (join .kept .0 ∙ (at-power .power .kept .1 .1 .1 .1 .1 .1 .0 ∙ at-loop .loop .inv .0), pend-next (product-level words (args .depth)) (args .s .now) _ _ _ _ _ _ _ (pend-chain (product-level words (args .depth)) (args .s .now) _ _ _ _ _ _ _ (at-loop .loop .inv .1) _ _ _ _ (done-reads _ _ _ _ _ _ _ _ _ (at-r .r .given .1) (at-power .power .ensures)) (join .result) _ (join .ensures)) (sym (at-is-product .is-product .ensures) ∙ not-false _ (c .before .if1 .left)) (c .next .result) (c .next .ensures))
+    (join .kept .0 ∙ (at-power .power .kept .1 .1 .1 .1 .1 .1 .0 ∙ at-loop .loop .inv .0), pend-next (product-level words (args .depth)) (args .s .now) _ _ _ _ _ _ _ _ (pend-chain (product-level words (args .depth)) (args .s .now) _ _ _ _ _ _ _ _ (at-loop .loop .inv .1) _ _ _ _ (done-reads _ _ _ _ _ _ _ _ _ (at-r .r .given .1) (at-power .power .ensures)) (join .result) _ (join .ensures)) (sym (at-is-product .is-product .ensures) ∙ not-false _ (c .before .if1 .left)) (c .next .result) (c .next .ensures))
 
 abbrev sum-Inv-loop : sum-lts.InvT-loop
-sum-Inv-loop s reserved currencies counters depth out₀ n at₀ m₀ sign₀ out at m sign = (length out ≡ length out₀) × Pending (λ u. isSign "+" u || isSign "-" u) sumSign (G.product (G.primary (wordsIn reserved currencies counters) depth)) s (G.sum (G.primary (wordsIn reserved currencies counters) depth) (toksAt s (at₀ .start))) n out₀ sign at m out
+sum-Inv-loop s reserved currencies counters c depth out₀ n at₀ m₀ sign₀ out at m sign = (length out ≡ length out₀) × Pending (λ u. isSign "+" u || isSign "-" u) sumSign (G.product (G.primary (wordsIn reserved currencies counters) depth)) s (at₀ .start) (G.sum (G.primary (wordsIn reserved currencies counters) depth) (toksAt s (at₀ .start))) n out₀ sign at m out
 
 abbrev sum-μ-loop : sum-lts.MeasureT-loop
-sum-μ-loop s reserved currencies counters depth out₀ n at₀ m₀ sign₀ out at m sign = length (toksAt s (at .start))
+sum-μ-loop s reserved currencies counters c depth out₀ n at₀ m₀ sign₀ out at m sign = length (toksAt s (at .start))
 
 sum-loop-holds : (t : ℕ) → sum-lts.Need-loop-holds (
   product-below t,
@@ -4852,7 +4852,7 @@ sum-product-requires : (t : ℕ) → sum-lts.Need-product-requires (
 sum-product-requires t c κs =
     let start = c .before .before .before .before .before .before .before in
     let args = start .args in
-    (omega (arith, start .pre .0), (pend-ready (sum-level (wordsIn (args .reserved .now) (args .currencies .now) (args .counters .now)) (args .depth)) (args .s .now) _ _ _ _ _ _ _ (c .before .loop .inv .1), start .pre .1 .1))
+    (omega (arith, start .pre .0), (pend-ready (sum-level (wordsIn (args .reserved .now) (args .currencies .now) (args .counters .now)) (args .depth)) (args .s .now) _ _ _ _ _ _ _ _ (c .before .loop .inv .1), start .pre .1 .1))
 
 sum-enum-known-r : (t : ℕ) → sum-lts.Need-enum-known-r (
   product-below t,
@@ -4906,7 +4906,7 @@ sum-returns t c =
     let at-product = c .before .before .before .before in
     let at-loop = at-product .before .before in
     let args = at-loop .before .before .before .before .before .before .args in
-    refused-on _ _ _ _ _ _ _ _ _ _ _ _ (c .enum-told .given .1) (at-product .product .ensures) (pend-refused (sum-level (wordsIn (args .reserved .now) (args .currencies .now) (args .counters .now)) (args .depth)) (args .s .now) _ _ _ _ _ _ _ (at-loop .loop .inv .1) _ _)
+    refused-on _ _ _ _ _ _ _ _ _ _ _ _ (c .enum-told .given .1) (at-product .product .ensures) (pend-refused (sum-level (wordsIn (args .reserved .now) (args .currencies .now) (args .counters .now)) (args .depth)) (args .s .now) _ _ _ _ _ _ _ _ (at-loop .loop .inv .1) _ _)
 
 sum-join-requires : (t : ℕ) → sum-lts.Need-join-requires (
   product-below t,
@@ -4923,7 +4923,7 @@ sum-join-requires t c κs =
     let at-product = at-r .before .before .before .before in
     let at-loop = at-product .before .before in
     let args = at-loop .before .before .before .before .before .before .args in
-    pend-numbers (sum-level (wordsIn (args .reserved .now) (args .currencies .now) (args .counters .now)) (args .depth)) (args .s .now) _ _ _ _ _ _ _ (at-loop .loop .inv .1) _ _ _ _ (done-reads _ _ _ _ _ _ _ _ _ (at-r .r .given .1) (at-product .product .ensures))
+    pend-numbers (sum-level (wordsIn (args .reserved .now) (args .currencies .now) (args .counters .now)) (args .depth)) (args .s .now) _ _ _ _ _ _ _ _ (at-loop .loop .inv .1) _ _ _ _ (done-reads _ _ _ _ _ _ _ _ _ (at-r .r .given .1) (at-product .product .ensures))
 
 sum-is-sum-requires : (t : ℕ) → sum-lts.Need-is-sum-requires (
   product-below t,
@@ -4969,7 +4969,7 @@ sum-returns-2 t c =
     let at-loop = at-product .before .before in
     let args = at-loop .before .before .before .before .before .before .args in
     let words = wordsIn (args .reserved .now) (args .currencies .now) (args .counters .now) in
-    chain-exit (sum-level words (args .depth)) (args .s .now) _ _ _ _ _ _ _ (pend-chain (sum-level words (args .depth)) (args .s .now) _ _ _ _ _ _ _ (at-loop .loop .inv .1) _ _ _ _ (done-reads _ _ _ _ _ _ _ _ _ (at-r .r .given .1) (at-product .product .ensures)) (at-join .join .result) _ (at-join .join .ensures)) (sym (c .before .is-sum .ensures) ∙ not-true _ (c .if1 .taken))
+    chain-exit (sum-level words (args .depth)) (args .s .now) _ _ _ _ _ _ _ _ (pend-chain (sum-level words (args .depth)) (args .s .now) _ _ _ _ _ _ _ _ (at-loop .loop .inv .1) _ _ _ _ (done-reads _ _ _ _ _ _ _ _ _ (at-r .r .given .1) (at-product .product .ensures)) (at-join .join .result) _ (at-join .join .ensures)) (sym (c .before .is-sum .ensures) ∙ not-true _ (c .if1 .taken))
 
 sum-next-requires : (t : ℕ) → sum-lts.Need-next-requires (
   product-below t,
@@ -4987,7 +4987,7 @@ sum-next-requires t c κs =
     let at-product = at-r .before .before .before .before in
     let at-loop = at-product .before .before in
     let args = at-loop .before .before .before .before .before .before .args in
-    (pend-chain (sum-level (wordsIn (args .reserved .now) (args .currencies .now) (args .counters .now)) (args .depth)) (args .s .now) _ _ _ _ _ _ _ (at-loop .loop .inv .1) _ _ _ _ (done-reads _ _ _ _ _ _ _ _ _ (at-r .r .given .1) (at-product .product .ensures)) (at-join .join .result) _ (at-join .join .ensures)) .holds
+    (pend-chain (sum-level (wordsIn (args .reserved .now) (args .currencies .now) (args .counters .now)) (args .depth)) (args .s .now) _ _ _ _ _ _ _ _ (at-loop .loop .inv .1) _ _ _ _ (done-reads _ _ _ _ _ _ _ _ _ (at-r .r .given .1) (at-product .product .ensures)) (at-join .join .result) _ (at-join .join .ensures)) .holds
 
 sum-loop-less : (t : ℕ) → sum-lts.Need-loop-less (
   product-below t,
@@ -5005,7 +5005,7 @@ sum-loop-less t c =
     let at-product = at-r .before .before .before .before in
     let at-loop = at-product .before .before in
     let args = at-loop .before .before .before .before .before .before .args in
-    pend-less (sum-level (wordsIn (args .reserved .now) (args .currencies .now) (args .counters .now)) (args .depth)) (args .s .now) _ _ _ _ _ _ _ (at-loop .loop .inv .1) _ _ _ _ (done-reads _ _ _ _ _ _ _ _ _ (at-r .r .given .1) (at-product .product .ensures)) (sym (at-is-sum .is-sum .ensures) ∙ not-false _ (c .before .if1 .left)) (c .next .result) (c .next .ensures)
+    pend-less (sum-level (wordsIn (args .reserved .now) (args .currencies .now) (args .counters .now)) (args .depth)) (args .s .now) _ _ _ _ _ _ _ _ (at-loop .loop .inv .1) _ _ _ _ (done-reads _ _ _ _ _ _ _ _ _ (at-r .r .given .1) (at-product .product .ensures)) (sym (at-is-sum .is-sum .ensures) ∙ not-false _ (c .before .if1 .left)) (c .next .result) (c .next .ensures)
 
 sum-loop-again : (t : ℕ) → sum-lts.Need-loop-again (
   product-below t,
@@ -5026,7 +5026,7 @@ sum-loop-again t c =
     let join = at-join .join in
     let args = at-loop .before .before .before .before .before .before .args in
     let words = wordsIn (args .reserved .now) (args .currencies .now) (args .counters .now) in
-    (join .kept .0 ∙ (at-product .product .kept .1 .1 .1 .1 .1 .1 .0 ∙ at-loop .loop .inv .0), pend-next (sum-level words (args .depth)) (args .s .now) _ _ _ _ _ _ _ (pend-chain (sum-level words (args .depth)) (args .s .now) _ _ _ _ _ _ _ (at-loop .loop .inv .1) _ _ _ _ (done-reads _ _ _ _ _ _ _ _ _ (at-r .r .given .1) (at-product .product .ensures)) (join .result) _ (join .ensures)) (sym (at-is-sum .is-sum .ensures) ∙ not-false _ (c .before .if1 .left)) (c .next .result) (c .next .ensures))
+    (join .kept .0 ∙ (at-product .product .kept .1 .1 .1 .1 .1 .1 .0 ∙ at-loop .loop .inv .0), pend-next (sum-level words (args .depth)) (args .s .now) _ _ _ _ _ _ _ _ (pend-chain (sum-level words (args .depth)) (args .s .now) _ _ _ _ _ _ _ _ (at-loop .loop .inv .1) _ _ _ _ (done-reads _ _ _ _ _ _ _ _ _ (at-r .r .given .1) (at-product .product .ensures)) (join .result) _ (join .ensures)) (sym (at-is-sum .is-sum .ensures) ∙ not-false _ (c .before .if1 .left)) (c .next .result) (c .next .ensures))
 
 pub +arguments+call+comparison+expression+index+items+list+method+name+parenthesis+pays+postfix+postfixes+power+primary+product+sum-spec :
     {M : Type 1} → statement M
@@ -5177,7 +5177,7 @@ pub +arguments+call+comparison+expression+index+items+list+method+name+parenthes
     (index-add-plain t)
     (index-plain-requires t)
     (index-put-requires t)
-    (index-add-t21 t)
+    (index-add-t22 t)
     (index-same-length-3 t)
     (index-returns-3 t))
     (λ t. items-lts.spec (
@@ -5284,7 +5284,7 @@ pub +arguments+call+comparison+expression+index+items+list+method+name+parenthes
     (method-add-plain-2 t)
     (method-plain-requires t)
     (method-put-requires t)
-    (method-add-t30 t)
+    (method-add-t31 t)
     (method-same-length-3 t)
     (method-returns-4 t))
     (λ t. name-lts.spec (

@@ -20,14 +20,16 @@ plain-requires c κs = search needs
 put-requires : tie.Need-put-requires
 put-requires c κs = search needs
 
-add-t11 : tie.Need-add-t11
-add-t11 c = search needs
+add-t12 : tie.Need-add-t12
+add-t12 c = search needs
 
 same-length : tie.Need-same-length
 same-length c = search needs
 
 returns-2 : tie.Need-returns-2
-returns-2 c = (λ z. absurd (c .before .before .before .before .before .if1 .left z), λ z. (refl, refl, put-fields _ _ _ _ _ _ _ _ _ (c .before .before .before .plain .ensures) (c .before .before .put .ensures)))
+returns-2 c =
+    let at-put = c .before .before in
+    (λ z. absurd (at-put .before .before .before .if1 .left z), λ z. (refl, refl, put-fields _ _ _ _ _ _ _ _ _ _ (at-put .before .plain .ensures) (at-put .put .ensures)))
 
 pub join-spec : {M : Type 1} → statement M
 join-spec =
@@ -38,6 +40,6 @@ join-spec =
     add-plain
     plain-requires
     put-requires
-    add-t11
+    add-t12
     same-length
     returns-2)

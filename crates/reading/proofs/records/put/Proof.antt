@@ -1,14 +1,13 @@
-use native.Mathlib.Omega.{arith}
-use lib.ListN.{length-set}
-use borrow.Author.Tests.{lt-ltb, le-ltb}
-use mathlib.Core.Path.{sym}
-use Rattle.reading.specs.Rows.{putAt}
-use Rattle.reading.proofs.RowLaws.{put-seven}
+-- Each word of the record is stored at its own place, where the record fits whole.
 use borrow.Author.Needs.{needs}
 use Rattle.reading.proofs.records.put.Statement.{statement}
 use Rattle.reading.proofs.records.put.Tie as tie
-use Rattle.reading.proofs.records.put.Reads as reads
-use Rattle.reading.proofs.records.put.Lts as lts
+use native.Mathlib.Omega.{arith}
+use lib.ListN.{length-set}
+use borrow.Author.Tests.{lt-ltb, le-ltb}
+use mathlib.Core.Path.{refl, sym}
+use Rattle.reading.specs.Rows.{putAt}
+use Rattle.reading.proofs.RowLaws.{put-eight}
 
 mul-at : tie.Need-mul-at
 mul-at c = search needs
@@ -73,12 +72,21 @@ mul-out-7 c = search needs
 slice-write-out-7 : tie.Need-slice-write-out-7
 slice-write-out-7 c = simp length-set (omega arith)
 
+add-out-7 : tie.Need-add-out-7
+add-out-7 c = search needs
+
+mul-out-8 : tie.Need-mul-out-8
+mul-out-8 c = search needs
+
+slice-write-out-8 : tie.Need-slice-write-out-8
+slice-write-out-8 c = simp length-set (omega arith)
+
 same-length : tie.Need-same-length
-same-length c = search needs
+same-length c = simp length-set refl
 
 returns : tie.Need-returns
 unfolding putAt
-returns c = rw (lt-ltb _ _ (c .if1 .taken)) (sym (put-seven _ _ _ _ _ _ _ _ _))
+returns c = rw (lt-ltb _ _ (c .if1 .taken)) (sym (put-eight _ _ _ _ _ _ _ _ _ _))
 
 returns-2 : tie.Need-returns-2
 unfolding putAt
@@ -109,6 +117,9 @@ put-spec =
     add-out-6
     mul-out-7
     slice-write-out-7
+    add-out-7
+    mul-out-8
+    slice-write-out-8
     same-length
     returns
     returns-2)

@@ -779,7 +779,7 @@ conditional-returns-4 t c =
     let start = at-if1 .before .before .before .before .before .before in
     let args = start .args in
     let pre = start .pre in
-    if-done (wordsIn (args .reserved .now) (args .currencies .now) (args .counters .now)) (args .depth) (args .s .now) (args .c) (args .d) (pre .1 .1) (pre .1 .2) (at-if1 .if1 .left) _ (pre .1 .0 .1) _ _ _ _ _ (done-reads _ _ _ _ _ _ _ _ _ (at-r .r .given .1) (at-expression .expression .ensures)) _ _ _ _ (done-block _ _ _ _ _ _ _ _ _ (at-q .q .given .1) (at-block .block .ensures)) (at-if2 .if2 .taken) _ (put-fields _ _ _ _ _ _ _ _ _ (at-put .before .branch .ensures) (at-put .put .ensures))
+    if-done (wordsIn (args .reserved .now) (args .currencies .now) (args .counters .now)) (args .depth) (args .s .now) (args .c) (args .d) (pre .1 .1) (pre .1 .2) (at-if1 .if1 .left) _ (pre .1 .0 .1) _ _ _ _ _ (done-reads _ _ _ _ _ _ _ _ _ (at-r .r .given .1) (at-expression .expression .ensures)) _ _ _ _ (done-block _ _ _ _ _ _ _ _ _ (at-q .q .given .1) (at-block .block .ensures)) (at-if2 .if2 .taken) _ (put-fields _ _ _ _ _ _ _ _ _ _ (at-put .before .branch .ensures) (at-put .put .ensures))
 
 conditional-next-requires : (t : ℕ) → conditional-lts.Need-next-requires (
   expression-reads.Asked,
@@ -1188,7 +1188,7 @@ conditional-returns-6 t c =
     let start = at-if1 .before .before .before .before .before .before in
     let args = start .args in
     let pre = start .pre in
-    else-done (wordsIn (args .reserved .now) (args .currencies .now) (args .counters .now)) (args .depth) (args .s .now) (args .c) (args .d) (pre .1 .1) (pre .1 .2) (at-if1 .if1 .left) _ (pre .1 .0 .1) _ _ _ _ _ (done-reads _ _ _ _ _ _ _ _ _ (at-r .r .given .1) (at-expression .expression .ensures)) _ _ _ _ (done-block _ _ _ _ _ _ _ _ _ (at-q .q .given .1) (at-block .block .ensures)) (at-next .before .if2 .left) (at-next .next .result) (at-next .next .ensures) _ _ _ _ (done-block _ _ _ _ _ _ _ _ _ (at-p .p .given .1) (at-block2 .block2 .ensures)) _ (put-fields _ _ _ _ _ _ _ _ _ (at-put2 .before .branch2 .ensures) (at-put2 .put2 .ensures))
+    else-done (wordsIn (args .reserved .now) (args .currencies .now) (args .counters .now)) (args .depth) (args .s .now) (args .c) (args .d) (pre .1 .1) (pre .1 .2) (at-if1 .if1 .left) _ (pre .1 .0 .1) _ _ _ _ _ (done-reads _ _ _ _ _ _ _ _ _ (at-r .r .given .1) (at-expression .expression .ensures)) _ _ _ _ (done-block _ _ _ _ _ _ _ _ _ (at-q .q .given .1) (at-block .block .ensures)) (at-next .before .if2 .left) (at-next .next .result) (at-next .next .ensures) _ _ _ _ (done-block _ _ _ _ _ _ _ _ _ (at-p .p .given .1) (at-block2 .block2 .ensures)) _ (put-fields _ _ _ _ _ _ _ _ _ _ (at-put2 .before .branch2 .ensures) (at-put2 .put2 .ensures))
 
 repetition-returns : (t : ℕ) → repetition-lts.Need-returns (
   loop-head-reads.Asked,
@@ -1766,7 +1766,7 @@ repetition-returns-5 t c =
     let start = at-loop-head .before .before .before .before .before .before .before in
     let args = start .args in
     let pre = start .pre in
-    for-done (args .reserved .now) (args .currencies .now) (args .counters .now) (args .depth) (args .s .now) (args .c) (args .d) (pre .1 .1) (pre .1 .2) (at-loop-head .before .if1 .left) _ (head-is _ _ _ _ _ _ (at-v .v .given .1) (at-loop-head .loop-head .ensures)) _ (pre .1 .0 .1) _ _ _ _ _ (done-reads _ _ _ _ _ _ _ _ _ (at-r .r .given .1) (at-expression .expression .ensures)) _ _ _ _ (done-block _ _ _ _ _ _ _ _ _ (at-q .q .given .1) (at-block .block .ensures)) _ (put-fields _ _ _ _ _ _ _ _ _ (at-put .before .each .ensures) (at-put .put .ensures))
+    for-done (args .reserved .now) (args .currencies .now) (args .counters .now) (args .depth) (args .s .now) (args .c) (args .d) (pre .1 .1) (pre .1 .2) (at-loop-head .before .if1 .left) _ (head-is _ _ _ _ _ _ (at-v .v .given .1) (at-loop-head .loop-head .ensures)) _ (pre .1 .0 .1) _ _ _ _ _ (done-reads _ _ _ _ _ _ _ _ _ (at-r .r .given .1) (at-expression .expression .ensures)) _ _ _ _ (done-block _ _ _ _ _ _ _ _ _ (at-q .q .given .1) (at-block .block .ensures)) _ (put-fields _ _ _ _ _ _ _ _ _ _ (at-put .before .each .ensures) (at-put .put .ensures))
 
 statement-next-requires : (t : ℕ) → statement-lts.Need-next-requires (
   next-reads.Asked,
