@@ -1,5 +1,5 @@
 //! Amending one statement, beside the Rust reading the whole new script.
-use crate::archive::{Archive, LISTS};
+use crate::archive::{Archive, FIRST, LISTS};
 use crate::full_lists::FullLists;
 use crate::scripts::{note, short_statements};
 use crate::timing::{medians, timed, Timed};
@@ -44,9 +44,9 @@ fn table(rounds: usize, cases: &[Case]) {
         runs.push(Box::new(move || {
             timed(|| oracle::read(black_box(&amended)))
         }));
-        let mut archive = Archive::holding(&case.script, &case.lists);
+        let mut archive = Archive::holding(FIRST, &case.script, &case.lists);
         runs.push(Box::new(move || there_and_back(&mut archive, case)));
-        let mut archive = Archive::holding(&case.script, &case.lists);
+        let mut archive = Archive::holding(FIRST, &case.script, &case.lists);
         runs.push(Box::new(move || {
             (0..WARM)
                 .map(|_| there_and_back(&mut archive, case))
@@ -59,7 +59,7 @@ fn table(rounds: usize, cases: &[Case]) {
 
 /// First, middle and last statement, with the same length and longer.
 fn in_a_note<'a>(script: &str, full: &'a FullLists) -> Vec<Case<'a>> {
-    let archive = Archive::holding(script, &LISTS);
+    let archive = Archive::holding(FIRST, script, &LISTS);
     let last = archive.answer[5] - 1;
     let mut cases = Vec::new();
     for (name, statement) in [("first", 0), ("middle", last / 2), ("last", last)] {
@@ -93,7 +93,7 @@ fn among_many() -> Vec<Case<'static>> {
     let mut cases = Vec::new();
     for count in [32, 64, 128, 256, 512] {
         let script = short_statements(count);
-        let archive = Archive::holding(&script, &LISTS);
+        let archive = Archive::holding(FIRST, &script, &LISTS);
         let mut case = |name: String, statement: usize, change: fn(&str) -> String| {
             let old = archive.statement(statement);
             cases.push(Case {
@@ -156,13 +156,13 @@ fn there_and_back(archive: &mut Archive, case: &Case) -> f64 {
 
 /// The amendment leaves what reading the new script leaves, and the Rust counts alike. Answers the new script.
 fn verify(case: &Case) -> String {
-    let mut archive = Archive::holding(&case.script, &case.lists);
+    let mut archive = Archive::holding(FIRST, &case.script, &case.lists);
     archive.amend(case.statement, &case.new, &case.lists);
     assert_eq!(archive.answer[0], 0, "{}: {:?}", case.name, archive.answer);
     let amended = archive.text();
     assert!(amended != case.script, "{} changes the script", case.name);
     assert!(
-        archive == Archive::holding(&amended, &case.lists),
+        archive == Archive::holding(FIRST, &amended, &case.lists),
         "{} is as read",
         case.name
     );

@@ -10,8 +10,12 @@ pub const LISTS: Lists<'static> = Lists {
     day_counters: oracle::DAY_COUNTERS.as_bytes(),
 };
 
+/// The edition that the Rust reads.
+pub const FIRST: u32 = 1;
+
 #[derive(Clone, PartialEq)]
 pub struct Archive {
+    edition: u32,
     pub script: Vec<u8>,
     pub records: Vec<u32>,
     pub directory: Vec<u32>,
@@ -20,10 +24,11 @@ pub struct Archive {
 
 impl Archive {
     /// Full room, and the script in its slice.
-    pub fn new(script: &str) -> Self {
+    pub fn new(edition: u32, script: &str) -> Self {
         let mut bytes = script.as_bytes().to_vec();
         bytes.resize(MOST_BYTES, 0);
         Self {
+            edition,
             script: bytes,
             records: vec![0; MOST_RECORDS * RECORD],
             directory: vec![0; MOST_STATEMENTS * ENTRY],
@@ -32,8 +37,8 @@ impl Archive {
     }
 
     /// Full room with this script read.
-    pub fn holding(script: &str, lists: &Lists) -> Self {
-        let mut archive = Self::new(script);
+    pub fn holding(edition: u32, script: &str, lists: &Lists) -> Self {
+        let mut archive = Self::new(edition, script);
         archive.read(lists);
         assert_eq!(archive.answer[0], 0, "the archive accepts the script");
         archive
@@ -42,6 +47,7 @@ impl Archive {
     pub fn read(&mut self, lists: &Lists) {
         calls::read(
             &self.script,
+            self.edition,
             lists,
             &mut self.records,
             &mut self.directory,

@@ -1,6 +1,7 @@
 //! Measures the archive beside the unchanged Rust, in one process: `bench [--quick]`.
 mod amending;
 mod archive;
+mod editions;
 mod full_lists;
 mod machine;
 mod reading;
@@ -30,6 +31,7 @@ fn main() -> ExitCode {
     );
     reading::tables(rounds);
     amending::tables(rounds);
+    editions::table(rounds);
     stacks::table();
     ExitCode::SUCCESS
 }

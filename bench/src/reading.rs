@@ -1,5 +1,5 @@
 //! Reading and refusing, beside the Rust.
-use crate::archive::{Archive, LISTS};
+use crate::archive::{Archive, FIRST, LISTS};
 use crate::full_lists::FullLists;
 use crate::scripts::note;
 use crate::timing::{medians, timed, Timed};
@@ -54,7 +54,7 @@ fn others(full: &FullLists) -> Vec<Case<'_>> {
 
 /// Both sides accept and count alike, or both refuse.
 fn verify(case: &Case) {
-    let mut archive = Archive::new(&case.script);
+    let mut archive = Archive::new(FIRST, &case.script);
     archive.read(&case.lists);
     assert_eq!(
         archive.answer[0], case.ground,
@@ -76,7 +76,7 @@ fn table(rounds: usize, cases: &[Case]) {
     for case in cases {
         verify(case);
         runs.push(Box::new(|| timed(|| oracle::read(black_box(&case.script)))));
-        let mut archive = Archive::new(&case.script);
+        let mut archive = Archive::new(FIRST, &case.script);
         runs.push(Box::new(move || {
             timed(|| archive.read(black_box(&case.lists)))
         }));

@@ -72,6 +72,19 @@ pub fn short_statements(count: usize) -> String {
     (0..count).map(statement).collect()
 }
 
+/// A chain of so many operands with `**` between them.
+pub fn powers(operands: usize) -> String {
+    format!("{}2;", "2**".repeat(operands - 1))
+}
+
+/// What nests in the second edition alone, where a sign takes in the powers behind it, and a chain groups right.
+pub fn raised() -> Vec<(&'static str, String)> {
+    vec![
+        ("powers of minuses, `2**-2**-..`", "2**-".repeat(32) + "a;"),
+        ("a chain of 1000 operands with `**`", powers(1000)),
+    ]
+}
+
 /// Everything that depth counts, 32 in one another.
 pub fn deepest() -> Vec<(&'static str, String)> {
     let nest = |open: &str, inner: &str, close: &str| {

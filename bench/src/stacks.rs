@@ -1,26 +1,29 @@
 //! The most stack that scripts of depth 32 need.
 use crate::archive::{Archive, LISTS};
-use crate::scripts::{deepest, note};
+use crate::scripts::{deepest, note, raised};
 use crate::stack::used_by;
-use calls::MOST_BYTES;
+use calls::{EDITIONS, MOST_BYTES};
 
 pub fn table() {
     println!("\n## Stack\n\nBytes, by the mark on a painted stack; 32 of each in one another.\n");
-    println!("| | the Rust | `script_read` | `script_amend` |");
-    println!("|---|---|---|---|");
-    for (name, script) in deepest() {
+    println!("| | the Rust | `script_read` | `script_amend` | `script_read`, edition 2 | `script_amend`, edition 2 |");
+    println!("|---|---|---|---|---|---|");
+    for (name, script) in deepest().into_iter().chain(raised()) {
+        let [one, two] = EDITIONS.map(|edition| (read(edition, &script), amend(edition, &script)));
         println!(
-            "| {name} | {} | {} | {} |",
+            "| {name} | {} | {} | {} | {} | {} |",
             rust(&script),
-            read(&script),
-            amend(&script)
+            one.0,
+            one.1,
+            two.0,
+            two.1
         );
     }
     let script = note(MOST_BYTES);
+    let [one, two] = EDITIONS.map(|edition| read(edition, &script));
     println!(
-        "| the note of 16 KiB | {} | {} | |",
-        rust(&script),
-        read(&script)
+        "| the note of 16 KiB | {} | {one} | | {two} | |",
+        rust(&script)
     );
 }
 
@@ -32,15 +35,15 @@ fn rust(script: &str) -> usize {
     used
 }
 
-fn read(script: &str) -> usize {
-    let mut archive = Archive::new(script);
+fn read(edition: u32, script: &str) -> usize {
+    let mut archive = Archive::new(edition, script);
     let used = used_by(|| archive.read(&LISTS));
     assert_eq!(archive.answer[0], 0, "the archive accepts");
     used
 }
 
-fn amend(text: &str) -> usize {
-    let mut archive = Archive::holding("x; y;", &LISTS);
+fn amend(edition: u32, text: &str) -> usize {
+    let mut archive = Archive::holding(edition, "x; y;", &LISTS);
     let used = used_by(|| archive.amend(1, text, &LISTS));
     assert_eq!(archive.answer[0], 0, "the archive accepts the amendment");
     used

@@ -36,7 +36,7 @@ extern "C" {
 enum {
     ARCHIVE_RECORD_WORDS = 8, /* of a node, see below; children stand before parents */
     ARCHIVE_ENTRY_WORDS = 5,  /* of a statement, see below */
-    ARCHIVE_ANSWER_WORDS = 9,
+    ARCHIVE_ANSWER_WORDS = 10,
     ARCHIVE_PLACE_WORDS = 3,
     ARCHIVE_DAY_WORDS = 3 /* year, month, day */
 };
@@ -54,11 +54,25 @@ enum {
 enum { ARCHIVE_LAST_COUNT = 3652059 };
 
 /*
+ * The editions of the script language. The second differs from the first in these points, and in no other:
+ *
+ * - `**` groups right: `2**3**2` is 2**(3**2), where the first edition reads (2**3)**2. The chain is not counted for depth.
+ * - `**` binds tighter than a sign before it: `-2**2` is -(2**2), where the first edition reads (-2)**2. The right side of a
+ *   `**` may begin with signs, which take in the `**` behind them. A minus before a number that no `**` follows makes a
+ *   negated number in both editions; each other minus is counted for depth. A plus before a power is not the power's text:
+ *   in `+a**b` the power is at `a`, in the first edition at the plus.
+ * - `and` binds tighter than `or`: `a or b and c` is a or (b and c), where the first edition reads (a or b) and c.
+ * - A line break behind the name that begins a statement means nothing: `x`, line feed, `= 1;` is an assignment. The first
+ *   edition refuses it.
+ */
+enum { ARCHIVE_EDITION_ONE = 1, ARCHIVE_EDITION_TWO = 2 };
+
+/*
  * The words of an answer. Lines and columns count from 1. A column counts the characters of UTF-8: it is 1 more than the
  * bytes before the place in its line that are no continuation bytes (0x80 to 0xBF), each byte judged alone. An accepted
- * call answers 0, 0, 1, 1 and then the state of the whole script: four counts and its latest date. A refused one answers a
- * ground and its place, which is in the script for script_read and in the new text for script_amend, and then the state: 0
- * for script_read, for script_amend the one that it was given.
+ * call answers 0, 0, 1, 1 and then the state of the whole script: four counts, its latest date and its edition. A refused
+ * one answers a ground and its place, which is in the script for script_read and in the new text for script_amend, and then
+ * the state: 0 for script_read, for script_amend the one that it was given.
  */
 enum {
     ARCHIVE_NUMBER = 0, /* 0 accepted, else one of the grounds below */
@@ -69,7 +83,8 @@ enum {
     ARCHIVE_COUNT_STATEMENTS = 5,
     ARCHIVE_COUNT_RECORDS = 6,
     ARCHIVE_COUNT_TOKENS = 7,
-    ARCHIVE_LATEST = 8 /* the greatest of the entries' latest dates, 0 where there is none */
+    ARCHIVE_LATEST = 8, /* the greatest of the entries' latest dates, 0 where there is none */
+    ARCHIVE_EDITION = 9 /* the edition that it was read in */
 };
 
 /*
@@ -172,16 +187,18 @@ enum {
     ARCHIVE_NO_STATEMENT = 17,      /* no such statement */
     ARCHIVE_BAD_END = 18,           /* new text ends badly */
     ARCHIVE_ZERO_BYTE = 19,         /* zero byte in new text */
-    ARCHIVE_DIRECTORY = 20          /* directory not in order, or not that of this state: no reading left this memory */
+    ARCHIVE_DIRECTORY = 20,         /* directory not in order, or not that of this state: no reading left this memory */
+    ARCHIVE_NO_EDITION = 26         /* an edition other than 1 and 2; this goes before all other grounds */
 };
 
 /*
- * Reads a script: the bytes before the first zero byte of its slice, or all.
+ * Reads a script: the bytes before the first zero byte of its slice, or all. `edition` is ARCHIVE_EDITION_ONE or
+ * ARCHIVE_EDITION_TWO; the state keeps it, and amendments are read by it.
  *
  * Accepted, the first words of `records` and of `directory` are the script's, as many as the answer counts; the words
  * behind them are as they were. The script is not written. `answer` is written whole, and not read.
  */
-void script_read(const uint8_t *script, size_t script_bytes,
+void script_read(const uint8_t *script, size_t script_bytes, uint32_t edition,
                  const uint8_t *reserved, size_t reserved_bytes,
                  const uint8_t *currencies, size_t currencies_bytes,
                  const uint8_t *day_counters, size_t day_counters_bytes,
@@ -192,11 +209,12 @@ void script_read(const uint8_t *script, size_t script_bytes,
 /*
  * Replaces the bytes of one statement, counted from 0, by those of `text`, which may hold one statement, several or none.
  *
- * At entry the last five words of `answer` are the state of the note, as script_read or the last script_amend left them,
+ * At entry the last six words of `answer` are the state of the note, as script_read or the last script_amend left them,
  * and `script`, `records` and `directory` are its memory; `script` is the whole room, of which the first bytes are used.
- * Accepted, the three slices are what script_read of the new script would leave, room that became free is 0, and `answer`
- * has the new state. Refused, the slices are as they were, and `answer` still ends in the same state. So one answer can be
- * passed from call to call.
+ * The text is read in the edition of that state. Accepted, the three slices are what script_read of the new script would
+ * leave in this edition, room that became free is 0, and `answer` has the new state, with the same edition. Refused, the
+ * slices are as they were, and `answer` still ends in the same state. So one answer can be passed from call to call. A
+ * refused script_read leaves edition 0, on which every script_amend is refused with ARCHIVE_NO_EDITION.
  */
 void script_amend(uint8_t *script, size_t script_bytes, uint32_t statement,
                   const uint8_t *text, size_t text_bytes,

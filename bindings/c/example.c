@@ -1,5 +1,5 @@
-/* Reads a note, replaces a statement, has an amendment refused, looks a name up, tells dates, and finds nodes in the script.
- * Exits with 1 where an answer is not the one that this example is about. */
+/* Reads a note, replaces a statement, has an amendment refused, looks a name up, tells dates, finds nodes in the script, and
+ * reads a note in both editions. Exits with 1 where an answer is not the one that this example is about. */
 #include "archive.h"
 
 #include <stdio.h>
@@ -22,11 +22,11 @@ static const uint8_t *bytes(const char *text)
     return (const uint8_t *)text;
 }
 
-static void read_note(struct note *n, const char *text)
+static void read_note(struct note *n, uint32_t edition, const char *text)
 {
     size_t length = strlen(text);
     memcpy(n->script, text, length);
-    script_read(n->script, length, bytes(reserved), strlen(reserved), bytes(currencies), strlen(currencies),
+    script_read(n->script, length, edition, bytes(reserved), strlen(reserved), bytes(currencies), strlen(currencies),
                 bytes(day_counters), strlen(day_counters), n->records, sizeof n->records / sizeof n->records[0],
                 n->directory, sizeof n->directory / sizeof n->directory[0], n->answer);
 }
@@ -113,12 +113,39 @@ static bool begins(const struct note *n, uint32_t kind, const char *expected)
     return false;
 }
 
+/* Prints the kind of the note's last record, which is the outermost node of its last statement, and says whether it is the
+ * one expected, in this edition. */
+static bool is_last(const struct note *n, uint32_t edition, uint32_t kind)
+{
+    const uint32_t *record = n->records + (n->answer[ARCHIVE_COUNT_RECORDS] - 1) * ARCHIVE_RECORD_WORDS;
+    printf("edition %u, %.*s kind %u\n", (unsigned)n->answer[ARCHIVE_EDITION], (int)n->answer[ARCHIVE_COUNT_BYTES],
+           (const char *)n->script, (unsigned)record[ARCHIVE_RECORD_KIND]);
+    return n->answer[ARCHIVE_NUMBER] == ARCHIVE_ACCEPTED && n->answer[ARCHIVE_EDITION] == edition &&
+           record[ARCHIVE_RECORD_KIND] == kind;
+}
+
+/* The same script in each edition, then an amendment, which is read in the edition of the note; and no other edition. */
+static bool in_both_editions(struct note *n)
+{
+    bool good = true;
+    read_note(n, ARCHIVE_EDITION_ONE, "-2**2;");
+    good &= is_last(n, ARCHIVE_EDITION_ONE, ARCHIVE_POW);
+    read_note(n, ARCHIVE_EDITION_TWO, "-2**2;");
+    good &= is_last(n, ARCHIVE_EDITION_TWO, ARCHIVE_UNARY_MINUS);
+    amend_note(n, 0, "a or b and c;");
+    good &= is_last(n, ARCHIVE_EDITION_TWO, ARCHIVE_OR);
+    read_note(n, 3, "-2**2;");
+    print_note(n, "read in edition 3");
+    good &= n->answer[ARCHIVE_NUMBER] == ARCHIVE_NO_EDITION && n->answer[ARCHIVE_EDITION] == 0;
+    return good;
+}
+
 int main(void)
 {
     static struct note n;
     bool good = true;
 
-    read_note(&n, "rate = 0.05;\nfloor = 0.01;\npays rate on \"2026-06-30\" in \"EUR\";");
+    read_note(&n, ARCHIVE_EDITION_ONE, "rate = 0.05;\nfloor = 0.01;\npays rate on \"2026-06-30\" in \"EUR\";");
     print_note(&n, "read");
     good &= n.answer[ARCHIVE_NUMBER] == ARCHIVE_ACCEPTED && n.answer[ARCHIVE_COUNT_STATEMENTS] == 3;
 
@@ -142,6 +169,7 @@ int main(void)
     good &= begins(&n, ARCHIVE_MULTIPLY, "(rate - 0.02) * 2;");
     good &= begins(&n, ARCHIVE_SUBTRACT, "rate - 0.02) * 2;");
     good &= begins(&n, ARCHIVE_PAYS, "pays rate on");
+    good &= in_both_editions(&n);
     if (!good) {
         fputs("example: an answer is not the one expected\n", stderr);
     }

@@ -11,6 +11,17 @@ pub struct Alphabet {
     pub whole: usize,
 }
 
+/// Those over which the editions differ.
+pub const OF_EDITIONS: [&Alphabet; 3] = [&ALPHABETS[2], &ALPHABETS[3], &POWERS];
+
+/// Powers with signs, and line breaks behind names.
+const POWERS: Alphabet = Alphabet {
+    name: "powers",
+    between: " ",
+    letters: &["x", "2", "-", "+", "**", "*", "or", "=", "\n", ";"],
+    whole: 4,
+};
+
 pub const ALPHABETS: [Alphabet; 6] = [
     Alphabet {
         name: "bytes",

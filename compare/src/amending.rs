@@ -3,7 +3,7 @@ use crate::memory::{Contents, Memory, Room};
 use crate::reading::{self, Same};
 use crate::rules::LISTS;
 use crate::splice::{latest, outcome, Outcome, State};
-use calls::{totals, Answer, Change, Totals, ANSWER, ENTRY, LATEST, RECORD, TOTALS};
+use calls::{totals, Answer, Change, Totals, ANSWER, EDITION, ENTRY, LATEST, RECORD, TOTALS};
 
 /// The statement that is replaced, and by which bytes.
 #[derive(Debug, Clone, PartialEq)]
@@ -25,6 +25,7 @@ pub enum Harm {
 
 #[derive(Debug, Clone)]
 pub struct Run {
+    pub edition: u32,
     pub script: String,
     /// Bytes of room behind the script.
     pub spare: usize,
@@ -54,7 +55,7 @@ impl Run {
 /// Runs the read and the steps.
 pub fn compare(run: &Run) -> Result<Trace, String> {
     let mut memory = Memory::new(&run.lent(), run.room, &LISTS);
-    let mut answer = memory.read()?;
+    let mut answer = memory.read(run.edition)?;
     alone(run, &memory, answer)?;
     let mut as_read = answer[0] == 0;
     if let Some(harm) = run.harm {
@@ -73,20 +74,17 @@ pub fn compare(run: &Run) -> Result<Trace, String> {
         answer = memory.amend(change, &totals)?;
         same(&memory, answer, &expected)?;
         if as_read && answer[0] == 0 {
-            fresh(&memory, answer)?;
+            fresh(run.edition, &memory, answer)?;
         }
         trace.push((answer, memory.contents()));
     }
     Ok(trace)
 }
 
-/// The script in a slice of its own is read so too, and compared with the Rust.
+/// The script in a slice of its own is read so too, and compared with the Rust or the second parser.
 fn alone(run: &Run, memory: &Memory, answer: Answer) -> Result<(), String> {
-    let (same, contents) = reading::compare_memory(&run.script, run.room)?;
-    let as_alone = match same {
-        Same::AsRust(alone) | Same::ByRule(alone) => alone == answer,
-        Same::Outside => true,
-    };
+    let (same, contents) = reading::compare_memory(run.edition, &run.script, run.room)?;
+    let as_alone = same.answer().is_none_or(|alone| alone == answer);
     let same_words =
         contents.records == memory.records() && contents.directory == memory.directory();
     if as_alone && same_words {
@@ -119,10 +117,10 @@ fn harmed(memory: &Memory, harm: Harm, answer: &mut Answer) -> Memory<'static> {
     Memory::holding(&contents, &LISTS)
 }
 
-/// What the rules say. The text read alone is compared with the Rust.
+/// What the rules say. The text read alone, in the edition of the totals, is compared with the Rust or the second parser.
 fn expected(contents: &Contents, totals: Totals, change: Change) -> Result<Outcome, String> {
     if let Ok(text) = std::str::from_utf8(change.text) {
-        reading::compare(text, Room::ample(text.len()))
+        reading::compare(totals[EDITION], text, Room::ample(text.len()))
             .map_err(|found| format!("{text:?} alone: {found}"))?;
     }
     outcome(&State { contents, totals }, change)
@@ -149,15 +147,15 @@ fn same(memory: &Memory, answer: Answer, expected: &Outcome) -> Result<(), Strin
     }
 }
 
-/// The whole new script, read into new memory, has the same totals and words; and the Rust reads it so.
-fn fresh(memory: &Memory, answer: Answer) -> Result<(), String> {
+/// The whole new script, read into new memory, has the same totals and words; and the Rust or the second parser reads it so.
+fn fresh(edition: u32, memory: &Memory, answer: Answer) -> Result<(), String> {
     let [bytes, statements, records, ..] = totals(&answer).map(|word| word as usize);
     let script = &memory.script()[..bytes];
     let script = std::str::from_utf8(script).map_err(|error| error.to_string())?;
     let room = Room::of(records, statements);
-    let (same, contents) = reading::compare_memory(script, room)
+    let (same, contents) = reading::compare_memory(edition, script, room)
         .map_err(|found| format!("a fresh read of {script:?}: {found}"))?;
-    if same != Same::AsRust(answer) {
+    if !matches!(same, Same::AsRust(read) | Same::AsSecond(read) if read == answer) {
         return Err(format!(
             "answer {answer:?}, and a fresh read of {script:?} gives {same:?}"
         ));

@@ -3,10 +3,10 @@ use crate::generate::{any_token, script, Item};
 use crate::random::Random;
 use crate::spacing::text;
 
-/// A script with damage to some tokens and some characters.
-pub fn any(random: &mut Random) -> String {
+/// A script in an edition, with damage to some tokens and some characters.
+pub fn any(random: &mut Random, edition: u32) -> String {
     let statements = 1 + random.below(4);
-    let mut items = script(random, statements);
+    let mut items = script(random, edition, statements);
     for _ in 0..random.below(3) {
         tokens(&mut items, random);
     }

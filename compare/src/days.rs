@@ -21,6 +21,29 @@ pub fn count(year: u32, month: u32, day: u32) -> u32 {
     365 * years + leap_days + (153 * months + 2) / 5 + day - 306
 }
 
+/// The count of a date, yyyy-mm-dd; 0 where there is no such day.
+pub fn count_of(date: &[u8]) -> u32 {
+    let shape: Vec<u8> = date
+        .iter()
+        .map(|byte| if byte.is_ascii_digit() { b'd' } else { *byte })
+        .collect();
+    if shape != b"dddd-dd-dd" {
+        return 0;
+    }
+    let number = |digits: &[u8]| {
+        digits
+            .iter()
+            .fold(0, |sum, d| sum * 10 + u32::from(d - b'0'))
+    };
+    let (year, month, day) = (number(&date[..4]), number(&date[5..7]), number(&date[8..]));
+    let is_day = year >= 1 && (1..=12).contains(&month) && (1..=length(year, month)).contains(&day);
+    if is_day {
+        count(year, month, day)
+    } else {
+        0
+    }
+}
+
 /// Years, each with all its days, until the time is over.
 pub fn run(time: Duration) -> Section {
     let begin = Instant::now();
@@ -28,7 +51,7 @@ pub fn run(time: Duration) -> Section {
     let mut years = 0;
     while years < YEARS && begin.elapsed() < time {
         for script in scripts(1 + years * STEP % YEARS) {
-            section.compare(&script, Room::FULL);
+            section.compare(1, &script, Room::FULL);
         }
         years += 1;
     }

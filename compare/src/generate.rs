@@ -3,7 +3,7 @@ use crate::random::Random;
 use crate::spacing::text;
 use crate::words::*;
 
-/// A token. Before a tight one no Newline may stand, or the statement becomes another.
+/// A token. Before a tight one no Newline may stand, or the statement becomes another; in the second edition none is.
 #[derive(Debug, Clone)]
 pub struct Item {
     pub text: String,
@@ -14,17 +14,18 @@ pub fn any_token(random: &mut Random) -> &'static str {
     random.pick(&TOKENS)
 }
 
-/// A script of a few statements.
-pub fn any(random: &mut Random) -> String {
+/// A script of a few statements in an edition.
+pub fn any(random: &mut Random, edition: u32) -> String {
     let statements = random.below(7);
-    let items = script(random, statements);
+    let items = script(random, edition, statements);
     text(&items, random)
 }
 
 /// The items of a script with so many statements.
-pub fn script(random: &mut Random, statements: usize) -> Vec<Item> {
+pub fn script(random: &mut Random, edition: u32, statements: usize) -> Vec<Item> {
     let mut writer = Writer {
         random,
+        edition,
         items: Vec::new(),
     };
     for _ in 0..statements {
@@ -35,6 +36,7 @@ pub fn script(random: &mut Random, statements: usize) -> Vec<Item> {
 
 struct Writer<'a> {
     random: &'a mut Random,
+    edition: u32,
     items: Vec<Item>,
 }
 
@@ -46,7 +48,8 @@ impl Writer<'_> {
 
     fn put_tight(&mut self, text: &str) {
         let text = text.to_string();
-        self.items.push(Item { text, tight: true });
+        let tight = self.edition == 1;
+        self.items.push(Item { text, tight });
     }
 
     fn name(&mut self) {
@@ -181,7 +184,7 @@ impl Writer<'_> {
 
     fn expression(&mut self, depth: usize) {
         self.comparison(depth);
-        while self.random.once_in(6) {
+        while self.random.once_in(5) {
             let word = self.random.pick(&["and", "or"]);
             self.put(word);
             self.comparison(depth);
@@ -198,12 +201,29 @@ impl Writer<'_> {
     }
 
     fn sum(&mut self, depth: usize) {
-        self.primary(depth);
-        while self.random.once_in(3) {
-            let sign = self.random.pick(&["+", "-", "*", "/", "**"]);
+        self.power(depth);
+        while self.random.once_in(4) {
+            let sign = self.random.pick(&["+", "-", "*", "/"]);
             self.put(sign);
-            self.primary(depth);
+            self.power(depth);
         }
+    }
+
+    /// Operands with `**` between them: mostly one, seldom many, and before some of them signs.
+    fn power(&mut self, depth: usize) {
+        self.signed(depth);
+        while self.random.once_in(4) {
+            self.put("**");
+            self.signed(depth);
+        }
+    }
+
+    fn signed(&mut self, depth: usize) {
+        while self.random.once_in(8) {
+            let sign = self.random.pick(&["-", "-", "+"]);
+            self.put(sign);
+        }
+        self.primary(depth);
     }
 
     fn primary(&mut self, depth: usize) {

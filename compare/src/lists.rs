@@ -3,7 +3,7 @@ use crate::memory::{Memory, Room};
 use crate::random::Random;
 use crate::rules::{LISTS, NOTHING};
 use crate::tally::Section;
-use calls::{Answer, Change, Lists, Totals};
+use calls::{Answer, Change, Lists, Totals, EDITIONS};
 use std::collections::HashSet;
 
 const MOST_NAMES: usize = 256;
@@ -13,10 +13,12 @@ const MOST_LENGTH: usize = 32;
 const SCRIPT: &[u8] = b"Q;";
 const TEXT: &[u8] = b"R;";
 
-/// What both are read as.
-const TOTALS: Totals = [2, 1, 1, 2, 0];
+/// What both are read as in an edition.
+const fn totals(edition: u32) -> Totals {
+    [2, 1, 1, 2, 0, edition]
+}
 
-/// Reads a short script, and amends it, with lists of which one was made at random.
+/// Reads a short script, and amends it, with lists of which one was made at random, mostly in one of the editions.
 pub fn compare(random: &mut Random, section: &mut Section) {
     let list = list(random);
     let mut lists = LISTS;
@@ -26,26 +28,34 @@ pub fn compare(random: &mut Random, section: &mut Section) {
         (false, true) => lists.reserved = &list,
         (false, false) => lists.day_counters = &list,
     }
-    let is_good = is_well_formed(&list, is_currencies);
-    match read(&lists, is_good).and_then(|()| amend(&lists, is_good)) {
+    let edition = [1, 1, 1, 2, 2, 2, 0, 3][random.below(8)];
+    let ground = match is_well_formed(&list, is_currencies) {
+        _ if !EDITIONS.contains(&edition) => 26,
+        true => 0,
+        false => 2,
+    };
+    match read(edition, &lists, ground).and_then(|()| amend(edition, &lists, ground)) {
         Ok(()) => {
-            let ground = if is_good { 0 } else { 2 };
-            section.by_rule[ground] += 1;
-            section.amended[ground] += 1;
+            section.by_rule[ground as usize] += 1;
+            section.amended[ground as usize] += 1;
         }
         Err(found) => {
             if section.differs() {
                 let list = String::from_utf8_lossy(&list);
-                println!("DIFFERS in lists: {list:?}, currencies {is_currencies}\n  {found}");
+                println!(
+                    "DIFFERS in lists: {list:?}, currencies {is_currencies}, edition {edition}"
+                );
+                println!("  {found}");
             }
         }
     }
 }
 
-fn answer(is_good: bool, held: Totals) -> Answer {
-    let [bytes, statements, records, tokens, latest] = if is_good { TOTALS } else { held };
-    let ground = if is_good { 0 } else { 2 };
-    [ground, 0, 1, 1, bytes, statements, records, tokens, latest]
+fn answer(ground: u32, totals: Totals) -> Answer {
+    let [bytes, statements, records, tokens, latest, edition] = totals;
+    [
+        ground, 0, 1, 1, bytes, statements, records, tokens, latest, edition,
+    ]
 }
 
 fn same<T: PartialEq + std::fmt::Debug>(got: &T, expected: &T) -> Result<(), String> {
@@ -56,25 +66,28 @@ fn same<T: PartialEq + std::fmt::Debug>(got: &T, expected: &T) -> Result<(), Str
     }
 }
 
-fn read(lists: &Lists, is_good: bool) -> Result<(), String> {
+fn read(edition: u32, lists: &Lists, ground: u32) -> Result<(), String> {
     let mut memory = Memory::new(SCRIPT, Room::of(1, 1), lists);
     let before = memory.contents();
-    same(&memory.read()?, &answer(is_good, NOTHING))?;
-    same(&(memory.contents() != before), &is_good)
+    let is_read = ground == 0;
+    let left = if is_read { totals(edition) } else { NOTHING };
+    same(&memory.read(edition)?, &answer(ground, left))?;
+    same(&(memory.contents() != before), &is_read)
 }
 
 /// Of a state that was read with other lists.
-fn amend(lists: &Lists, is_good: bool) -> Result<(), String> {
+fn amend(edition: u32, lists: &Lists, ground: u32) -> Result<(), String> {
     let mut first = Memory::new(SCRIPT, Room::of(1, 1), &LISTS);
-    first.read()?;
+    first.read(1)?;
     let mut expected = first.contents();
     let mut memory = Memory::holding(&expected, lists);
     let change = Change {
         statement: 0,
         text: TEXT,
     };
-    same(&memory.amend(change, &TOTALS)?, &answer(is_good, TOTALS))?;
-    if is_good {
+    let totals = totals(edition);
+    same(&memory.amend(change, &totals)?, &answer(ground, totals))?;
+    if ground == 0 {
         expected.script = TEXT.to_vec();
     }
     same(&memory.contents(), &expected)

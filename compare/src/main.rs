@@ -1,6 +1,8 @@
-//! Compares the archive with the unchanged Rust: `compare [SECONDS [SEED]]`, or `compare sample SEED COUNT`.
+//! Compares the archive with the unchanged Rust and with a second parser: `compare [SECONDS [SEED]]`, or
+//! `compare sample SEED COUNT`.
 mod alphabets;
 mod amending;
+mod climbing;
 mod damage;
 mod days;
 mod from_records;
@@ -11,6 +13,8 @@ mod lists;
 mod lookups;
 mod memory;
 mod near;
+mod nodes;
+mod operands;
 mod places;
 mod random;
 mod reading;
@@ -19,6 +23,7 @@ mod rules;
 mod runs;
 mod sample;
 mod scan;
+mod second;
 mod sections;
 mod sequences;
 mod spacing;

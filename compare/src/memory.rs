@@ -136,13 +136,14 @@ impl<'a> Memory<'a> {
         }
     }
 
-    /// Reads the script slice. Script, lists and guards must be as before.
-    pub fn read(&mut self) -> Result<Answer, String> {
+    /// Reads the script slice in an edition. Script, lists and guards must be as before.
+    pub fn read(&mut self, edition: u32) -> Result<Answer, String> {
         let before = self.script.clone();
         let mut answer = Guarded::new(&[WORD; ANSWER], WORD);
         let lists = lists_of(&self.lent);
         calls::read(
             self.script.slice(),
+            edition,
             &lists,
             self.records.slice_mut(),
             self.directory.slice_mut(),

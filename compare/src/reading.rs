@@ -1,8 +1,9 @@
-//! One script: the archive's answer, words and trees beside the Rust's.
+//! One script: the archive's answer, words and trees beside the Rust's and the second parser's.
 use crate::from_records::{self, Held, Statement};
 use crate::memory::{Contents, Memory, Room, OLD_ENTRY, OLD_RECORD};
 use crate::rules::{accepted, may_open, refused, LISTS, NOTHING};
 use crate::scan::{cut, scan, Fault, Kind, Scan};
+use crate::second::{self, Expected};
 use crate::tree::Tree;
 use crate::verdict::{self, Verdict};
 use calls::{Answer, ENTRY, MOST_BYTES, MOST_RECORDS, MOST_STATEMENTS, MOST_TOKENS, RECORD};
@@ -12,26 +13,73 @@ use calls::{Answer, ENTRY, MOST_BYTES, MOST_RECORDS, MOST_STATEMENTS, MOST_TOKEN
 pub enum Same {
     /// The archive's answer is the Rust's.
     AsRust(Answer),
-    /// The Rust has no such limit; the answer is the one that the rule gives.
+    /// The archive's answer is the second parser's. The Rust does not know the edition.
+    AsSecond(Answer),
+    /// The Rust has no such limit, or there is no such edition; the answer is the one that the rule gives.
     ByRule(Answer),
     /// Outside what is compared: a character outside strings and comments that is not ASCII.
     Outside,
 }
 
+impl Same {
+    /// What the archive answers, where that was compared.
+    pub fn answer(self) -> Option<Answer> {
+        match self {
+            Self::AsRust(answer) | Self::AsSecond(answer) | Self::ByRule(answer) => Some(answer),
+            Self::Outside => None,
+        }
+    }
+}
+
 /// At most 32 constructs stand in one another.
 pub const DEPTH: usize = 32;
 
-/// Reads a script in such room on both sides, or says what differs.
-pub fn compare(script: &str, room: Room) -> Result<Same, String> {
-    compare_memory(script, room).map(|(same, _)| same)
+/// Reads a script in an edition and such room on both sides, or says what differs.
+pub fn compare(edition: u32, script: &str, room: Room) -> Result<Same, String> {
+    compare_memory(edition, script, room).map(|(same, _)| same)
 }
 
-/// The same, with what the archive left.
-pub fn compare_memory(script: &str, room: Room) -> Result<(Same, Contents), String> {
+/// The same, with what the archive left. The second parser reads both editions, so that the Rust holds it to the rules that
+/// they share.
+pub fn compare_memory(edition: u32, script: &str, room: Room) -> Result<(Same, Contents), String> {
     let mut memory = Memory::new(script.as_bytes(), room, &LISTS);
-    let answer = memory.read()?;
-    let same = judge(script, room, &memory, answer)?;
+    let answer = memory.read(edition)?;
+    as_second(
+        &memory,
+        answer,
+        &second::read(script.as_bytes(), edition, room, &LISTS),
+    )?;
+    let same = match edition {
+        1 => judge(script, room, &memory, answer)?,
+        2 => Same::AsSecond(answer),
+        _ => Same::ByRule(answer),
+    };
     Ok((same, memory.contents()))
+}
+
+/// The answer and every word are those of the second parser; a refusal has no words.
+fn as_second(memory: &Memory, answer: Answer, expected: &Expected) -> Result<(), String> {
+    if answer != expected.answer {
+        return Err(format!(
+            "the archive answers {answer:?}, the second parser {:?}",
+            expected.answer
+        ));
+    }
+    let words = &expected.words;
+    same_words(memory.records(), &words.records, OLD_RECORD, RECORD)?;
+    same_words(memory.directory(), &words.directory, OLD_ENTRY, ENTRY)
+}
+
+/// The words of a slice that are used, by their width, and behind them the old ones.
+fn same_words(words: &[u32], expected: &[u32], old: u32, width: usize) -> Result<(), String> {
+    let (used, rest) = words.split_at(expected.len());
+    let mut pairs = used.chunks(width).zip(expected.chunks(width));
+    match pairs.find(|(own, expected)| own != expected) {
+        None => untouched(rest, old),
+        Some((own, expected)) => Err(format!(
+            "the archive writes {own:?}, the second parser {expected:?}"
+        )),
+    }
 }
 
 fn judge(script: &str, room: Room, memory: &Memory, answer: Answer) -> Result<Same, String> {
@@ -174,7 +222,7 @@ fn judge_accepted(
         return by_rule(memory, answer, refused(text, fault, NOTHING));
     }
     let latest = trees.iter().map(Tree::latest).max().unwrap_or(0);
-    same_answer(answer, accepted(counts, latest))?;
+    same_answer(answer, accepted(counts, latest, 1))?;
     let (record_words, directory_words) = (records * RECORD, statements * ENTRY);
     untouched(&memory.records()[record_words..], OLD_RECORD)?;
     untouched(&memory.directory()[directory_words..], OLD_ENTRY)?;

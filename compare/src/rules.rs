@@ -12,17 +12,19 @@ pub const LISTS: Lists<'static> = Lists {
 /// The totals of a reading that was refused.
 pub const NOTHING: Totals = [0; calls::TOTALS];
 
-/// The answer of an accepted call that leaves so many bytes, statements, records and tokens, and this latest date.
-pub fn accepted(counts: [usize; 4], latest: u32) -> Answer {
+/// The answer of an accepted call that leaves so many bytes, statements, records and tokens, and this latest date, in an
+/// edition.
+pub fn accepted(counts: [usize; 4], latest: u32, edition: u32) -> Answer {
     let [bytes, statements, records, tokens] = counts.map(|count| count as u32);
-    answered([0, 0, 1, 1], [bytes, statements, records, tokens, latest])
+    let totals = [bytes, statements, records, tokens, latest, edition];
+    answered([0, 0, 1, 1], totals)
 }
 
 fn answered(verdict: [u32; 4], totals: Totals) -> Answer {
     let [number, byte, line, column] = verdict;
-    let [bytes, statements, records, tokens, latest] = totals;
+    let [bytes, statements, records, tokens, latest, edition] = totals;
     [
-        number, byte, line, column, bytes, statements, records, tokens, latest,
+        number, byte, line, column, bytes, statements, records, tokens, latest, edition,
     ]
 }
 

@@ -1,20 +1,21 @@
 //! Random runs of amendments.
 use crate::amending::{self, Harm, Run, Step};
 use crate::damage;
-use crate::generate;
+use crate::generate::{self, Item};
 use crate::memory::Room;
 use crate::random::Random;
 use crate::reading::DEPTH;
 use crate::reduce;
-use crate::scan::scan;
+use crate::rules::LISTS;
+use crate::second;
 use crate::spacing;
 use crate::tally::Section;
 use crate::towers::tower;
-use calls::{ENTRY, LATEST, MOST_BYTES, RECORD, TOTALS};
+use calls::{EDITION, ENTRY, LATEST, MOST_BYTES, RECORD, TOTALS};
 
-/// One run. Each of its amendments counts.
-pub fn compare(random: &mut Random, section: &mut Section) {
-    let run = run(random);
+/// One run in an edition. Each of its amendments counts.
+pub fn compare(random: &mut Random, edition: u32, section: &mut Section) {
+    let run = run(random, edition);
     match amending::compare(&run) {
         Ok(trace) => trace[1..].iter().for_each(|(answer, _)| {
             section.amended[answer[0] as usize] += 1;
@@ -28,8 +29,8 @@ pub fn compare(random: &mut Random, section: &mut Section) {
 }
 
 /// A script that is read, and up to six amendments of it.
-pub fn run(random: &mut Random) -> Run {
-    let (script, statements) = base(random);
+pub fn run(random: &mut Random, edition: u32) -> Run {
+    let (script, statements) = base(random, edition);
     let spare = [0, 8, 64, 400, 400][random.below(5)];
     let room = match random.below(12) {
         0 => Room {
@@ -40,10 +41,11 @@ pub fn run(random: &mut Random) -> Run {
         _ => Room::FULL,
     };
     let steps = (0..1 + random.below(6))
-        .map(|_| step(random, statements))
+        .map(|_| step(random, edition, statements))
         .collect();
     let harm = random.once_in(8).then(|| harm(random));
     Run {
+        edition,
         script,
         spare,
         room,
@@ -54,7 +56,7 @@ pub fn run(random: &mut Random) -> Run {
 
 /// A script and how many of its statements are amended. Mostly it has a few statements and is accepted; seldom it has none,
 /// or fills one of the capacities.
-fn base(random: &mut Random) -> (String, usize) {
+fn base(random: &mut Random, edition: u32) -> (String, usize) {
     if random.once_in(40) {
         return (full(random), 3);
     }
@@ -63,10 +65,10 @@ fn base(random: &mut Random) -> (String, usize) {
     }
     loop {
         let statements = 1 + random.below(5);
-        let items = generate::script(random, statements);
+        let items = generate::script(random, edition, statements);
         let script = spacing::text(&items, random);
-        let is_read = scan(script.as_bytes()).fault.is_none() && oracle::read(&script).is_ok();
-        if is_read || random.once_in(40) {
+        let read = second::read(script.as_bytes(), edition, Room::FULL, &LISTS);
+        if read.answer[0] == 0 || random.once_in(40) {
             return (script, statements);
         }
     }
@@ -81,18 +83,18 @@ fn full(random: &mut Random) -> String {
     }
 }
 
-fn step(random: &mut Random, statements: usize) -> Step {
+fn step(random: &mut Random, edition: u32, statements: usize) -> Step {
     let statement = match random.below(40) {
         0 => u32::MAX,
         1 => (statements + random.below(4)) as u32,
         _ => random.below(statements.max(1)) as u32,
     };
-    let text = text(random).into_bytes();
+    let text = text(random, edition).into_bytes();
     Step { statement, text }
 }
 
 /// A new text: mostly statements that end well.
-fn text(random: &mut Random) -> String {
+fn text(random: &mut Random, edition: u32) -> String {
     if random.once_in(200) {
         return [
             " ".repeat(MOST_BYTES + 1),
@@ -103,23 +105,35 @@ fn text(random: &mut Random) -> String {
     }
     if random.once_in(40) {
         let storeys = DEPTH - 1 + random.below(4);
-        return tower(random, storeys).0;
+        return tower(random, edition, storeys).0;
     }
     let beginnings = ["", "", "\n", " ", "# c\n", "\r\n"];
     let good = ["", "\n", "# c\n", "\r\n"];
     let bad = [" ", "# c", "\t", "pays 1", ";", "x", "\0"];
     let statements = [0, 1, 1, 1, 1, 1, 2, 3][random.below(8)];
-    let mut items = generate::script(random, statements);
+    let mut items = generate::script(random, edition, statements);
     if random.once_in(8) {
         damage::tokens(&mut items, random);
     }
-    let spaced: Vec<&str> = items.iter().map(|item| item.text.as_str()).collect();
-    let mut text = random.pick(&beginnings).to_string() + &spaced.join(" ");
+    let mut text = random.pick(&beginnings).to_string() + &joined(&items, random);
     if random.once_in(12) {
         damage::characters(&mut text, random);
     }
     let endings: &[&str] = if random.once_in(4) { &bad } else { &good };
     text + random.pick(endings)
+}
+
+/// The items with blanks between them, or sometimes with line breaks where none is tight.
+fn joined(items: &[Item], random: &mut Random) -> String {
+    let breaks = random.once_in(4);
+    let mut text = String::new();
+    for item in items {
+        if !text.is_empty() {
+            text += if breaks && !item.tight { "\n" } else { " " };
+        }
+        text += &item.text;
+    }
+    text
 }
 
 /// Words around the limits, and no counts at all.
@@ -151,10 +165,11 @@ fn harm(random: &mut Random) -> Harm {
     let word = WORDS[random.below(WORDS.len())];
     let mut date = || DATES[random.below(DATES.len())];
     let dates = [(); 6].map(|()| date());
-    match random.below(4) {
+    match random.below(5) {
         0 => Harm::Total(random.below(TOTALS), word),
         1 => Harm::Entry(random.below(6 * ENTRY), word),
         2 => Harm::Total(LATEST, dates[0]),
+        3 => Harm::Total(EDITION, WORDS[random.below(5)]),
         _ => Harm::Dates(dates),
     }
 }
@@ -163,13 +178,14 @@ fn harm(random: &mut Random) -> Harm {
 fn show(run: &Run) {
     let small = reduced(run);
     let Run {
+        edition,
         script,
         spare,
         room,
         harm,
         steps,
     } = &small;
-    println!("DIFFERS in amendments: {script:?}, {spare} bytes behind it, {room:?}, {harm:?}");
+    println!("DIFFERS in amendments, edition {edition}: {script:?}, {spare} bytes behind it, {room:?}, {harm:?}");
     for step in steps {
         let text = String::from_utf8_lossy(&step.text);
         println!("  statement {} by {text:?}", step.statement);

@@ -4,11 +4,13 @@ use crate::damage;
 use crate::generate;
 use crate::memory::Room;
 use crate::random::Random;
-use crate::reading::{compare_memory, Same, DEPTH};
+use crate::reading::{compare_memory, DEPTH};
 use crate::runs;
 use crate::sections::room;
+use crate::tally::GROUNDS;
 use crate::towers::tower;
-use crate::vectors;
+use crate::vectors::{self, Read};
+use calls::EDITIONS;
 use std::process::ExitCode;
 
 /// Longer cases are left out, and longer scripts and texts, so that the file stays small and is replayed soon.
@@ -20,12 +22,12 @@ const TRIES: usize = 600;
 
 /// How many of each ground are taken: more that are accepted than refused.
 struct Quota {
-    left: [usize; 21],
+    left: [usize; GROUNDS],
 }
 
 impl Quota {
     fn new(accepted: usize, refused: usize) -> Self {
-        let mut left = [refused; 21];
+        let mut left = [refused; GROUNDS];
         left[0] = accepted;
         Self { left }
     }
@@ -44,9 +46,9 @@ impl Quota {
 }
 
 pub fn write(seed: u64, count: usize) -> ExitCode {
-    println!("# Made by `compare/run RUSTFOLDER sample {seed} {count}`. Each answer was found equal with the unchanged Rust, or");
-    println!("# with the rules where the Rust has none; see FORMAT.md.");
-    print!("{}", vectors::definitions());
+    print!("{}", vectors::head());
+    println!("# Made by `compare/run RUSTFOLDER sample {seed} {count}`. Each answer was found equal: in edition 1 with the unchanged");
+    println!("# Rust, in edition 2 with the second parser, or with the rules where the Rust has none; see FORMAT.md.");
     match reads(seed, count * 2 / 3).and_then(|()| amendments(seed, count - count * 2 / 3)) {
         Ok(()) => ExitCode::SUCCESS,
         Err(found) => {
@@ -56,14 +58,22 @@ pub fn write(seed: u64, count: usize) -> ExitCode {
     }
 }
 
-fn script(random: &mut Random) -> String {
+/// One of the editions, seldom another number.
+fn edition(random: &mut Random) -> u32 {
+    if random.once_in(100) {
+        return [0, 3, u32::MAX][random.below(3)];
+    }
+    EDITIONS[random.below(EDITIONS.len())]
+}
+
+fn script(random: &mut Random, edition: u32) -> String {
     match random.below(6) {
         0 => {
             let storeys = DEPTH - 1 + random.below(4);
-            tower(random, storeys).0
+            tower(random, edition, storeys).0
         }
-        1 | 2 => generate::any(random),
-        _ => damage::any(random),
+        1 | 2 => generate::any(random, edition),
+        _ => damage::any(random, edition),
     }
 }
 
@@ -81,15 +91,23 @@ fn reads(seed: u64, count: usize) -> Result<(), String> {
     let mut quota = Quota::new(count * 7 / 20, count / 20);
     let mut written = 0;
     for _ in 0..count * TRIES {
-        let script = script(&mut random);
+        let edition = edition(&mut random);
+        let script = script(&mut random, edition);
         let room = small(room(&mut random));
-        let (same, left) =
-            compare_memory(&script, room).map_err(|found| format!("{script:?}: {found}"))?;
-        let (Same::AsRust(answer) | Same::ByRule(answer)) = same else {
+        let (same, left) = compare_memory(edition, &script, room)
+            .map_err(|found| format!("{script:?}: {found}"))?;
+        let Some(answer) = same.answer() else {
             continue;
         };
         let title = format!("compared read {}, ground {}", written + 1, answer[0]);
-        let case = vectors::read(&title, &script, room, answer, &left);
+        let read = Read {
+            edition,
+            script: &script,
+            room,
+            answer,
+            left: &left,
+        };
+        let case = vectors::read(&title, &read);
         let is_short = case.len() <= LONGEST && script.len() <= LONGEST_TEXT;
         if is_short && quota.takes(&answer[..1]) {
             print!("{case}");
@@ -107,7 +125,8 @@ fn amendments(seed: u64, count: usize) -> Result<(), String> {
     let mut quota = Quota::new(count / 2, count / 6);
     let mut written = 0;
     for _ in 0..count * TRIES {
-        let run = runs::run(&mut random);
+        let edition = EDITIONS[random.below(EDITIONS.len())];
+        let run = runs::run(&mut random, edition);
         let room = small(run.room);
         let run = Run { room, ..run };
         let trace = amending::compare(&run).map_err(|found| format!("{run:?}: {found}"))?;

@@ -8,11 +8,11 @@ use std::time::{Duration, Instant};
 /// More than sequences of these lengths need.
 const ROOM: Room = Room::of(64, 16);
 
-/// Runs sequences by length until the time is over. The row says up to which length all were compared.
-pub fn run(alphabet: &Alphabet, time: Duration) -> Section {
+/// Runs sequences in an edition by length until the time is over. The row says up to which length all were compared.
+pub fn run(alphabet: &Alphabet, edition: u32, time: Duration) -> Section {
     let begin = Instant::now();
-    let mut section = Section::new(alphabet.name);
-    section.compare("", ROOM);
+    let mut section = Section::in_edition(alphabet.name, edition);
+    section.compare(edition, "", ROOM);
     let mut open: Vec<String> = vec![String::new()];
     let mut complete = 0;
     'longer: while !open.is_empty() {
@@ -23,7 +23,7 @@ pub fn run(alphabet: &Alphabet, time: Duration) -> Section {
             }
             for letter in alphabet.letters {
                 let script = joined(prefix, alphabet.between, letter);
-                let found = section.compare(&script, ROOM);
+                let found = section.compare(edition, &script, ROOM);
                 if complete + 1 < alphabet.whole || !is_settled(found, &script) {
                     longer.push(script);
                 }
@@ -56,7 +56,9 @@ fn remark(alphabet: &Alphabet, complete: usize) -> String {
 /// Refused before the end of the script.
 fn is_settled(found: Option<Same>, script: &str) -> bool {
     match found {
-        Some(Same::AsRust(answer)) => answer[0] != 0 && (answer[1] as usize) < script.len(),
+        Some(Same::AsRust(answer) | Same::AsSecond(answer)) => {
+            answer[0] != 0 && (answer[1] as usize) < script.len()
+        }
         _ => false,
     }
 }

@@ -3,8 +3,8 @@ use crate::memory::{Contents, Memory, Room};
 use crate::rules::{accepted, refused, LISTS};
 use crate::scan::{scan, Fault, Kind};
 use calls::{
-    Answer, Change, Totals, ENTRY, LATEST, MOST_BYTES, MOST_RECORDS, MOST_STATEMENTS, MOST_TOKENS,
-    RECORD,
+    Answer, Change, Totals, EDITION, EDITIONS, ENTRY, LATEST, MOST_BYTES, MOST_RECORDS,
+    MOST_STATEMENTS, MOST_TOKENS, RECORD,
 };
 
 /// The memory, and the totals of what it holds.
@@ -16,8 +16,12 @@ pub struct State<'a> {
 impl State<'_> {
     /// Bytes, statements, records, tokens.
     fn counts(&self) -> [usize; 4] {
-        let [counts @ .., _] = self.totals;
+        let [counts @ .., _, _] = self.totals;
         counts.map(|count| count as usize)
+    }
+
+    fn edition(&self) -> u32 {
+        self.totals[EDITION]
     }
 }
 
@@ -50,6 +54,9 @@ pub fn outcome(state: &State, change: Change) -> Result<Outcome, String> {
             contents: state.contents.clone(),
         })
     };
+    if !EDITIONS.contains(&state.edition()) {
+        return refuse(change.text, 26, 0);
+    }
     if !is_in_order(state) {
         return refuse(change.text, 20, 0);
     }
@@ -59,7 +66,7 @@ pub fn outcome(state: &State, change: Change) -> Result<Outcome, String> {
     if change.text.contains(&0) {
         return refuse(change.text, 19, 0);
     }
-    let alone = read_alone(change.text)?;
+    let alone = read_alone(state.edition(), change.text)?;
     if (1..=15).contains(&alone.answer[0]) {
         return refuse(change.text, alone.answer[0], alone.answer[1] as usize);
     }
@@ -113,9 +120,9 @@ fn is_in_order(state: &State) -> bool {
 }
 
 /// A text for which the capacities are too small (16) is not refused here; it has no room in the counts.
-fn read_alone(text: &[u8]) -> Result<Alone, String> {
+fn read_alone(edition: u32, text: &[u8]) -> Result<Alone, String> {
     let mut memory = Memory::new(text, Room::ample(text.len()), &LISTS);
-    let answer = memory.read()?;
+    let answer = memory.read(edition)?;
     let contents = memory.contents();
     Ok(Alone { answer, contents })
 }
@@ -176,7 +183,7 @@ fn spliced(state: &State, cut: &Cut, text: &[u8], alone: &Alone, counts: [usize;
     let records = cut.records * RECORD..(cut.records + cut.own_records) * RECORD;
     let new_records = &alone.contents.records[..alone.answer[6] as usize * RECORD];
     let directory = directory(state, cut, text, alone);
-    let answer = accepted(counts, latest(&directory));
+    let answer = accepted(counts, latest(&directory), state.edition());
     let contents = Contents {
         script: replaced(
             &contents.script,

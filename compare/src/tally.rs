@@ -3,8 +3,13 @@ use crate::memory::Room;
 use crate::reading::{self, Same};
 use crate::reduce;
 
-/// Grounds 0 to 20.
-const GROUNDS: usize = 21;
+/// More than the greatest ground.
+pub const GROUNDS: usize = 27;
+
+/// What a call can answer.
+fn grounds() -> impl Iterator<Item = usize> {
+    (0..=20).chain([26])
+}
 
 /// Differences that are printed of each section; the others are counted.
 const SHOWN: u64 = 3;
@@ -14,6 +19,7 @@ pub struct Section {
     pub name: String,
     pub remark: String,
     pub by_rust: [u64; GROUNDS],
+    pub by_second: [u64; GROUNDS],
     pub by_rule: [u64; GROUNDS],
     pub amended: [u64; GROUNDS],
     pub looked_up: u64,
@@ -22,11 +28,20 @@ pub struct Section {
 }
 
 impl Section {
+    /// A row of an edition. The first goes without saying.
+    pub fn in_edition(name: &str, edition: u32) -> Self {
+        match edition {
+            1 => Self::new(name),
+            _ => Self::new(&format!("{name}, edition {edition}")),
+        }
+    }
+
     pub fn new(name: &str) -> Self {
         Self {
             name: name.to_string(),
             remark: String::new(),
             by_rust: [0; GROUNDS],
+            by_second: [0; GROUNDS],
             by_rule: [0; GROUNDS],
             amended: [0; GROUNDS],
             looked_up: 0,
@@ -35,16 +50,16 @@ impl Section {
         }
     }
 
-    /// Reads a script on both sides and counts it; reduces and shows it where the sides differ.
-    pub fn compare(&mut self, script: &str, room: Room) -> Option<Same> {
-        match reading::compare(script, room) {
+    /// Reads a script in an edition on both sides and counts it; reduces and shows it where the sides differ.
+    pub fn compare(&mut self, edition: u32, script: &str, room: Room) -> Option<Same> {
+        match reading::compare(edition, script, room) {
             Ok(same) => {
                 self.count(same);
                 Some(same)
             }
             Err(_) => {
                 if self.differs() {
-                    show(&self.name, script, room);
+                    show(&self.name, edition, script, room);
                 }
                 None
             }
@@ -54,6 +69,7 @@ impl Section {
     pub fn count(&mut self, same: Same) {
         match same {
             Same::AsRust(answer) => self.by_rust[answer[0] as usize] += 1,
+            Same::AsSecond(answer) => self.by_second[answer[0] as usize] += 1,
             Same::ByRule(answer) => self.by_rule[answer[0] as usize] += 1,
             Same::Outside => self.outside += 1,
         }
@@ -69,6 +85,7 @@ impl Section {
         let all = self
             .by_rust
             .iter()
+            .chain(&self.by_second)
             .chain(&self.by_rule)
             .chain(&self.amended);
         all.sum::<u64>() + self.looked_up + self.differ
@@ -93,7 +110,8 @@ impl Tally {
         println!("| what | compared | accepted | refused | skipped | differ | |");
         println!("|---|---|---|---|---|---|---|");
         for section in &self.sections {
-            let accepted = section.by_rust[0] + section.by_rule[0] + section.amended[0];
+            let accepted =
+                section.by_rust[0] + section.by_second[0] + section.by_rule[0] + section.amended[0];
             println!(
                 "| {} | {} | {accepted} | {} | {} | {} | {} |",
                 section.name,
@@ -108,28 +126,33 @@ impl Tally {
     }
 
     fn print_grounds(&self) {
-        println!("\n| ground | reads, as the Rust | reads, by the rule | amendments |");
-        println!("|---|---|---|---|");
-        for ground in 0..GROUNDS {
+        println!(
+            "\n| ground | reads, as the Rust | as the second parser | by the rule | amendments |"
+        );
+        println!("|---|---|---|---|---|");
+        for ground in grounds() {
             let sum = |of: fn(&Section) -> &[u64; GROUNDS]| {
                 self.sections
                     .iter()
                     .map(|section| of(section)[ground])
                     .sum::<u64>()
             };
-            let (rust, rule) = (sum(|s| &s.by_rust), sum(|s| &s.by_rule));
-            println!("| {ground} | {rust} | {rule} | {} |", sum(|s| &s.amended));
+            println!(
+                "| {ground} | {} | {} | {} | {} |",
+                sum(|s| &s.by_rust),
+                sum(|s| &s.by_second),
+                sum(|s| &s.by_rule),
+                sum(|s| &s.amended)
+            );
         }
     }
 }
 
 /// Reduces a script that differs and prints it.
-fn show(section: &str, script: &str, room: Room) {
-    let reduced = reduce::text(script, |text| reading::compare(text, room).is_err());
-    println!("DIFFERS in {section}: {reduced:?}, {room:?}");
+fn show(section: &str, edition: u32, script: &str, room: Room) {
+    let compare = |text: &str| reading::compare(edition, text, room);
+    let reduced = reduce::text(script, |text| compare(text).is_err());
+    println!("DIFFERS in {section}: {reduced:?}, edition {edition}, {room:?}");
     println!("  from {script:?}");
-    println!(
-        "  {}",
-        reading::compare(&reduced, room).err().unwrap_or_default()
-    );
+    println!("  {}", compare(&reduced).err().unwrap_or_default());
 }

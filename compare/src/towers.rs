@@ -36,8 +36,21 @@ const EXPRESSIONS: [Storey; 11] = [
     storey("+", 0, ""),
 ];
 
-/// A script with so many constructs in one another, and the byte of each one's opening token.
-pub fn tower(random: &mut Random, storeys: usize) -> (String, Vec<usize>) {
+/// In the second edition a sign takes in the `**` behind it, and all that these have on their right sides. A minus before a
+/// number is then counted too.
+const POWERS: [Storey; 6] = [
+    storey("-2 ** ", 0, ""),
+    storey("-x ** ", 0, ""),
+    storey("2 ** -", 5, ""),
+    storey("x ** 2 ** +", 10, ""),
+    storey("x ** (", 5, ") ** -2"),
+    storey("+x ** 2 ** ", 0, " ** x"),
+];
+
+/// A script with so many constructs in one another, as an edition counts them, and the byte of each one's opening token.
+pub fn tower(random: &mut Random, edition: u32, storeys: usize) -> (String, Vec<usize>) {
+    let powers: &[Storey] = if edition == 1 { &[] } else { &POWERS };
+    let expressions: Vec<&Storey> = EXPRESSIONS.iter().chain(powers).collect();
     let mut script = String::new();
     let mut opening = Vec::new();
     let mut closing = Vec::new();
@@ -58,7 +71,7 @@ pub fn tower(random: &mut Random, storeys: usize) -> (String, Vec<usize>) {
         let chosen = if may_pay && random.once_in(4) {
             &PAYS
         } else {
-            &EXPRESSIONS[random.below(EXPRESSIONS.len())]
+            expressions[random.below(expressions.len())]
         };
         raise(chosen, &mut script, &mut opening, &mut closing);
     }

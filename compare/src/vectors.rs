@@ -8,22 +8,31 @@ use std::fmt::{LowerHex, Write};
 /// Equal items that follow each other are written as one with their number, from so many on.
 const RUN: usize = 4;
 
-/// The lists, by name.
-pub fn definitions() -> String {
+/// What the answers are those of, and the lists by name.
+pub fn head() -> String {
     let lists = [
         ("reserved", LISTS.reserved),
         ("currencies", LISTS.currencies),
         ("days", LISTS.day_counters),
     ];
     let define = |(name, list)| format!("define {name} {}\n", bytes(list));
-    lists.map(define).concat()
+    "step C-24\n".to_string() + &lists.map(define).concat()
+}
+
+/// A read that was found equal: its edition, script and room, and what it answered and left.
+pub struct Read<'a> {
+    pub edition: u32,
+    pub script: &'a str,
+    pub room: Room,
+    pub answer: Answer,
+    pub left: &'a Contents,
 }
 
 /// A case of one read.
-pub fn read(title: &str, script: &str, room: Room, answer: Answer, left: &Contents) -> String {
-    let before = unread(script.as_bytes().to_vec(), room);
-    let read = call("read", answer, &before, left);
-    format!("{}{read}end\n", begin(title, &before))
+pub fn read(title: &str, read: &Read) -> String {
+    let before = unread(read.script.as_bytes().to_vec(), read.room);
+    let call = call("read", read.answer, &before, read.left);
+    format!("{}{call}end\n", begin(title, read.edition, &before))
 }
 
 /// A case of a run: the read and the amendments, or the amendments of a state that was harmed.
@@ -31,9 +40,9 @@ pub fn run(title: &str, run: &Run, trace: &[(Answer, Contents)]) -> String {
     let (first, rest) = trace.split_first().expect("a trace has its first state");
     let unread = unread(run.lent(), run.room);
     let mut out = if run.harm.is_some() {
-        begin(title, &first.1) + &format!("counts {}\n", numbers(&totals(&first.0)))
+        begin(title, run.edition, &first.1) + &format!("counts {}\n", numbers(&totals(&first.0)))
     } else {
-        begin(title, &unread) + &call("read", first.0, &unread, &first.1)
+        begin(title, run.edition, &unread) + &call("read", first.0, &unread, &first.1)
     };
     let mut before = &first.1;
     for (step, (answer, left)) in run.steps.iter().zip(rest) {
@@ -53,9 +62,9 @@ fn unread(script: Vec<u8>, room: Room) -> Contents {
     }
 }
 
-fn begin(title: &str, before: &Contents) -> String {
+fn begin(title: &str, edition: u32, before: &Contents) -> String {
     format!(
-        "case {title}\nlists @reserved @currencies @days\n{}",
+        "case {title}\nedition {edition}\nlists @reserved @currencies @days\n{}",
         contents(before)
     )
 }

@@ -1,11 +1,12 @@
 //! Reads a note, replaces a statement, and lists what each variable is called and where it stands:
 //! `cargo run --example amend`.
 
-use gorembiin::{Kind, Lists, Note, Record, Refusal, Statement, Which};
+use gorembiin::{Edition, Kind, Lists, Note, Record, Refusal, Statement, Which};
 
 fn main() -> Result<(), Refusal> {
     let lists = Lists { currencies: b"USD\nEUR\nCHF\n", ..Lists::default() };
-    let mut note = Note::read(b"rate = 0.05;\nfloor = 0.01;\npays rate in \"CHF\";\n", lists)?;
+    let script = b"rate = 0.05;\nfloor = 0.01;\npays rate in \"CHF\";\n";
+    let mut note = Note::read(script, Edition::Two, lists)?;
 
     note.amend(1, b"floor = max(0, rate - 0.02);")?;
     println!("{}", String::from_utf8_lossy(note.script()));

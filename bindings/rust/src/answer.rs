@@ -6,7 +6,7 @@ use std::fmt;
 use crate::foreign;
 use crate::ground::Ground;
 
-/// How much of a note's memory is used, and the latest date that is there.
+/// How much of a note's memory is used, the latest date that is there, and the edition that it was read in.
 #[derive(Clone, Copy, Debug, Default, PartialEq, Eq)]
 pub struct Counts {
     /// Bytes of the script.
@@ -20,6 +20,9 @@ pub struct Counts {
     /// The greatest day count among the dates of all records, 0 where they have none.
     /// [`Date::from_count`](crate::Date::from_count) says which day it is.
     pub latest: u32,
+    /// The number of the edition; 0 where nothing was read. [`Edition::from_number`](crate::Edition::from_number) says which
+    /// it is.
+    pub edition: u32,
 }
 
 /// A call that was refused: the lent memory is as it was.
@@ -55,9 +58,9 @@ impl Error for Refusal {}
 /// Where the number is none of the library's. It is proved to answer no other, so this tells that another library was
 /// linked than the one these bindings are for.
 pub(crate) fn outcome(answer: foreign::Answer) -> Result<Counts, Refusal> {
-    let [number, byte, line, column, bytes, statements, records, tokens, latest] = answer;
+    let [number, byte, line, column, bytes, statements, records, tokens, latest, edition] = answer;
     if number == 0 {
-        return Ok(Counts { bytes, statements, records, tokens, latest });
+        return Ok(Counts { bytes, statements, records, tokens, latest, edition });
     }
     let ground =
         Ground::from_number(number).unwrap_or_else(|| panic!("libarchive.a answered {number}, which is no ground"));

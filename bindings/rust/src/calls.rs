@@ -6,16 +6,24 @@ use crate::lists::Lists;
 use crate::record::Record;
 
 /// Reads a script, which ends before its first zero byte. Its records and its directory become the first words of the lent
-/// slices, as many as are counted; the words behind them are not touched, and a refusal touches none.
-pub fn read(script: &[u8], lists: &Lists, records: &mut [u32], directory: &mut [u32]) -> Result<Counts, Refusal> {
-    outcome(foreign::read(script, lists, records, directory))
+/// slices, as many as are counted; the words behind them are not touched, and a refusal touches none. `edition` is the number
+/// of an [`Edition`](crate::Edition); any other is refused with [`Ground::NoEdition`](crate::Ground::NoEdition).
+pub fn read(
+    script: &[u8],
+    edition: u32,
+    lists: &Lists,
+    records: &mut [u32],
+    directory: &mut [u32],
+) -> Result<Counts, Refusal> {
+    outcome(foreign::read(script, edition, lists, records, directory))
 }
 
 /// Replaces the bytes of one statement, counted from 0, by those of `text`, which may hold any number of statements.
 ///
 /// `held` are the counts of the lent memory, as the call before answered them, and `script` is the whole room, of which the
-/// first bytes are used. Accepted, the memory is what [`read`] of the new script leaves, provided that a reading with the
-/// same lists, or amendments since, left it; room that became free is 0.
+/// first bytes are used. The text is read in the edition that is held. Accepted, the memory is what [`read`] of the new script
+/// leaves in this edition, provided that a reading with the same lists, or amendments since, left it; room that became free
+/// is 0.
 pub fn amend(
     script: &mut [u8],
     held: Counts,
@@ -25,8 +33,8 @@ pub fn amend(
     records: &mut [u32],
     directory: &mut [u32],
 ) -> Result<Counts, Refusal> {
-    let Counts { bytes, statements, records: held_records, tokens, latest } = held;
-    let mut answer = [0, 0, 0, 0, bytes, statements, held_records, tokens, latest];
+    let Counts { bytes, statements, records: held_records, tokens, latest, edition } = held;
+    let mut answer = [0, 0, 0, 0, bytes, statements, held_records, tokens, latest, edition];
     foreign::amend(script, statement, text, lists, records, directory, &mut answer);
     outcome(answer)
 }

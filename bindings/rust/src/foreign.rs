@@ -8,8 +8,8 @@
 use crate::lists::Lists;
 use crate::RECORD_WORDS;
 
-/// Number, byte, line, column; and then the state: bytes, statements, records, tokens, latest date.
-pub(crate) type Answer = [u32; 9];
+/// Number, byte, line, column; and then the state: bytes, statements, records, tokens, latest date, edition.
+pub(crate) type Answer = [u32; 10];
 
 /// 0 for the script or 1 for the list of currencies, first byte, length.
 pub(crate) type Place = [u32; 3];
@@ -21,6 +21,7 @@ extern "C" {
     fn script_read(
         script: *const u8,
         script_bytes: usize,
+        edition: u32,
         reserved: *const u8,
         reserved_bytes: usize,
         currencies: *const u8,
@@ -69,13 +70,14 @@ extern "C" {
     fn calendar_day(count: u32, day: *mut Day);
 }
 
-pub(crate) fn read(script: &[u8], lists: &Lists, records: &mut [u32], directory: &mut [u32]) -> Answer {
+pub(crate) fn read(script: &[u8], edition: u32, lists: &Lists, records: &mut [u32], directory: &mut [u32]) -> Answer {
     let mut answer = Answer::default();
     // SAFETY: every pointer and length is of one live slice or array, and those that are written are borrowed alone.
     unsafe {
         script_read(
             script.as_ptr(),
             script.len(),
+            edition,
             lists.reserved.as_ptr(),
             lists.reserved.len(),
             lists.currencies.as_ptr(),
@@ -92,7 +94,7 @@ pub(crate) fn read(script: &[u8], lists: &Lists, records: &mut [u32], directory:
     answer
 }
 
-/// The last five words of `answer` are the state of the memory, before and after.
+/// The last six words of `answer` are the state of the memory, before and after.
 pub(crate) fn amend(
     script: &mut [u8],
     statement: u32,
@@ -167,13 +169,17 @@ mod tests {
         let (mut records, mut directory) = ([0; RECORD_WORDS], [0; ENTRY_WORDS]);
         let lists = Lists::default();
         let mut script = *b"Df(\"2026-06-30\");";
-        assert_eq!(read(&script[..16], &lists, &mut records, &mut directory), [8, 16, 1, 17, 0, 0, 0, 0, 0]);
-        let mut answer = read(&script, &lists, &mut records, &mut directory);
-        assert_eq!(answer, [0, 0, 1, 1, 17, 1, 1, 5, 739_797]);
+        assert_eq!(read(&script[..16], 2, &lists, &mut records, &mut directory), [8, 16, 1, 17, 0, 0, 0, 0, 0, 0]);
+        let mut answer = read(&script, 2, &lists, &mut records, &mut directory);
+        assert_eq!(answer, [0, 0, 1, 1, 17, 1, 1, 5, 739_797, 2]);
         amend(&mut script, 0, b"x", &lists, &mut records, &mut directory, &mut answer);
-        assert_eq!(answer, [8, 1, 1, 2, 17, 1, 1, 5, 739_797]);
+        assert_eq!(answer, [8, 1, 1, 2, 17, 1, 1, 5, 739_797, 2]);
         answer[8] += 1;
         amend(&mut script, 0, b"x;", &lists, &mut records, &mut directory, &mut answer);
-        assert_eq!(answer, [20, 0, 1, 1, 17, 1, 1, 5, 739_798]);
+        assert_eq!(answer, [20, 0, 1, 1, 17, 1, 1, 5, 739_798, 2]);
+        answer[9] = 3;
+        amend(&mut script, 0, b"x;", &lists, &mut records, &mut directory, &mut answer);
+        assert_eq!(answer, [26, 0, 1, 1, 17, 1, 1, 5, 739_798, 3]);
+        assert_eq!(read(&script, 3, &lists, &mut records, &mut directory), [26, 0, 1, 1, 0, 0, 0, 0, 0, 0]);
     }
 }

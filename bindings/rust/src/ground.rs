@@ -25,14 +25,16 @@ numbered! {
         BadEnd = 18, "The new text ends badly: its last token must be ; or }, and nothing may follow it but whole lines.";
         ZeroByte = 19, "The new text has a zero byte.";
         Directory = 20, "The directory is not in order: no reading left this memory.";
+        NoEdition = 26, "There is no such edition of the script language; there are 1 and 2.";
     }
 }
 
 impl Ground {
     /// Whether a refusal on this ground points at a place. The others are about a text as a whole, a list, a statement's
-    /// number or the memory, and answer byte 0.
+    /// number, the memory or the edition, and answer byte 0.
     pub fn has_place(self) -> bool {
-        !matches!(self, Self::TooLong | Self::List | Self::NoStatement | Self::ZeroByte | Self::Directory)
+        use Ground::{Directory, List, NoEdition, NoStatement, TooLong, ZeroByte};
+        !matches!(self, TooLong | List | NoStatement | ZeroByte | Directory | NoEdition)
     }
 }
 
@@ -40,20 +42,25 @@ impl Ground {
 mod tests {
     use super::Ground;
 
+    fn numbers() -> impl Iterator<Item = u32> {
+        (1..=20).chain([26])
+    }
+
     #[test]
-    fn numbers_are_those_from_1_to_20() {
-        for number in 1..=20 {
+    fn numbers_are_those_from_1_to_20_and_26() {
+        for number in numbers() {
             assert_eq!(Ground::from_number(number).unwrap().number(), number);
         }
-        assert_eq!(Ground::from_number(0), None);
-        assert_eq!(Ground::from_number(21), None);
+        for number in [0, 21, 22, 23, 24, 25, 27, u32::MAX] {
+            assert_eq!(Ground::from_number(number), None);
+        }
     }
 
     #[test]
     fn each_ground_has_a_sentence_of_its_own() {
-        let mut sentences: Vec<String> = (1..=20).map(|n| Ground::from_number(n).unwrap().to_string()).collect();
+        let mut sentences: Vec<String> = numbers().map(|n| Ground::from_number(n).unwrap().to_string()).collect();
         sentences.sort();
         sentences.dedup();
-        assert_eq!(sentences.len(), 20);
+        assert_eq!(sentences.len(), numbers().count());
     }
 }

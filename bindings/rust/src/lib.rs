@@ -1,13 +1,14 @@
 //! A note's script is read into records, and single statements of it are replaced, with the certainty that the others
 //! still mean what they meant. The work is done by a proved library; this crate lends it slices and names what it answers.
 //!
-//! [`Note`] owns the memory of one script, and is what most callers want. [`read`], [`amend`] and [`part`] are the three
-//! calls on scripts as they are, over memory that the caller lends. [`Date`] is a day of the calendar, as records count it.
+//! [`Note`] owns the memory of one script, and is what most callers want. It is read in an [`Edition`] of the script
+//! language, and amended in the same. [`read`], [`amend`] and [`part`] are the three calls on scripts as they are, over
+//! memory that the caller lends. [`Date`] is a day of the calendar, as records count it.
 //!
 //! ```
-//! use gorembiin::{Lists, Note};
+//! use gorembiin::{Edition, Lists, Note};
 //!
-//! let mut note = Note::read(b"x = 1;\ny = x + 1;\n", Lists::default()).unwrap();
+//! let mut note = Note::read(b"x = 1;\ny = x + 1;\n", Edition::Two, Lists::default()).unwrap();
 //! note.amend(1, b"y = x + 2;").unwrap();
 //! assert_eq!(note.script(), b"x = 1;\ny = x + 2;\n");
 //! ```
@@ -15,6 +16,7 @@
 mod answer;
 mod calls;
 mod date;
+mod edition;
 mod foreign;
 mod ground;
 mod kind;
@@ -28,6 +30,7 @@ mod statement;
 pub use answer::{Counts, Refusal};
 pub use calls::{amend, part, read, Part, Source, Which};
 pub use date::Date;
+pub use edition::Edition;
 pub use ground::Ground;
 pub use kind::Kind;
 pub use lists::Lists;

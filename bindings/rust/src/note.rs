@@ -3,17 +3,19 @@
 use crate::answer::{Counts, Refusal};
 use crate::calls;
 use crate::date::Date;
+use crate::edition::Edition;
 use crate::lists::Lists;
 use crate::position::{self, Position};
 use crate::statement::Statement;
 use crate::{BYTES, ENTRY_WORDS, RECORDS, RECORD_WORDS, STATEMENTS};
 
 /// A script that was read, and all that the library keeps of it. Its memory has room for every script, and no one else
-/// writes there; and it keeps its lists, since a note is amended with those that it was read with. So what is proved of
-/// amendments holds of each one made here. The script is read from the caller's slice and amended in one of the note's own
-/// that begins with the same bytes: it is the same state there, which is proved too (`Linked.re-lent`).
+/// writes there; and it keeps its edition and its lists, since a note is amended with those that it was read with. So what is
+/// proved of amendments holds of each one made here. The script is read from the caller's slice and amended in one of the
+/// note's own that begins with the same bytes: it is the same state there, which is proved too (`Linked.re-lent`).
 #[derive(Clone, Debug)]
 pub struct Note<'l> {
+    edition: Edition,
     lists: Lists<'l>,
     script: Vec<u8>,
     records: Vec<u32>,
@@ -22,18 +24,18 @@ pub struct Note<'l> {
 }
 
 impl<'l> Note<'l> {
-    /// Reads a script, which ends before its first zero byte.
-    pub fn read(script: &[u8], lists: Lists<'l>) -> Result<Self, Refusal> {
+    /// Reads a script, which ends before its first zero byte, in an edition of the language.
+    pub fn read(script: &[u8], edition: Edition, lists: Lists<'l>) -> Result<Self, Refusal> {
         let mut records = vec![0; RECORDS * RECORD_WORDS];
         let mut directory = vec![0; STATEMENTS * ENTRY_WORDS];
-        let counts = calls::read(script, &lists, &mut records, &mut directory)?;
+        let counts = calls::read(script, edition.number(), &lists, &mut records, &mut directory)?;
         let mut script = script[..counts.bytes as usize].to_vec();
         script.resize(BYTES, 0);
-        Ok(Note { lists, script, records, directory, counts })
+        Ok(Note { edition, lists, script, records, directory, counts })
     }
 
     /// Replaces the bytes of one statement, counted from 0, by those of `text`. The note is then as if the new script had
-    /// been read; refused, it is as it was. Places in a refusal are in `text`.
+    /// been read in its edition; refused, it is as it was. Places in a refusal are in `text`.
     pub fn amend(&mut self, statement: u32, text: &[u8]) -> Result<(), Refusal> {
         self.counts = calls::amend(
             &mut self.script,
@@ -60,6 +62,11 @@ impl<'l> Note<'l> {
     /// The latest date of its statements, if they have any.
     pub fn latest(&self) -> Option<Date> {
         Date::from_count(self.counts.latest)
+    }
+
+    /// The edition that it was read in.
+    pub fn edition(&self) -> Edition {
+        self.edition
     }
 
     /// The lists that it was read with.

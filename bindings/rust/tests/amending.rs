@@ -3,7 +3,7 @@
 mod common;
 
 use common::{assert_as_read, note, refusal, tree, LISTS};
-use gorembiin::{Ground, Note};
+use gorembiin::{Counts, Ground, Note};
 
 const SCRIPT: &str = "# head\nx = 1;\n\nif x { y = 2; } # tail\nz pays x;\n";
 
@@ -86,7 +86,7 @@ fn a_script_can_be_filled_to_its_last_byte() {
 fn the_last_statement_can_be_deleted_and_none_is_left() {
     let mut note = note("x = 1;");
     note.amend(0, b"").unwrap();
-    assert_eq!(note.counts(), Default::default());
+    assert_eq!(note.counts(), Counts { edition: 1, ..Counts::default() });
     assert_eq!(note.statements().count(), 0);
     assert_eq!(note.amend(0, b"x = 1;").unwrap_err().ground, Ground::NoStatement);
     assert_eq!(note.lists(), LISTS);

@@ -3,10 +3,10 @@
 mod common;
 
 use common::{assert_as_read, latest_of_records, LISTS};
-use gorembiin::{Fields, Kind, Note, Record, Statement, Which};
+use gorembiin::{Edition, Fields, Kind, Note, Record, Statement, Which};
 
 /// Pieces of scripts, and bytes that have no place in one.
-const PIECES: [&[u8]; 33] = [
+const PIECES: [&[u8]; 35] = [
     b"x",
     b"y1",
     b" = ",
@@ -23,6 +23,8 @@ const PIECES: [&[u8]; 33] = [
     b"-",
     b"+",
     b"**",
+    b" and ",
+    b" or ",
     b"(",
     b")",
     b"[",
@@ -56,12 +58,13 @@ impl Dice {
         let mut text = Vec::new();
         for _ in 0..self.below(5) {
             let year = 2020 + self.below(8);
-            match self.below(7) {
+            match self.below(8) {
                 0 => text.extend(b"if x { y = -2**2; } else { pays x; }\n"),
                 1 => text.extend(b"x += Spot(\"EUR\", \"CHF\");"),
                 2 => text.extend(b"for i in [1, 2] { z pays i in \"CHF\"; } # c\n"),
                 3 => text.extend(b"\"a\";"),
-                4 => text.extend(format!("if x {{ pays Df(\"{year}-01-01\") on \"2024-01-01\"; }}\n").bytes()),
+                4 => text.extend(b"z = a or -2**-x**(y1)**2 and b;"),
+                5 => text.extend(format!("if x {{ pays Df(\"{year}-01-01\") on \"2024-01-01\"; }}\n").bytes()),
                 _ => text.extend((0..self.below(6)).flat_map(|_| PIECES[self.below(PIECES.len())])),
             }
         }
@@ -120,12 +123,11 @@ fn assert_whole(note: &Note) {
     assert_eq!(note.latest(), note.statements().filter_map(|statement| statement.latest()).max());
 }
 
-#[test]
-fn any_text_is_answered() {
+fn assert_answered(edition: Edition) {
     let mut dice = Dice(1);
     let (mut accepted, mut amended) = (0, 0);
     for _ in 0..3000 {
-        let Ok(mut note) = Note::read(&dice.text(), LISTS) else { continue };
+        let Ok(mut note) = Note::read(&dice.text(), edition, LISTS) else { continue };
         assert_whole(&note);
         accepted += 1;
         for _ in 0..4 {
@@ -139,4 +141,10 @@ fn any_text_is_answered() {
     }
     // the dice must not be so unlucky that nothing is tested
     assert!(accepted > 500 && amended > 500, "{accepted} accepted, {amended} amended");
+}
+
+#[test]
+fn any_text_is_answered() {
+    assert_answered(Edition::One);
+    assert_answered(Edition::Two);
 }

@@ -6,7 +6,12 @@ use common::desk::{says, Answer, Folder};
 
 /// What is told of the byte `at` of a script, without the name and the place before it: the first line.
 fn told(folder: &Folder, script: &str, at: usize) -> String {
-    let answer = folder.desk_on(&["at", "-", &at.to_string()], script.as_bytes());
+    told_in("1", folder, script, at)
+}
+
+/// The same in an edition.
+fn told_in(edition: &str, folder: &Folder, script: &str, at: usize) -> String {
+    let answer = folder.desk_on(&["at", "-", &at.to_string(), "--edition", edition], script.as_bytes());
     assert_eq!((answer.status, answer.complained.as_str()), (0, ""), "{script}, {at}");
     let first = answer.said.lines().next().unwrap();
     let (_, told) = first.split_once(&format!("byte {at}: ")).unwrap();
@@ -14,8 +19,8 @@ fn told(folder: &Folder, script: &str, at: usize) -> String {
 }
 
 /// The kind of the innermost node at each byte of a script that has one statement; a run of one kind once, in order.
-fn kinds(folder: &Folder, script: &str) -> String {
-    let kind = |at| told(folder, script, at).split(',').next().unwrap().to_owned();
+fn kinds(edition: &str, folder: &Folder, script: &str) -> String {
+    let kind = |at| told_in(edition, folder, script, at).split(',').next().unwrap().to_owned();
     let mut kinds: Vec<String> = (0..script.len()).map(kind).collect();
     kinds.dedup();
     kinds.join(" ")
@@ -65,8 +70,28 @@ fn each_byte_is_of_the_smallest_text_that_has_it() {
         ("for i in b{i;pays;}", "ForEach Variable ForEach Variable Pays ForEach"),
     ];
     for (script, expected) in cases {
-        assert_eq!(kinds(&folder, script), expected, "{script}");
+        assert_eq!(kinds("1", &folder, script), expected, "{script}");
     }
+}
+
+#[test]
+fn signs_are_of_the_nodes_that_they_make_in_each_edition() {
+    let folder = Folder::new("signs_are_of_the_nodes_that_they_make_in_each_edition");
+    let cases = [
+        ("1", "-2**2;", "Constant Pow Constant Pow"),
+        ("2", "-2**2;", "UnaryMinus Constant Pow Constant UnaryMinus"),
+        ("1", "-(a)**2;", "UnaryMinus Variable UnaryMinus Pow Constant Pow"),
+        ("2", "-(a)**2;", "UnaryMinus Pow Variable Pow Constant UnaryMinus"),
+        ("1", "a or b and c;", "Variable Or Variable And Variable And"),
+        ("2", "a or b and c;", "Variable Or Variable And Variable Or"),
+        ("2", "x\n= 1;", "Variable Assign Constant Assign"),
+    ];
+    for (edition, script, expected) in cases {
+        assert_eq!(kinds(edition, &folder, script), expected, "edition {edition}, {script}");
+    }
+    assert_eq!(told_in("1", &folder, "2**3**4;", 1), "Pow, bytes 0..4, of statement 0");
+    assert_eq!(told_in("2", &folder, "2**3**4;", 1), "Pow, bytes 0..8, of statement 0");
+    assert_eq!(told_in("2", &folder, "2**3**4;", 4), "Pow, bytes 3..7, of statement 0");
 }
 
 #[test]

@@ -4,7 +4,7 @@ mod common;
 
 use common::calendar::{days, written, Day};
 use common::LISTS;
-use gorembiin::{Date, Fields, Note, Record, STATEMENTS};
+use gorembiin::{Date, Edition, Fields, Note, Record, STATEMENTS};
 
 const LAST_COUNT: u32 = 3_652_059;
 
@@ -51,7 +51,7 @@ fn every_day_is_read_as_its_count() {
     let all: Vec<Day> = days().collect();
     for (place, days) in all.chunks(STATEMENTS).enumerate() {
         let script: String = days.iter().map(|&day| format!("Df(\"{}\");", written(day))).collect();
-        let note = Note::read(script.as_bytes(), LISTS).unwrap();
+        let note = Note::read(script.as_bytes(), Edition::One, LISTS).unwrap();
         let records: Vec<Record> = note.statements().flat_map(|statement| statement.records()).collect();
         assert_eq!(records.len(), days.len());
         for ((record, &day), count) in records.into_iter().zip(days).zip((place * STATEMENTS + 1) as u32..) {

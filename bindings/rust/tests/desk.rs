@@ -149,6 +149,47 @@ statement 1, line 3, bytes 31..58: 2 records, 4 tokens, latest date 2026-06-30
 }
 
 #[test]
+fn each_command_reads_in_the_edition_that_is_named() {
+    let folder = Folder::new("each_command_reads_in_the_edition_that_is_named");
+    folder.put("note", b"x\n= -2**2;\n");
+    for words in [&["check", "note"][..], &["show", "note", "--edition", "1"], &["at", "note", "0"]] {
+        let answer = folder.desk(words);
+        assert_eq!(answer.status, 1, "{words:?}");
+        assert!(answer.said.contains("note: line 2, column 1, byte 2:"), "{}", answer.said);
+    }
+    let accepted = "note: accepted in edition 2: 11 bytes, 1 statement, 6 records, 7 tokens, no date\n";
+    assert_eq!(folder.desk(&["check", "note", "--edition", "2"]), says(0, accepted));
+    let tree = "
+statement 0, line 1, bytes 0..10: 6 records, 7 tokens, no date
+  | x
+  | = -2**2;
+   0  Assign
+   0    Variable x at 0..1
+   4    UnaryMinus
+   5      Pow
+   5        Constant 2 at 5..6
+   8        Constant 2 at 8..9
+";
+    assert_eq!(folder.desk(&["--edition", "2", "show", "note"]), says(0, &format!("{accepted}{tree}")));
+    assert_eq!(folder.desk(&["at", "note", "0", "--edition", "2"]).status, 0);
+}
+
+#[test]
+fn amend_reads_both_files_in_the_edition_that_is_named() {
+    let folder = Folder::new("amend_reads_both_files_in_the_edition_that_is_named");
+    folder.put("note", b"x\n= 1;\ny;\n");
+    folder.put("new", b"y\n= a or b and c;");
+    let words = ["amend", "note", "1", "new", "--write"];
+    assert!(folder.desk(&words).said.starts_with("note: refused on ground 8"));
+    let answer = folder.desk(&[&words[..], &["--edition", "2"]].concat());
+    assert!(answer.said.starts_with("note, statement 1: accepted in edition 2\n"), "{}", answer.said);
+    assert_eq!(folder.get("note"), b"x\n= 1;\ny\n= a or b and c;\n");
+    let shown = folder.desk(&["show", "note", "--edition", "2"]).said;
+    let kinds: Vec<&str> = shown.lines().skip(12).filter_map(|line| line.split_whitespace().nth(1)).collect();
+    assert_eq!(kinds, ["Assign", "Variable", "Or", "Variable", "And", "Variable", "Variable"], "{shown}");
+}
+
+#[test]
 fn amend_prints_what_would_change() {
     let folder = Folder::new("amend_prints_what_would_change");
     folder.put("note", NOTE);
@@ -243,7 +284,7 @@ fn a_written_file_keeps_its_mode_and_a_link_its_file() {
 fn bad_usage_is_told_and_is_2() {
     let folder = Folder::new("bad_usage_is_told_and_is_2");
     folder.put("note", NOTE);
-    let cases: [(&[&str], &str); 19] = [
+    let cases: [(&[&str], &str); 23] = [
         (&[], "no command is given"),
         (&["shew", "note"], "there is no command shew"),
         (&["show"], "show takes one file"),
@@ -258,6 +299,10 @@ fn bad_usage_is_told_and_is_2() {
         (&["check", "note", "--loud"], "there is no option --loud"),
         (&["check", "note", "--reserved"], "--reserved needs a file"),
         (&["check", "--reserved", "a", "--reserved", "b", "note"], "--reserved is given twice"),
+        (&["check", "note", "--edition"], "--edition needs a number"),
+        (&["check", "note", "--edition", "3"], "3 is no edition, which is 1 or 2"),
+        (&["check", "note", "--edition", "two"], "two is no edition"),
+        (&["check", "--edition", "2", "--edition", "2", "note"], "--edition is given twice"),
         (&["amend", "note", "0"], "amend takes a file"),
         (&["amend", "note", "first", "note"], "first is not a statement's number"),
         (&["amend", "note", "4294967296", "note"], "4294967296 is not a statement's number"),
@@ -298,6 +343,7 @@ fn help_names_each_command() {
         for command in ["desk show FILE", "desk at FILE PLACE", "desk check FILE", "desk amend FILE N TEXTFILE"] {
             assert!(answer.said.contains(command), "{command}");
         }
+        assert!(answer.said.contains("--edition N"));
     }
 }
 

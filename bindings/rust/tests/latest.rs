@@ -116,7 +116,7 @@ struct Lent {
 impl Lent {
     fn read(script: &str) -> Self {
         let (mut records, mut directory) = (vec![0; RECORDS * RECORD_WORDS], vec![0; 4 * ENTRY_WORDS]);
-        let counts = read(script.as_bytes(), &LISTS, &mut records, &mut directory).unwrap();
+        let counts = read(script.as_bytes(), 1, &LISTS, &mut records, &mut directory).unwrap();
         Lent { script: script.as_bytes().to_vec(), records, directory, counts }
     }
 

@@ -3,7 +3,7 @@
 mod common;
 
 use common::{assert_as_read, note, placed_tree, LISTS};
-use gorembiin::{Fields, Note, Position, Record, Refusal};
+use gorembiin::{Edition, Fields, Note, Position, Record, Refusal};
 
 /// A script of one statement, and its nodes with their places.
 fn assert_places(cases: &[(&str, &str)]) {
@@ -222,8 +222,8 @@ fn positions_are_counted_as_refusals_count_them() {
     for before in
         [&b""[..], b"x;\n", "\"é日\";\t".as_bytes(), "# é\n\n\"e\u{301}\"; ".as_bytes(), b"\"\x80\xBF\xC0\xFF\";\r"]
     {
-        let Refusal { byte, line, column, .. } = Note::read(&[before, b"$"].concat(), LISTS).unwrap_err();
-        let note = Note::read(before, LISTS).unwrap();
+        let Refusal { byte, line, column, .. } = Note::read(&[before, b"$"].concat(), Edition::One, LISTS).unwrap_err();
+        let note = Note::read(before, Edition::One, LISTS).unwrap();
         assert_eq!(note.position(byte), Some(Position { byte, line, column }), "{}", String::from_utf8_lossy(before));
     }
 }

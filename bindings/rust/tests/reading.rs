@@ -3,7 +3,7 @@
 mod common;
 
 use common::{note, refusal, tree_of, LISTS};
-use gorembiin::{Counts, Date, Fields, Ground, Kind, Lists, Note, Place, Record, Refusal};
+use gorembiin::{Counts, Date, Edition, Fields, Ground, Kind, Lists, Note, Place, Record, Refusal};
 
 #[test]
 fn powers_group_left_and_a_minus_belongs_to_its_number() {
@@ -76,7 +76,7 @@ fn refusals_have_their_ground_and_place() {
         ("x = cvg(1, 2, 3);", refusal(Ground::CvgArgument, 4, 1, 5)),
     ];
     for (script, expected) in cases {
-        assert_eq!(Note::read(script.as_bytes(), LISTS).unwrap_err(), expected, "{script}");
+        assert_eq!(Note::read(script.as_bytes(), Edition::One, LISTS).unwrap_err(), expected, "{script}");
     }
 }
 
@@ -92,7 +92,12 @@ fn columns_count_characters() {
         (b"\"\x7F\xC0\xFF\"$", refusal(Ground::Character, 5, 1, 6)),
     ];
     for (script, expected) in cases {
-        assert_eq!(Note::read(script, LISTS).unwrap_err(), expected, "{}", String::from_utf8_lossy(script));
+        assert_eq!(
+            Note::read(script, Edition::One, LISTS).unwrap_err(),
+            expected,
+            "{}",
+            String::from_utf8_lossy(script)
+        );
         // the place in a new text is told likewise, whatever stands before the statement in the script
         let mut note = note("\"é\"; a;");
         assert_eq!(note.amend(1, script).unwrap_err(), expected, "{}", String::from_utf8_lossy(script));
@@ -102,33 +107,39 @@ fn columns_count_characters() {
 #[test]
 fn refusals_at_the_limits() {
     let long = vec![b' '; 16_385];
-    assert_eq!(Note::read(&long[..16_384], LISTS).unwrap().counts().bytes, 16_384);
-    assert_eq!(Note::read(&long, LISTS).unwrap_err(), refusal(Ground::TooLong, 0, 1, 1));
+    assert_eq!(Note::read(&long[..16_384], Edition::One, LISTS).unwrap().counts().bytes, 16_384);
+    assert_eq!(Note::read(&long, Edition::One, LISTS).unwrap_err(), refusal(Ground::TooLong, 0, 1, 1));
 
     let signs = vec![b';'; 4_097];
-    assert_eq!(Note::read(&signs, LISTS).unwrap_err().ground, Ground::TooManyTokens);
+    assert_eq!(Note::read(&signs, Edition::One, LISTS).unwrap_err().ground, Ground::TooManyTokens);
 
     let nested = |depth: usize| format!("x = {}1{};", "(".repeat(depth), ")".repeat(depth));
-    assert!(Note::read(nested(32).as_bytes(), LISTS).is_ok());
-    assert_eq!(Note::read(nested(33).as_bytes(), LISTS).unwrap_err(), refusal(Ground::TooDeep, 36, 1, 37));
+    assert!(Note::read(nested(32).as_bytes(), Edition::One, LISTS).is_ok());
+    assert_eq!(
+        Note::read(nested(33).as_bytes(), Edition::One, LISTS).unwrap_err(),
+        refusal(Ground::TooDeep, 36, 1, 37)
+    );
 
     assert_eq!(note(&"x;".repeat(512)).counts().statements, 512);
-    assert_eq!(Note::read("x;".repeat(513).as_bytes(), LISTS).unwrap_err(), refusal(Ground::NoRoom, 1026, 1, 1027));
+    assert_eq!(
+        Note::read("x;".repeat(513).as_bytes(), Edition::One, LISTS).unwrap_err(),
+        refusal(Ground::NoRoom, 1026, 1, 1027)
+    );
 }
 
 #[test]
 fn a_malformed_list_is_refused() {
     for currencies in [&b""[..], b"USD", b"EUR\n", b"USD\nUSD\n", b"USD\neur\n"] {
         let lists = Lists { currencies, ..LISTS };
-        assert_eq!(Note::read(b"", lists).unwrap_err(), refusal(Ground::List, 0, 1, 1));
+        assert_eq!(Note::read(b"", Edition::One, lists).unwrap_err(), refusal(Ground::List, 0, 1, 1));
     }
 }
 
 #[test]
 fn a_zero_byte_ends_a_script() {
-    let note = Note::read(b"x = 1;\0y = ", LISTS).unwrap();
+    let note = Note::read(b"x = 1;\0y = ", Edition::One, LISTS).unwrap();
     assert_eq!(note.script(), b"x = 1;");
-    assert_eq!(note.counts(), Counts { bytes: 6, statements: 1, records: 3, tokens: 4, latest: 0 });
+    assert_eq!(note.counts(), Counts { bytes: 6, statements: 1, records: 3, tokens: 4, latest: 0, edition: 1 });
 }
 
 #[test]
@@ -143,7 +154,7 @@ fn statements_are_where_the_directory_says() {
 
 #[test]
 fn refusals_are_told_in_words() {
-    let told = |script: &[u8]| Note::read(script, LISTS).unwrap_err().to_string();
+    let told = |script: &[u8]| Note::read(script, Edition::One, LISTS).unwrap_err().to_string();
     assert_eq!(told(b"x =\n$"), "line 2, column 1: No token begins with this character. (ground 3)");
     assert!(told(&[b' '; 16_385]).starts_with("The text is longer"));
 }

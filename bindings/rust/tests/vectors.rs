@@ -27,6 +27,7 @@ struct Replay {
     /// The memory before the last call, where there was one.
     before: Option<Memory>,
     counts: Counts,
+    edition: u32,
 }
 
 /// How often each call was compared.
@@ -45,7 +46,8 @@ impl Replay {
                 let bytes = self.bytes(bytes);
                 self.defined.insert(name.to_owned(), bytes);
             }
-            ["case", ..] => (self.memory, self.before) = (Memory::default(), None),
+            ["case", ..] => (self.memory, self.before, self.edition) = (Memory::default(), None, 1),
+            ["edition", edition] => self.edition = number(edition),
             ["lists", a, b, c] => self.lists = [self.bytes(a), self.bytes(b), self.bytes(c)],
             ["script", script] => {
                 let script = self.bytes(script);
@@ -76,7 +78,7 @@ impl Replay {
         self.before = Some(self.memory.clone());
         let lists = lent(&self.lists);
         let Memory { script, records, directory } = &mut self.memory;
-        let answer = read(script, &lists, records, directory);
+        let answer = read(script, self.edition, &lists, records, directory);
         assert_eq!(answer_words(answer, Counts::default()), expected);
         self.counts = answer.unwrap_or_default();
     }
@@ -135,8 +137,8 @@ fn numbers(fields: &[&str]) -> Vec<u32> {
 }
 
 fn counts_of(numbers: &[u32]) -> Counts {
-    let &[bytes, statements, records, tokens, latest] = numbers else { panic!("a state has five numbers") };
-    Counts { bytes, statements, records, tokens, latest }
+    let &[bytes, statements, records, tokens, latest, edition] = numbers else { panic!("a state has six numbers") };
+    Counts { bytes, statements, records, tokens, latest, edition }
 }
 
 /// Before a call a slice is set up; after it, it is compared.
@@ -153,14 +155,14 @@ fn lent(lists: &[Vec<u8>; 3]) -> Lists<'_> {
     Lists { reserved, currencies, day_counters }
 }
 
-/// The nine numbers of an answer. A refusal leaves the counts that were held.
-fn answer_words(answer: Result<Counts, Refusal>, held: Counts) -> [u32; 9] {
+/// The ten numbers of an answer. A refusal leaves the counts that were held.
+fn answer_words(answer: Result<Counts, Refusal>, held: Counts) -> [u32; 10] {
     let [number, byte, line, column] = match answer {
         Ok(_) => [0, 0, 1, 1],
         Err(refusal) => [refusal.ground.number(), refusal.byte, refusal.line, refusal.column],
     };
-    let Counts { bytes, statements, records, tokens, latest } = answer.unwrap_or(held);
-    [number, byte, line, column, bytes, statements, records, tokens, latest]
+    let Counts { bytes, statements, records, tokens, latest, edition } = answer.unwrap_or(held);
+    [number, byte, line, column, bytes, statements, records, tokens, latest, edition]
 }
 
 /// A panic's message does not know the line; this says it when a test fails.

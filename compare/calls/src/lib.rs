@@ -5,11 +5,17 @@ mod raw;
 /// Words of a record, of an entry of the directory, of an answer, and of the totals in which it ends.
 pub const RECORD: usize = 8;
 pub const ENTRY: usize = 5;
-pub const ANSWER: usize = 9;
-pub const TOTALS: usize = 5;
+pub const ANSWER: usize = 10;
+pub const TOTALS: usize = 6;
 
 /// The word of an entry, and of the totals, that has the latest date: a day count, 0 where there is none.
 pub const LATEST: usize = 4;
+
+/// The word of the totals that has the edition; 0 where nothing was read.
+pub const EDITION: usize = 5;
+
+/// The editions of the script language.
+pub const EDITIONS: [u32; 2] = [1, 2];
 
 /// The word of a record that has its place, counted from its statement's first byte.
 pub const PLACE: usize = 7;
@@ -23,7 +29,7 @@ pub const MOST_STATEMENTS: usize = 512;
 /// What a call answers: number, byte, line, column, and the totals.
 pub type Answer = [u32; ANSWER];
 
-/// Of a whole script: bytes, statements, records, tokens, latest date.
+/// Of a whole script: bytes, statements, records, tokens, latest date, edition.
 pub type Totals = [u32; TOTALS];
 
 /// The totals of an answer.
@@ -49,6 +55,7 @@ pub struct Part {
 
 pub fn read(
     script: &[u8],
+    edition: u32,
     lists: &Lists,
     records: &mut [u32],
     directory: &mut [u32],
@@ -59,6 +66,7 @@ pub fn read(
         raw::script_read(
             script.as_ptr(),
             script.len(),
+            edition,
             lists.reserved.as_ptr(),
             lists.reserved.len(),
             lists.currencies.as_ptr(),

@@ -5,6 +5,7 @@ extern "C" {
     pub fn script_read(
         script: *const u8,
         script_length: usize,
+        edition: u32,
         reserved: *const u8,
         reserved_length: usize,
         currencies: *const u8,

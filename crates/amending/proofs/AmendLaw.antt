@@ -11,12 +11,12 @@ use Rattle.tokens.specs.Limits.{mostBytes, mostTokens}
 use Rattle.tokens.specs.Text.{every, other}
 use Rattle.tokens.specs.Names.{Lists}
 use Rattle.tokens.specs.Tokens.{Lexed}
-use Rattle.grammar.specs.Grammar.{Words}
-use Rattle.grammar.specs.Script.{Entry, accepted, words, readScript, movedEntry, tokensOf, noZero}
+use Rattle.grammar.specs.Grammar.{Edition, Language}
+use Rattle.grammar.specs.Script.{Entry, accepted, language, readScript, movedEntry, tokensOf, noZero}
 use Rattle.grammar.proofs.AmendBytes.{Text, Fore, join, Cut, cut-at, fore-ended, text-same, every-append, append-every, Accepted, read-accepted, accepted-read, tokens-append, tokens-moved}
 use Rattle.amending.specs.Amend.{wellEnded, endsWell, replaced, between, amendedList, AmendLaw}
 
-module _ (W : Words) where
+module _ (W : Language) where
   -- ---- amending, limits aside
 
   -- the new text, where 18 does not refuse it, has its statements whatever stands behind
@@ -66,25 +66,25 @@ tokens-amended es e es′ n ns =
 
 -- THE LAW: a script with the statements es, e, es′, and in place of e's text a text n that is not refused by 1 to 15, 18 or 19, and the totals of bytes and tokens within the limits
 pub amend-law : AmendLaw
-amend-law l s n es es′ ns e z hs hn w b t =
+amend-law E l s n es es′ ns e z hs hn w b t =
     let zs : T (noZero s) × T (noZero n) = every-append (other 0) s n z in
-    let S : Accepted l s (es ++ (e ∷ es′)) = read-accepted l s (es ++ (e ∷ es′)) (zs .0) hs in
-    let N : Accepted l n ns = read-accepted l n ns (zs .1) hn in
-    accepted-read l (replaced s e n) (amendedList es e es′ (length n) ns) (replaced-noZero s e n (zs .0) (zs .1)) (record {
+    let S : Accepted E l s (es ++ (e ∷ es′)) = read-accepted E l s (es ++ (e ∷ es′)) (zs .0) hs in
+    let N : Accepted E l n ns = read-accepted E l n ns (zs .1) hn in
+    accepted-read E l (replaced s e n) (amendedList es e es′ (length n) ns) (replaced-noZero s e n (zs .0) (zs .1)) (record {
       short = b;
       lists = S .lists;
-      text = amend-text (words l) es e es′ (S .text) (N .text) w;
+      text = amend-text (language E l) es e es′ (S .text) (N .text) w;
       few = omega (arith, tokens-amended es e es′ (length n) ns);
     })
 
 -- and the limits are the only ground: where the whole is read, the statements are these, and the totals are within the limits
-pub amend-exact : (l : Lists) (s n : List ℕ) (es es′ ns xs : List Entry) (e : Entry) → T (noZero (s ++ n)) → readScript l s ≡ accepted (es ++ (e ∷ es′)) → readScript l n ≡ accepted ns → T (endsWell n)
-    → readScript l (replaced s e n) ≡ accepted xs
+pub amend-exact : (E : Edition) (l : Lists) (s n : List ℕ) (es es′ ns xs : List Entry) (e : Entry) → T (noZero (s ++ n)) → readScript E l s ≡ accepted (es ++ (e ∷ es′)) → readScript E l n ≡ accepted ns → T (endsWell n)
+    → readScript E l (replaced s e n) ≡ accepted xs
     → (xs ≡ amendedList es e es′ (length n) ns) × (length (replaced s e n) ≤ mostBytes) × (tokensOf (es ++ (ns ++ es′)) ≤ mostTokens)
-amend-exact l s n es es′ ns xs e z hs hn w h =
+amend-exact E l s n es es′ ns xs e z hs hn w h =
     let zs : T (noZero s) × T (noZero n) = every-append (other 0) s n z in
-    let S : Accepted l s (es ++ (e ∷ es′)) = read-accepted l s (es ++ (e ∷ es′)) (zs .0) hs in
-    let N : Accepted l n ns = read-accepted l n ns (zs .1) hn in
-    let A : Accepted l (replaced s e n) xs = read-accepted l (replaced s e n) xs (replaced-noZero s e n (zs .0) (zs .1)) h in
-    let q : xs ≡ amendedList es e es′ (length n) ns = text-same (words l) (A .text) (amend-text (words l) es e es′ (S .text) (N .text) w) in
+    let S : Accepted E l s (es ++ (e ∷ es′)) = read-accepted E l s (es ++ (e ∷ es′)) (zs .0) hs in
+    let N : Accepted E l n ns = read-accepted E l n ns (zs .1) hn in
+    let A : Accepted E l (replaced s e n) xs = read-accepted E l (replaced s e n) xs (replaced-noZero s e n (zs .0) (zs .1)) h in
+    let q : xs ≡ amendedList es e es′ (length n) ns = text-same (language E l) (A .text) (amend-text (language E l) es e es′ (S .text) (N .text) w) in
     (q, A .short, omega (arith, A .few, ap tokensOf q, tokens-amended es e es′ (length n) ns))

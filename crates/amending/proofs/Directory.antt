@@ -11,8 +11,8 @@ use borrow.Author.Tests.{le-ltb}
 use Rattle.tokens.specs.Limits.{mostBytes, mostTokens}
 use Rattle.tokens.specs.Text.{if_then_else_, every, leading, script, other}
 use Rattle.tokens.specs.Names.{Lists}
-use Rattle.grammar.specs.Grammar.{Words}
-use Rattle.grammar.specs.Script.{Entry, Outcome, accepted, refused, nodes, words, readScript, reading, fitting as fits, movedEntry, tokensOf, noZero}
+use Rattle.grammar.specs.Grammar.{Edition, Language}
+use Rattle.grammar.specs.Script.{Entry, Outcome, accepted, refused, nodes, language, readScript, readingIn, fitting as fits, movedEntry, tokensOf, noZero}
 use Rattle.grammar.proofs.AmendBytes.{Text, Cut, cut-at, Accepted, read-accepted, append-every, script-noZero, read-script}
 use Rattle.amending.specs.Amend.{endsWell, replaced, between, amendedList}
 use Rattle.amending.specs.Amending.{State, Rooms, Good, over}
@@ -35,7 +35,7 @@ order-start : (i i′ j : ℕ) (es : List Entry) → i′ ≤ i → InOrder i j 
 order-start i i′ j [] l h = omega arith
 order-start i i′ j (e ∷ es) l h = (omega (arith, h .0), h .1, h .2, h .3)
 
-order-by : (W : Words) (k : ℕ) (s : List ℕ) (es : List Entry) → length es ≤ k → Text W s es → InOrder 0 (length s) es
+order-by : (W : Language) (k : ℕ) (s : List ℕ) (es : List Entry) → length es ≤ k → Text W s es → InOrder 0 (length s) es
 order-by W zero s [] l X = omega arith
 order-by W zero s (e ∷ es) l X = absurd (omega arith)
 order-by W (suc k) s [] l X = omega arith
@@ -51,15 +51,15 @@ order-by W (suc k) s (e ∷ es) l X =
     (omega arith, C .order, C .some, q)
 
 -- the statements of a script, in order
-pub text-order : (W : Words) (s : List ℕ) (es : List Entry) → Text W s es → InOrder 0 (length s) es
+pub text-order : (W : Language) (s : List ℕ) (es : List Entry) → Text W s es → InOrder 0 (length s) es
 text-order W s es X = order-by W (length es) s es (omega arith) X
 
-pub read-order : (l : Lists) (s : List ℕ) (es : List Entry) → T (noZero s) → readScript l s ≡ accepted es → InOrder 0 (length s) es
-read-order l s es z h = text-order (words l) s es (read-accepted l s es z h .text)
+pub read-order : (E : Edition) (l : Lists) (s : List ℕ) (es : List Entry) → T (noZero s) → readScript E l s ≡ accepted es → InOrder 0 (length s) es
+read-order E l s es z h = text-order (language E l) s es (read-accepted E l s es z h .text)
 
 -- so after any number of amendments: `amends-good`, then this
-pub good-order : (l : Lists) (R : Rooms) (st : State) → Good l R st → InOrder 0 (length (st .script)) (st .entries)
-good-order l R st G = read-order l (st .script) (st .entries) (G .clear) (G .read)
+pub good-order : (E : Edition) (l : Lists) (R : Rooms) (st : State) → Good E l R st → InOrder 0 (length (st .script)) (st .entries)
+good-order E l R st G = read-order E l (st .script) (st .entries) (G .clear) (G .read)
 
 -- ---- the bytes of the statements
 
@@ -123,7 +123,7 @@ texts-behind i j a n b p s (e ∷ es) k l m o h =
     λ c. q c ∷ texts-behind (e .end) j a n b p s es k l m (omega (arith, h .0, h .1)) (h .3) c
 
 -- the statements that are kept have the same bytes, and the new ones have those of the new text
-pub texts-amended : (W : Words) (s n : List ℕ) (es : List Entry) (e : Entry) (es′ ns : List Entry) → Text W s (es ++ (e ∷ es′)) → Text W n ns
+pub texts-amended : (W : Language) (s n : List ℕ) (es : List Entry) (e : Entry) (es′ ns : List Entry) → Text W s (es ++ (e ∷ es′)) → Text W n ns
     → textsOf (replaced s e n) (amendedList es e es′ (length n) ns) ≡ textsOf s es ++ (textsOf n ns ++ textsOf s es′)
 texts-amended W s n es e es′ ns X Y =
     let C : Cut W s es e es′ = cut-at W es e es′ X in
@@ -144,25 +144,25 @@ texts-amended W s n es e es′ ns X Y =
 -- ---- the state that a reading leaves
 
 -- a script that was read, and for whose statements there is room
-pub read-good : (l : Lists) (R : Rooms) (bs : List ℕ) (es : List Entry) → readScript l bs ≡ accepted es → over R (script bs) es ≡ false
-    → Good l R (record { script = script bs; entries = es })
-read-good l R bs es h o = record { clear = script-noZero bs; read = read-script l bs ∙ h; room = o }
+pub read-good : (E : Edition) (l : Lists) (R : Rooms) (bs : List ℕ) (es : List Entry) → readScript E l bs ≡ accepted es → over R (script bs) es ≡ false
+    → Good E l R (record { script = script bs; entries = es })
+read-good E l R bs es h o = record { clear = script-noZero bs; read = read-script E l bs ∙ h; room = o }
 
--- a good state's script is accepted by `reading`, room for records and statements included
-pub good-reading : (l : Lists) (R : Rooms) (st : State) → Good l R st → reading l (R .records) (R .statements) (st .script) ≡ accepted (st .entries)
-unfolding reading
-good-reading l R st G =
+-- a good state's script is accepted by `readingIn`, room for records and statements included
+pub good-reading : (E : Edition) (l : Lists) (R : Rooms) (st : State) → Good E l R st → readingIn E l (R .records) (R .statements) (st .script) ≡ accepted (st .entries)
+unfolding readingIn
+good-reading E l R st G =
     let w : Within R (st .script) (st .entries) = within R (st .script) (st .entries) (G .room) in
     ap (fits (length (script (st .script))) (R .records) (R .statements)) (G .read)
     ∙ ap (λ (t : Bool). if t then refused 16 (length (script (st .script))) else if ltb (R .statements) (length (st .entries)) then refused 16 (length (script (st .script))) else accepted (st .entries))
     (le-ltb (R .records) (nodes (st .entries)) (w .records))
     ∙ ap (λ (t : Bool). if t then refused 16 (length (script (st .script))) else accepted (st .entries)) (le-ltb (R .statements) (length (st .entries)) (w .statements))
 
--- and a script that `reading` accepts is a good state's, if there is room for its bytes and tokens
-pub reading-good : (l : Lists) (R : Rooms) (bs : List ℕ) (es : List Entry) → reading l (R .records) (R .statements) bs ≡ accepted es → length (script bs) ≤ R .bytes → tokensOf es ≤ R .tokens
-    → Good l R (record { script = script bs; entries = es })
-unfolding reading over
-reading-good l R bs es h b t = go (readScript l bs) refl h
+-- and a script that `readingIn` accepts is a good state's, if there is room for its bytes and tokens
+pub reading-good : (E : Edition) (l : Lists) (R : Rooms) (bs : List ℕ) (es : List Entry) → readingIn E l (R .records) (R .statements) bs ≡ accepted es → length (script bs) ≤ R .bytes → tokensOf es ≤ R .tokens
+    → Good E l R (record { script = script bs; entries = es })
+unfolding readingIn over
+reading-good E l R bs es h b t = go (readScript E l bs) refl h
   where
     k : ℕ
     k = length (script bs)
@@ -172,11 +172,11 @@ reading-good l R bs es h b t = go (readScript l bs) refl h
     three xs false true q = absurd (let z : _≡_ {A = ℕ} 0 1 = cc in omega arith)
     three xs false false q = (cc, refl)
 
-    go : (o : Outcome) → readScript l bs ≡ o → fits k (R .records) (R .statements) o ≡ accepted es → Good l R (record { script = script bs; entries = es })
+    go : (o : Outcome) → readScript E l bs ≡ o → fits k (R .records) (R .statements) o ≡ accepted es → Good E l R (record { script = script bs; entries = es })
     go (refused f p) e q = absurd (let z : _≡_ {A = ℕ} 0 1 = cc in omega arith)
     go (accepted xs) e q =
         let T = three xs (ltb (R .records) (nodes xs)) (ltb (R .statements) (length xs)) q in
-        read-good l R bs es (e ∙ ap accepted (T .0))
+        read-good E l R bs es (e ∙ ap accepted (T .0))
         (λ i. le-ltb (R .bytes) (length (script bs)) b i || (le-ltb (R .tokens) (tokensOf es) t i || (ap (λ (x : List Entry). ltb (R .records) (nodes x) || ltb (R .statements) (length x)) (sym (T .0)) ∙ T .1) i))
 
 -- ---- where bytes stand behind the script: the first zero byte and what follows it
@@ -221,12 +221,12 @@ script-replaced s e n h k z =
     ∙ script-behind (replaced s₀ e n) s (replaced-noZero s₀ e n (script-noZero s) z)
 
 -- THE LAW, for any script: no zero byte in the new text alone
-pub amend-law-any : (l : Lists) (s n : List ℕ) (es es′ ns : List Entry) (e : Entry) → T (noZero n) → readScript l s ≡ accepted (es ++ (e ∷ es′)) → readScript l n ≡ accepted ns → T (endsWell n)
-    → length (replaced (script s) e n) ≤ mostBytes → tokensOf (es ++ (ns ++ es′)) ≤ mostTokens → readScript l (replaced s e n) ≡ accepted (amendedList es e es′ (length n) ns)
-amend-law-any l s n es es′ ns e z hs hn w b t =
-    let h : readScript l (script s) ≡ accepted (es ++ (e ∷ es′)) = read-script l s ∙ hs in
-    let A : Accepted l (script s) (es ++ (e ∷ es′)) = read-accepted l (script s) (es ++ (e ∷ es′)) (script-noZero s) h in
-    let C : Cut (words l) (script s) es e es′ = cut-at (words l) es e es′ (A .text) in
-    sym (read-script l (replaced s e n))
-    ∙ ap (readScript l) (script-replaced s e n (omega (arith, C .order, C .inside)) (C .inside) z)
-    ∙ amend-law l (script s) n es es′ ns e (append-every (other 0) (script s) n (script-noZero s) z) h hn w b t
+pub amend-law-any : (E : Edition) (l : Lists) (s n : List ℕ) (es es′ ns : List Entry) (e : Entry) → T (noZero n) → readScript E l s ≡ accepted (es ++ (e ∷ es′)) → readScript E l n ≡ accepted ns → T (endsWell n)
+    → length (replaced (script s) e n) ≤ mostBytes → tokensOf (es ++ (ns ++ es′)) ≤ mostTokens → readScript E l (replaced s e n) ≡ accepted (amendedList es e es′ (length n) ns)
+amend-law-any E l s n es es′ ns e z hs hn w b t =
+    let h : readScript E l (script s) ≡ accepted (es ++ (e ∷ es′)) = read-script E l s ∙ hs in
+    let A : Accepted E l (script s) (es ++ (e ∷ es′)) = read-accepted E l (script s) (es ++ (e ∷ es′)) (script-noZero s) h in
+    let C : Cut (language E l) (script s) es e es′ = cut-at (language E l) es e es′ (A .text) in
+    sym (read-script E l (replaced s e n))
+    ∙ ap (readScript E l) (script-replaced s e n (omega (arith, C .order, C .inside)) (C .inside) z)
+    ∙ amend-law E l (script s) n es es′ ns e (append-every (other 0) (script s) n (script-noZero s) z) h hn w b t

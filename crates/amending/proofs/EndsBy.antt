@@ -11,7 +11,7 @@ use Rattle.tokens.specs.Text.{count}
 use Rattle.tokens.specs.Tokens.{counts, endOf}
 use Rattle.tokens.proofs.Closers.{closer}
 use Rattle.grammar.specs.Readers.{first, lastOf, closes}
-use Rattle.grammar.specs.Grammar.{Words}
+use Rattle.grammar.specs.Grammar.{Language}
 use Rattle.grammar.specs.Script.{Entry, accepted, tokensOf}
 use Rattle.grammar.proofs.ReachLaws.{none-end}
 use Rattle.grammar.proofs.AmendBytes.{Text, text-tokens, tokens-append}
@@ -22,7 +22,7 @@ pub last-end : (p : ℕ) (es : List Entry) (e : Entry) → lastEnd p (es ++ (e �
 last-end p [] e = refl
 last-end p (x ∷ es) e = last-end (x .end) es e
 
-module _ (W : Words) where
+module _ (W : Language) where
   -- 18 is told by the statements' last end byte and by two bytes
   pub ends-by : (n : List ℕ) (ns : List Entry) → Text W n ns → endsWell n ≡ endsBy n ns
   unfolding endsWell

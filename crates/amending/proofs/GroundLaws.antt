@@ -10,12 +10,12 @@ use lib.ListN.{length, take, drop, getD, length-append, length-drop, length-map}
 use lib.Seq.{length-take-le}
 use borrow.Author.Tests.{le-leb, leb-true, le-ltb, ltb-false, eq-eqb, ne-eqb, eqb-true}
 use Rattle.tokens.specs.Limits.{mostBytes, mostTokens}
-use Rattle.tokens.specs.Text.{count}
+use Rattle.tokens.specs.Text.{if_then_else_, count}
 use Rattle.tokens.specs.Names.{Lists}
 use Rattle.tokens.specs.Tokens.{Lexed, counts, endOf}
 use Rattle.grammar.specs.Sizes.{recordWidth, entryWidth, mostRecords, mostStatements}
-use Rattle.grammar.specs.Grammar.{Words}
-use Rattle.grammar.specs.Script.{Entry, accepted, refused, readScript, noZero, tokensOf, words}
+use Rattle.grammar.specs.Grammar.{Edition, Language}
+use Rattle.grammar.specs.Script.{Entry, accepted, refused, readScript, noZero, tokensOf, language, numberOf}
 use Rattle.grammar.specs.Words.{Row, rowOf, latestOf}
 use Rattle.reading.specs.Meets.{listed}
 use Rattle.reading.specs.Judging.{lastEnd as textEnd}
@@ -28,7 +28,7 @@ use Rattle.amending.specs.Amend.{endsWell, lastEnd}
 use Rattle.amending.specs.Amending.{Rooms, Pick, pick}
 use Rattle.amending.specs.Lent.{Lent, handed, unchanged, ascending, sumRecords, sumTokens, overRows, inOrder, swapped, fittingLent, putLent, lentAt, amendLent}
 use Rattle.amending.specs.Entries.{rowsFrom, pickAt}
-use Rattle.amending.specs.Memory.{Memory, roomsOf, roomsIn, usedIn, within, amendIn}
+use Rattle.amending.specs.Memory.{Memory, roomsOf, roomsIn, usedIn, within, isEdition, amendIn}
 use Rattle.amending.specs.Grounds.{endsWhole, endsShut, endsAt, Ends, Few, wordsAt, Stands, alone, totals, fittingBy, Fits, latestThen, MeetsVerdict}
 use Rattle.amending.specs.declared.held.Held.{Held}
 use Rattle.amending.specs.declared.grounds.Row.{Row as Line}
@@ -40,6 +40,7 @@ use Rattle.amending.proofs.SwapLaws.{swapped-records, swapped-tokens, s
 use Rattle.amending.proofs.LentLaws.{sum-nodes, sum-tokens}
 use Rattle.amending.proofs.Directory.{InOrder, text-order}
 use Rattle.amending.proofs.EndsBy.{ends-by, last-end}
+use Rattle.amending.proofs.Editions.{numbered-is, numbered-none}
 
 -- ---- within
 
@@ -212,7 +213,7 @@ few-within s o d c b =
       w .tokens,
     )
 
-module _ (W : Words) (n : List ℕ) (ns : List Entry) (X : Text W n ns) where
+module _ (W : Language) (n : List ℕ) (ns : List Entry) (X : Text W n ns) where
   -- the last statement ends where the last token does, and there is one where there is a token
   ends-there : (lastEnd 0 ns ≡ endOf 0 (X .toks)) × (eqb (length ns) 0 ≡ eqb (count counts (X .toks)) 0)
   ends-there = go (snoc-of ns)
@@ -249,26 +250,36 @@ module _ (W : Words) (n : List ℕ) (ns : List Entry) (X : Text W n ns) where
 
 -- ---- the call, test by test
 
-module _ (l : Lists) (M : Memory) (h : Held) (k : ℕ) (n : List ℕ) where
+-- 26: no edition has the number that is lent
+pub not-edition : (l : Lists) (M : Memory) (h : Held) (k : ℕ) (n : List ℕ) → isEdition (h .edition) ≡ false → amendIn l M h k n ≡ unchanged 26 0
+unfolding amendIn
+not-edition l M h k n f =
+    numbered-none (h .edition) (unchanged 26 0) (λ (F : Edition). if not (within (roomsIn M) h) then unchanged 20 0 else amendLent F l (roomsIn M) (usedIn M h) k n) f
+
+-- the others, in the edition E that has it
+module _ (l : Lists) (M : Memory) (h : Held) (k : ℕ) (n : List ℕ) (E : Edition) (v : h .edition ≡ numberOf E) where
+  pub by-edition : amendIn l M h k n ≡ (if not (within (roomsIn M) h) then unchanged 20 0 else amendLent E l (roomsIn M) (usedIn M h) k n)
+  unfolding amendIn
+  by-edition =
+      numbered-is E (unchanged 26 0) (λ (F : Edition). if not (within (roomsIn M) h) then unchanged 20 0 else amendLent F l (roomsIn M) (usedIn M h) k n) v
+
   -- 20
   pub not-within : within (roomsIn M) h ≡ false → amendIn l M h k n ≡ unchanged 20 0
-  unfolding amendIn
-  not-within f = rw f
+  not-within f = by-edition ∙ rw f
 
   module _ (w : Within (roomsIn M) h) where
     abbrev d : List ℕ
     d = M .directory
 
-    pub asked : amendIn l M h k n ≡ amendLent l (roomsIn M) (usedIn M h) k n
-    unfolding amendIn
-    asked = rw (within-yes (roomsIn M) h w)
+    pub asked : amendIn l M h k n ≡ amendLent E l (roomsIn M) (usedIn M h) k n
+    asked = by-edition ∙ rw (within-yes (roomsIn M) h w)
 
     pub not-ordered : (leb (entryWidth * h .statements) (length d) && told (h .bytes) (h .records) (h .tokens) (h .latest) (rowsFrom (h .statements) d)) ≡ false → amendIn l M h k n ≡ unchanged 20 0
     unfolding amendLent
     not-ordered f = asked ∙ rw (order-is M h w ∙ f)
 
     module _ (o : (leb (entryWidth * h .statements) (length d) && told (h .bytes) (h .records) (h .tokens) (h .latest) (rowsFrom (h .statements) d)) ≡ true) where
-      at : amendIn l M h k n ≡ lentAt l (roomsIn M) (usedIn M h) n (pick k (rowsFrom (h .statements) d))
+      at : amendIn l M h k n ≡ lentAt E l (roomsIn M) (usedIn M h) n (pick k (rowsFrom (h .statements) d))
       unfolding amendLent
       at = asked ∙ rw (order-is M h w ∙ o)
 
@@ -310,21 +321,21 @@ module _ (l : Lists) (M : Memory) (h : Held) (k : ℕ) (n : List ℕ) where
         not-clear f = at ∙ rw (pick-here k (h .statements) d t, f)
 
         module _ (z : noZero n ≡ true) where
-          put : amendIn l M h k n ≡ putLent l (roomsIn M) (usedIn M h) p n (readScript l n)
+          put : amendIn l M h k n ≡ putLent E l (roomsIn M) (usedIn M h) p n (readScript E l n)
           unfolding lentAt
           put = at ∙ rw (pick-here k (h .statements) d t, z)
 
           -- 1 to 15
-          pub not-read : {f b : ℕ} → readScript l n ≡ refused f b → amendIn l M h k n ≡ unchanged f b
+          pub not-read : {f b : ℕ} → readScript E l n ≡ refused f b → amendIn l M h k n ≡ unchanged f b
           unfolding putLent
           not-read e = put ∙ rw e
 
           clear : T (noZero n)
           clear = subst T (sym z) tt
 
-          module _ {c : Counts} (G : Good l n c) where
-            admits : Accepted l n (G .entries)
-            admits = read-accepted l n (G .entries) clear (G .reads)
+          module _ {c : Counts} (G : Good E l n c) where
+            admits : Accepted E l n (G .entries)
+            admits = read-accepted E l n (G .entries) clear (G .reads)
 
             pub size-is : c .bytes ≡ length n
             size-is = G .bytes-are ∙ ap length (script-all n clear)
@@ -333,15 +344,15 @@ module _ (l : Lists) (M : Memory) (h : Held) (k : ℕ) (n : List ℕ) where
             end-is = G .last-are ∙ ap textEnd (script-all n clear) ∙ ap (λ (x : Lexed). endOf 0 (listed x)) (admits .text .scanned)
 
             count-is : c .tokens ≡ count counts (admits .text .toks)
-            count-is = G .tokens-are ∙ sym (text-tokens (words l) (admits .text))
+            count-is = G .tokens-are ∙ sym (text-tokens (language E l) (admits .text))
 
             ends-is : endsWell n ≡ endsAt n (c .last) (c .tokens)
-            ends-is = ends-at (words l) n (G .entries) (admits .text) ∙ rw (sym end-is, sym count-is)
+            ends-is = ends-at (language E l) n (G .entries) (admits .text) ∙ rw (sym end-is, sym count-is)
 
             pub ends-ready : Ends n c
             ends-ready =
-                let E = end-inside (words l) n (G .entries) (admits .text) in
-                (omega (arith, E .0, end-is), λ f. omega (arith, E .1 (λ q. f (count-is ∙ q)), end-is))
+                let I = end-inside (language E l) n (G .entries) (admits .text) in
+                (omega (arith, I .0, end-is), λ f. omega (arith, I .1 (λ q. f (count-is ∙ q)), end-is))
 
             abbrev ns : List Entry
             ns = G .entries
@@ -412,6 +423,8 @@ module _ (l : Lists) (M : Memory) (h : Held) (k : ℕ) (n : List ℕ) where
                     let made-is : amendIn l M h k n ≡ handed L =
                     fits-there e ∙ rw (over-no (roomsIn M) (length (L .script)) (L .rows) whole bytes-whole tokens-whole records-whole statements-whole (within-are (roomsIn M) whole f)) in
                     record {
+                      edition = E;
+                      named = v;
                       entries = ns;
                       there = t;
                       clear = clear;
@@ -425,7 +438,7 @@ module _ (l : Lists) (M : Memory) (h : Held) (k : ℕ) (n : List ℕ) where
                       tokens-sum = O .tokenSum;
                       latest-is = O .latestIs;
                       whole = refl;
-                      held-then = λ i. record { bytes = bytes-whole i; statements = statements-whole i; records = records-whole i; tokens = tokens-whole i; latest = latestThen (made-is i) };
+                      held-then = λ i. record { bytes = bytes-whole i; statements = statements-whole i; records = records-whole i; tokens = tokens-whole i; latest = latestThen (made-is i); edition = h .edition };
                       fits = f;
                       is = made-is;
                     }

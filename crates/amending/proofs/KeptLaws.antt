@@ -9,7 +9,8 @@ use lib.Seq.{slice, take-at, drop-at, take-take, drop-append-add}
 use Rattle.tokens.specs.Names.{Lists}
 use Rattle.grammar.specs.Sizes.{recordWidth, entryWidth}
 use Rattle.grammar.specs.Trees.{size, records}
-use Rattle.grammar.specs.Script.{Entry, accepted, words, movedEntry}
+use Rattle.grammar.specs.Grammar.{Edition}
+use Rattle.grammar.specs.Script.{Entry, accepted, language, movedEntry}
 use Rattle.grammar.specs.Latest.{latestIn}
 use Rattle.grammar.specs.Words.{wordsOf, Row, rowOf, latestOf}
 use Rattle.grammar.proofs.AmendBytes.{Cut, cut-at, Accepted, read-accepted}
@@ -47,7 +48,7 @@ own-dates (e ∷ es) =
     let n : size (e .tree) ≡ length (records (e .tree)) / recordWidth = omega (arith, records-length (e .tree)) in
     λ i. latestIn (n i) (records (e .tree)) ∷ own-dates es i
 
-module _ {l : Lists} {M : Memory} {h : Held} {st : State} (H : Holds l M h st) where
+module _ {E : Edition} {l : Lists} {M : Memory} {h : Held} {st : State} (H : Holds E l M h st) where
   pub held-records : recordsIn M h ≡ recordsOf (st .entries)
   held-records = (λ i. recordsAt (H .used i .words) (H .used i .rows)) ∙ cut (st .entries)
 
@@ -90,17 +91,17 @@ records-amended es e es′ n ns =
 
 -- ---- an accepted call on memory that holds a state
 
-module _ (l : Lists) {M M′ : Memory} {h : Held} {st : State} {k : ℕ} {n : List ℕ} {r : Answer} (H : Holds l M h st) (A : Amends l M h k n r M′) (z : r .number ≡ 0) where
+module _ (E : Edition) (l : Lists) {M M′ : Memory} {h : Held} {st : State} {k : ℕ} {n : List ℕ} {r : Answer} (H : Holds E l M h st) (A : Amends l M h k n r M′) (z : r .number ≡ 0) where
   st′ : State
   st′ = done-seen A H z .0
 
-  D : Done l (roomsIn M) st k n st′
+  D : Done E l (roomsIn M) st k n st′
   unfolding st′
-  D = done-is l (roomsIn M) st k n st′ (done-seen A H z .1)
+  D = done-is E l (roomsIn M) st k n st′ (done-seen A H z .1)
 
-  H′ : Holds l M′ (heldOf r) st′
+  H′ : Holds E l M′ (heldOf r) st′
   unfolding st′
-  H′ = subst (λ (x : Result). Holds l M′ (heldOf r) (left st x)) (done-seen A H z .1) (call-holds l M h st H k n A .1)
+  H′ = subst (λ (x : Result). Holds E l M′ (heldOf r) (left st x)) (done-seen A H z .1) (call-holds E l M h st H k n A .1)
 
   abbrev p : Pick Entry
   p = D .picked
@@ -114,7 +115,7 @@ module _ (l : Lists) {M M′ : Memory} {h : Held} {st : State} {k : ℕ} {n : Li
   there : k < h .statements
   there = omega (arith, pick-there k (st .entries) p (D .is-there), ap (λ (x : Held). x .statements) (H .counts), length-map (st .entries) rowOf)
 
-  pub call-records : KeepsRecords l M h k n M′ (heldOf r)
+  pub call-records : KeepsRecords E l M h k n M′ (heldOf r)
   call-records = record {
     new = D .new;
     reads = D .read;
@@ -125,17 +126,17 @@ module _ (l : Lists) {M M′ : Memory} {h : Held} {st : State} {k : ℕ} {n : Li
         ∙ ap (exchanged k (recordsOf (D .new))) (sym (held-records H ∙ ap recordsOf split ∙ map-append (λ (e : Entry). records (e .tree)) (p .before) (p .one ∷ p .behind)));
   }
 
-  old : Accepted l (st .script) (p .before ++ (p .one ∷ p .behind))
-  old = read-accepted l (st .script) (p .before ++ (p .one ∷ p .behind)) (H .good .clear) (H .good .read ∙ ap accepted split)
+  old : Accepted E l (st .script) (p .before ++ (p .one ∷ p .behind))
+  old = read-accepted E l (st .script) (p .before ++ (p .one ∷ p .behind)) (H .good .clear) (H .good .read ∙ ap accepted split)
 
-  pub call-texts : KeepsTexts l M h k n M′ (heldOf r)
+  pub call-texts : KeepsTexts E l M h k n M′ (heldOf r)
   call-texts = record {
     new = D .new;
     reads = D .read;
     there = there;
     texts =
         held-texts H′ ∙ (λ i. textsOf (D .script-is i) (D .entries-are i))
-        ∙ texts-amended (words l) (st .script) n (p .before) (p .one) (p .behind) (D .new) (old .text) (read-accepted l n (D .new) (D .clear) (D .read) .text)
+        ∙ texts-amended (language E l) (st .script) n (p .before) (p .one) (p .behind) (D .new) (old .text) (read-accepted E l n (D .new) (D .clear) (D .read) .text)
         ∙ sym (exchanged-at k (textsOf (st .script) (p .before)) (slice (p .one .start) (p .one .end) (st .script)) (textsOf (st .script) (p .behind)) (textsOf n (D .new))
         (texts-count (st .script) (map rowOf (p .before)) ∙ length-map (p .before) rowOf ∙ before))
         ∙ ap (exchanged k (textsOf n (D .new))) (sym (held-texts H ∙ ap (textsOf (st .script)) split ∙ texts-append (st .script) (p .before) (p .one ∷ p .behind)));
@@ -151,7 +152,7 @@ module _ (l : Lists) {M M′ : Memory} {h : Held} {st : State} {k : ℕ} {n : Li
 
   pub call-bytes : KeepsBytes M h k n M′ (heldOf r)
   call-bytes =
-      let C : Cut (words l) (st .script) (p .before) (p .one) (p .behind) = cut-at (words l) (p .before) (p .one) (p .behind) (old .text) in
+      let C : Cut (language E l) (st .script) (p .before) (p .one) (p .behind) = cut-at (language E l) (p .before) (p .one) (p .behind) (old .text) in
       let b : h .bytes ≡ length (st .script) = ap (λ (x : Held). x .bytes) (H .counts) in
       record {
         there = there;

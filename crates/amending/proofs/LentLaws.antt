@@ -11,6 +11,7 @@ use lib.ListN.{length, take, drop, length-append, length-map}
 use borrow.Author.Tests.{le-leb, lt-ltb, eq-eqb}
 use Rattle.tokens.specs.Text.{if_then_else_}
 use Rattle.tokens.specs.Names.{Lists}
+use Rattle.grammar.specs.Grammar.{Edition}
 use Rattle.grammar.specs.Sizes.{recordWidth}
 use Rattle.grammar.specs.Trees.{size, records}
 use Rattle.grammar.specs.Script.{Entry, Outcome, accepted, refused, nodes, readScript, movedEntry, tokensOf, noZero}
@@ -86,11 +87,11 @@ unfolding overRows over
 over-rows R b es =
     λ i. ltb (R .bytes) (length b) || (ltb (R .tokens) (sum-tokens es i) || (ltb (R .records) (sum-nodes es i) || ltb (R .statements) (length-map es rowOf i)))
 
-module _ (l : Lists) (R : Rooms) where
-  pub good-inOrder : (st : State) → Good l R st → inOrder R (lentOf st) ≡ true
+module _ (E : Edition) (l : Lists) (R : Rooms) where
+  pub good-inOrder : (st : State) → Good E l R st → inOrder R (lentOf st) ≡ true
   unfolding inOrder
   good-inOrder st G =
-      λ i. ascending-true 0 (length (st .script)) (st .entries) (good-order l R st G) i
+      λ i. ascending-true 0 (length (st .script)) (st .entries) (good-order E l R st G) i
       && (eq-eqb (length (wordsOf (st .entries))) (recordWidth * sumRecords (map rowOf (st .entries))) (words-length (st .entries)) i
       && (eq-eqb (tokensOf (st .entries)) (sumTokens (map rowOf (st .entries))) (sym (sum-tokens (st .entries))) i
       && (eq-eqb (latestOf (map rowOf (st .entries))) (latestOf (map rowOf (st .entries))) refl i && not ((over-rows R (st .script) (st .entries) ∙ G .room) i))))
@@ -134,11 +135,11 @@ module _ (l : Lists) (R : Rooms) where
       go true = refl
       go false = refl
 
-  pub amend-lent : (st : State) → Good l R st → (k : ℕ) (n : List ℕ) → amendLent l R (lentOf st) k n ≡ given (amend l R st k n)
+  pub amend-lent : (st : State) → Good E l R st → (k : ℕ) (n : List ℕ) → amendLent E l R (lentOf st) k n ≡ given (amend E l R st k n)
   unfolding amendLent lentAt putLent amend amendAt put
   amend-lent st G k n =
-      ap (λ (t : Bool). if not t then unchanged 20 0 else lentAt l R (lentOf st) n (pick k (map rowOf (st .entries)))) (good-inOrder st G)
-      ∙ ap (lentAt l R (lentOf st) n) (pick-rows k (st .entries))
+      ap (λ (t : Bool). if not t then unchanged 20 0 else lentAt E l R (lentOf st) n (pick k (map rowOf (st .entries)))) (good-inOrder st G)
+      ∙ ap (lentAt E l R (lentOf st) n) (pick-rows k (st .entries))
       ∙ go₁ (pick k (st .entries)) refl
     where
       go₃ : (p : Pick Entry) → st .entries ≡ p .before ++ (p .one ∷ p .behind) → (ns : List Entry) (t : Bool)
@@ -148,11 +149,11 @@ module _ (l : Lists) (R : Rooms) where
       go₃ p at ns false = refl
 
       go₂ : (p : Pick Entry) → st .entries ≡ p .before ++ (p .one ∷ p .behind) → (o : Outcome) (t : Bool)
-          → (if not t then unchanged 19 0 else putLent l R (lentOf st) (rowPick p) n o) ≡ given (if not t then refusal 19 0 else put l R st p n o)
+          → (if not t then unchanged 19 0 else putLent E l R (lentOf st) (rowPick p) n o) ≡ given (if not t then refusal 19 0 else put E l R st p n o)
       go₂ p at o false = refl
       go₂ p at (refused f x) true = refl
       go₂ p at (accepted ns) true = go₃ p at ns (endsWell n)
 
-      go₁ : (o : Option (Pick Entry)) → pick k (st .entries) ≡ o → lentAt l R (lentOf st) n (pickRow o) ≡ given (amendAt l R st n o)
+      go₁ : (o : Option (Pick Entry)) → pick k (st .entries) ≡ o → lentAt E l R (lentOf st) n (pickRow o) ≡ given (amendAt E l R st n o)
       go₁ none e = refl
-      go₁ (some p) e = go₂ p (pick-is k (st .entries) p e .0) (readScript l n) (noZero n)
+      go₁ (some p) e = go₂ p (pick-is k (st .entries) p e .0) (readScript E l n) (noZero n)

@@ -11,6 +11,7 @@ pub mod EntryLaws
 pub mod OrderLaws
 pub mod ShiftLaws
 pub mod SwapLaws
+pub mod Editions
 pub mod GroundLaws
 pub mod DirectoryWords
 pub mod ReplaceLaws

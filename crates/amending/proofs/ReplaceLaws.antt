@@ -10,8 +10,8 @@ use lib.Seq.{length-take-le}
 use borrow.Author.Tests.{le-ltb, ltb-true, leb-true}
 use Rattle.tokens.specs.Text.{if_then_else_}
 use Rattle.tokens.specs.Names.{Lists}
-use Rattle.grammar.specs.Sizes.{recordWidth, entryWidth, mostRecords, mostStatements}
-use Rattle.grammar.specs.Script.{Entry, accepted, reading, nodes}
+use Rattle.grammar.specs.Sizes.{recordWidth, entryWidth, mostRecords, mostStatements, recordRoom, statementRoom}
+use Rattle.grammar.specs.Script.{Entry, accepted, readingIn, nodes}
 use Rattle.grammar.specs.Words.{wordsOf, Row, rowOf, rowsWords, directoryOf, latestOf}
 use Rattle.reading.specs.Reading.{answerTo, leftBy, readInto, Leaves}
 use Rattle.reading.specs.declared.judging.Counts.{Counts}
@@ -36,6 +36,7 @@ use Rattle.amending.proofs.SwapLaws.{over-full, swapped-script, swapped
 use Rattle.amending.proofs.DirectoryWords.{swapped-directory}
 use Rattle.amending.proofs.LentLaws.{ascending-true}
 use Rattle.amending.proofs.Directory.{read-order}
+use Rattle.amending.proofs.Editions.{reading-in}
 use Rattle.amending.proofs.GroundLaws.{Within, within-are, records-fit, entries-fit, bounded}
 
 module _ (l : Lists) (M : Memory) (h : Held) (k : ℕ) (n : List ℕ) {c : Counts} {w : Held} (F : Fits l M h k n c w) where
@@ -90,26 +91,27 @@ module _ (l : Lists) (M : Memory) (h : Held) (k : ℕ) (n : List ℕ) {c : Count
 
   -- ---- what reading the new text into the room made for it leaves
 
-  reads-in : (o e : List ℕ) → length o ≡ recordWidth * c .records → length e ≡ entryWidth * c .statements → readInto l n o e ≡ accepted ns
-  unfolding reading
+  reads-in : (o e : List ℕ) → length o ≡ recordWidth * c .records → length e ≡ entryWidth * c .statements → readInto (h .edition) l n o e ≡ accepted ns
+  unfolding readingIn
   reads-in o e x y =
       let Y : Ready (M .script) (M .records) d h k n c = ready in
       let a : length o / recordWidth ≡ nodes ns = omega (arith, x, F .records-are) in
       let b : length e / entryWidth ≡ length ns = omega (arith, y, F .statements-are) in
       let a′ : ltb mostRecords (length o / recordWidth) ≡ false = le-ltb mostRecords (length o / recordWidth) (omega (arith, x, Y .few .2)) in
       let b′ : ltb mostStatements (length e / entryWidth) ≡ false = le-ltb mostStatements (length e / entryWidth) (omega (arith, y, Y .few .1)) in
-      rw (F .reads, a′, b′, a, b, le-ltb (nodes ns) (nodes ns) (omega arith), le-ltb (length ns) (length ns) (omega arith))
+      reading-in (F .edition) (F .named) l (recordRoom (length o)) (statementRoom (length e)) n
+      ∙ rw (F .reads, a′, b′, a, b, le-ltb (nodes ns) (nodes ns) (omega arith), le-ltb (length ns) (length ns) (omega arith))
 
   -- the words of the new text, which fill the room
-  pub read-words : {r : Answer} {o e o′ e′ : List ℕ} → length o ≡ recordWidth * c .records → length e ≡ entryWidth * c .statements → Leaves l n o e r o′ e′
+  pub read-words : {r : Answer} {o e o′ e′ : List ℕ} → length o ≡ recordWidth * c .records → length e ≡ entryWidth * c .statements → Leaves (h .edition) l n o e r o′ e′
       → (o′ ≡ wordsOf ns) × (e′ ≡ rowsWords (map rowOf ns)) × (r .latest ≡ latestOf (map rowOf ns))
   read-words {o = o} {e = e} x y R =
-      let A : readInto l n o e ≡ accepted ns = reads-in o e x y in
+      let A : readInto (h .edition) l n o e ≡ accepted ns = reads-in o e x y in
       let lo : length (wordsOf ns) ≡ length o = omega (arith, words-length ns, F .records-are, x) in
       let le : length (directoryOf ns) ≡ length e = omega (arith, directory-length ns, F .statements-are, y) in (
         R .records ∙ ap (leftBy wordsOf o) A ∙ over-full (wordsOf ns) o lo,
         R .directory ∙ ap (leftBy directoryOf e) A ∙ over-full (directoryOf ns) e le,
-        ap (λ (a : Answer). a .latest) (R .answer ∙ ap (answerTo n) A),
+        ap (λ (a : Answer). a .latest) (R .answer ∙ ap (answerTo (h .edition) n) A),
       )
 
   -- ---- the three slices
@@ -143,7 +145,7 @@ module _ (l : Lists) (M : Memory) (h : Held) (k : ℕ) (n : List ℕ) {c : Count
   directory-left {d₁} {g} {d₂} {d₃} j made z is one two =
       let Y : Ready (M .script) (M .records) d h k n c = ready in
       let order : ascending 0 (h .bytes) (p .before ++ (p .one ∷ p .behind)) ≡ true = ap (ascending 0 (h .bytes)) (sym split) ∙ F .ordered in
-      let up : ascending 0 (length n) (map rowOf ns) ≡ true = ascending-true 0 (length n) ns (read-order l n ns (F .clear) (F .reads)) in
+      let up : ascending 0 (length n) (map rowOf ns) ≡ true = ascending-true 0 (length n) ns (read-order (F .edition) l n ns (F .clear) (F .reads)) in
       swapped-directory d (h .statements) k (h .bytes) p (Y .directory) split (rows-count k d) order (map rowOf ns) (length n) (c .statements)
       (length-map ns rowOf ∙ sym (F .statements-are)) up (omega (arith, Y .bounded .0, Y .few .0)) (omega (arith, Y .entry-room, Y .there))
       d₁ g d₂ d₃ j made z is one two
@@ -178,7 +180,7 @@ module _ (l : Lists) (M : Memory) (h : Held) (k : ℕ) (n : List ℕ) {c : Count
       → length o₁ ≡ length (M .records) → o₁ ≡ resized (M .records) (recordWidth * h .records) (recordWidth * b) (recordWidth * b + recordWidth * row .records) (recordWidth * c .records)
       → length d₁ ≡ length d → d₁ ≡ resized d (entryWidth * h .statements) (entryWidth * k) (entryWidth * k + entryWidth) (entryWidth * c .statements)
       → i ≡ recordWidth * c .records → j ≡ entryWidth * c .statements
-      → Leaves l n (take i (drop (recordWidth * b) o₁)) (take j (drop (entryWidth * k) d₁)) r g g′
+      → Leaves (h .edition) l n (take i (drop (recordWidth * b) o₁)) (take j (drop (entryWidth * k) d₁)) r g g′
       → d₂ ≡ shifted (take (entryWidth * k) d₁ ++ (g′ ++ drop j (drop (entryWidth * k) d₁))) k (k + c .statements) 0 (row .start)
       → d₃ ≡ shifted d₂ (k + c .statements) (h .statements - 1 + c .statements) (row .end) (row .start + length n)
       → x′ ≡ (if ltb (row .latest) (h .latest) then max (h .latest) (r .latest) else if leb (h .latest) (r .latest) then r .latest else latestOf (rowsFrom (h .statements - 1 + c .statements) d₃))

@@ -10,6 +10,7 @@ use borrow.Author.Tests.{le-ltb}
 use Rattle.tokens.specs.Text.{if_then_else_}
 use Rattle.tokens.specs.Names.{Lists}
 use Rattle.grammar.specs.Sizes.{recordWidth, entryWidth, mostRecords, mostStatements}
+use Rattle.grammar.specs.Grammar.{Edition}
 use Rattle.grammar.specs.Script.{Entry, nodes, tokensOf}
 use Rattle.grammar.specs.Words.{rowsWords, rowOf}
 use Rattle.amending.specs.Amending.{State, Rooms, over}
@@ -50,11 +51,11 @@ within-not R b es w =
     λ i. le-ltb (R .bytes) (length b) (w .bytes) i
     || (le-ltb (R .tokens) (tokensOf es) (w .tokens) i || (le-ltb (R .records) (nodes es) (w .records) i || le-ltb (R .statements) (length es) (w .statements) i))
 
-module _ {l : Lists} {M N : Memory} {h : Held} {st : State} (H : Holds l M h st) (B : Begins h M N) where
+module _ {E : Edition} {l : Lists} {M N : Memory} {h : Held} {st : State} (H : Holds E l M h st) (B : Begins h M N) where
   w : Within (roomsIn M) h
-  w = held-within l M h st H
+  w = held-within E l M h st H
 
-  pub begins-holds : Holds l N h st
+  pub begins-holds : Holds E l N h st
   begins-holds =
       let few = bounded M h w in
       let counts = H .counts in

@@ -12,7 +12,8 @@ use borrow.Author.Tests.{ltb-false}
 use Rattle.tokens.specs.Text.{if_then_else_, script}
 use Rattle.tokens.specs.Names.{Lists}
 use Rattle.grammar.specs.Sizes.{recordWidth, entryWidth, mostRecords, mostStatements}
-use Rattle.grammar.specs.Script.{Entry, Outcome, accepted, refused, fitting, readScript, reading, noZero, nodes, tokensOf}
+use Rattle.grammar.specs.Grammar.{Edition}
+use Rattle.grammar.specs.Script.{Entry, Outcome, accepted, refused, fitting, readScript, readingIn, noZero, nodes, tokensOf, numberOf}
 use Rattle.reading.specs.Reading.{over}
 use Rattle.grammar.specs.Words.{rowOf, wordsOf, rowsWords, latestOf}
 use Rattle.reading.specs.declared.reading.Answer.{Answer}
@@ -37,9 +38,9 @@ use Rattle.amending.proofs.GroundLaws.{Within, asked}
 pub over-length : (ws o : List ℕ) → length ws ≤ length o → length (over ws o) ≡ length o
 over-length ws o h = length-append ws (drop (length ws) o) ∙ omega (arith, length-drop (length ws) o)
 
-pub reading-is : (l : Lists) (a b : ℕ) (bs : List ℕ) → fitting (length (script bs)) a b (readScript l bs) ≡ reading l a b bs
-unfolding reading
-reading-is l a b bs = refl
+pub reading-is : (E : Edition) (l : Lists) (a b : ℕ) (bs : List ℕ) → fitting (length (script bs)) a b (readScript E l bs) ≡ readingIn E l a b bs
+unfolding readingIn
+reading-is E l a b bs = refl
 
 -- what is accepted with room fits
 pub fits-are : (n a b : ℕ) (x : Outcome) (es : List Entry) → fitting n a b x ≡ accepted es → (x ≡ accepted es) × (nodes es ≤ a) × (length es ≤ b)
@@ -55,25 +56,25 @@ fits-are n a b (accepted fs) es e = go (ltb a (nodes fs)) refl (ltb b (length fs
         (e, omega (arith, ap nodes z, ltb-false a (nodes fs) p), omega (arith, ap (λ (x : List Entry). length x) z, ltb-false b (length fs) q))
 
 -- an amendment that is made: the statement, and those of the new text
-pub record Done (l : Lists) (R : Rooms) (st : State) (k : ℕ) (n : List ℕ) (st′ : State) : Type 0 where
+pub record Done (E : Edition) (l : Lists) (R : Rooms) (st : State) (k : ℕ) (n : List ℕ) (st′ : State) : Type 0 where
   pub picked : Pick Entry
   pub new : List Entry
   pub is-there : pick k (st .entries) ≡ some picked
   pub clear : T (noZero n)
-  pub read : readScript l n ≡ accepted new
+  pub read : readScript E l n ≡ accepted new
   pub script-is : st′ .script ≡ replaced (st .script) (picked .one) n
   pub entries-are : st′ .entries ≡ amendedList (picked .before) (picked .one) (picked .behind) (length n) new
 
-pub done-is : (l : Lists) (R : Rooms) (st : State) (k : ℕ) (n : List ℕ) (st′ : State) → amend l R st k n ≡ done st′ → Done l R st k n st′
+pub done-is : (E : Edition) (l : Lists) (R : Rooms) (st : State) (k : ℕ) (n : List ℕ) (st′ : State) → amend E l R st k n ≡ done st′ → Done E l R st k n st′
 unfolding amend amendAt put fittingRooms
-done-is l R st k n st′ e = go₁ (pick k (st .entries)) refl e
+done-is E l R st k n st′ e = go₁ (pick k (st .entries)) refl e
   where
     never : {f q : ℕ} {X : Type 0} → refusal f q ≡ done st′ → X
     never e = absurd (let z : _≡_ {A = ℕ} 0 1 = cc in omega arith)
 
-    go₄ : (p : Pick Entry) → pick k (st .entries) ≡ some p → T (noZero n) → (ns : List Entry) → readScript l n ≡ accepted ns → (t : Bool)
+    go₄ : (p : Pick Entry) → pick k (st .entries) ≡ some p → T (noZero n) → (ns : List Entry) → readScript E l n ≡ accepted ns → (t : Bool)
         → (if t then refusal 16 (length n) else done (record { script = replaced (st .script) (p .one) n; entries = amendedList (p .before) (p .one) (p .behind) (length n) ns })) ≡ done st′
-        → Done l R st k n st′
+        → Done E l R st k n st′
     go₄ p q z ns r true e = never e
     go₄ p q z ns r false e =
         let same : record { script = replaced (st .script) (p .one) n; entries = amendedList (p .before) (p .one) (p .behind) (length n) ns } ≡ st′ = cc in
@@ -87,7 +88,7 @@ done-is l R st k n st′ e = go₁ (pick k (st .entries)) refl e
           entries-are = sym (ap (λ (x : State). x .entries) same);
         }
 
-    go₃ : (p : Pick Entry) → pick k (st .entries) ≡ some p → T (noZero n) → (x : Outcome) → readScript l n ≡ x → (t : Bool) → put l R st p n x ≡ done st′ → endsWell n ≡ t → Done l R st k n st′
+    go₃ : (p : Pick Entry) → pick k (st .entries) ≡ some p → T (noZero n) → (x : Outcome) → readScript E l n ≡ x → (t : Bool) → put E l R st p n x ≡ done st′ → endsWell n ≡ t → Done E l R st k n st′
     go₃ p q z (refused f b) r t e w = never e
     go₃ p q z (accepted ns) r true e w =
         go₄ p q z ns r (overRooms R (replaced (st .script) (p .one) n) (amendedList (p .before) (p .one) (p .behind) (length n) ns))
@@ -95,21 +96,21 @@ done-is l R st k n st′ e = go₁ (pick k (st .entries)) refl e
     go₃ p q z (accepted ns) r false e w =
         never (ap (λ (b : Bool). if not b then refusal 18 (length n) else fittingRooms R (length n) (replaced (st .script) (p .one) n) (amendedList (p .before) (p .one) (p .behind) (length n) ns)) (sym w) ∙ e)
 
-    go₂ : (p : Pick Entry) → pick k (st .entries) ≡ some p → (t : Bool) → noZero n ≡ t → (if not t then refusal 19 0 else put l R st p n (readScript l n)) ≡ done st′ → Done l R st k n st′
-    go₂ p q true z e = go₃ p q (rw z tt) (readScript l n) refl (endsWell n) e refl
+    go₂ : (p : Pick Entry) → pick k (st .entries) ≡ some p → (t : Bool) → noZero n ≡ t → (if not t then refusal 19 0 else put E l R st p n (readScript E l n)) ≡ done st′ → Done E l R st k n st′
+    go₂ p q true z e = go₃ p q (rw z tt) (readScript E l n) refl (endsWell n) e refl
     go₂ p q false z e = never e
 
-    go₁ : (o : Option (Pick Entry)) → pick k (st .entries) ≡ o → amendAt l R st n o ≡ done st′ → Done l R st k n st′
+    go₁ : (o : Option (Pick Entry)) → pick k (st .entries) ≡ o → amendAt E l R st n o ≡ done st′ → Done E l R st k n st′
     go₁ none q e = never e
     go₁ (some p) q e = go₂ p q (noZero n) refl e
 
 -- ---- the counts of a state are within
 
-module _ (l : Lists) (M : Memory) (st : State) (G : Good l (roomsIn M) st) where
+module _ (E : Edition) (l : Lists) (M : Memory) (st : State) (G : Good E l (roomsIn M) st) where
   F : Inside (roomsIn M) (st .script) (st .entries)
   F = inside (roomsIn M) (st .script) (st .entries) (G .room)
 
-  pub state-within : Within (roomsIn M) (heldBy (lentOf st))
+  pub state-within : Within (roomsIn M) (heldBy (numberOf E) (lentOf st))
   state-within = record {
     bytes = F .bytes;
     tokens = F .tokens;
@@ -123,11 +124,11 @@ module _ (l : Lists) (M : Memory) (st : State) (G : Good l (roomsIn M) st) where
 front-used : (ws : List ℕ) (old m : ℕ) (l : List ℕ) → m ≡ length ws → take m (leave ws old l) ≡ ws
 front-used ws old m l e = take-at ws _ m (sym e)
 
-module _ (M : Memory) (h : Held) (st : State) where
+module _ (e : ℕ) (M : Memory) (h : Held) (st : State) where
   abbrev L : Lent
   L = lentOf st
 
-  pub used-again : usedIn (leftIn M h (handed L)) (heldBy L) ≡ L
+  pub used-again : usedIn (leftIn M h (handed L)) (heldBy e L) ≡ L
   used-again =
       let a : take (length (st .script)) (leave (st .script) (h .bytes) (M .script)) ≡ st .script = front-used (st .script) (h .bytes) (length (st .script)) (M .script) refl in
       let b : take (recordWidth * sumRecords (map rowOf (st .entries))) (leave (wordsOf (st .entries)) (recordWidth * h .records) (M .records)) ≡ wordsOf (st .entries) =
@@ -138,7 +139,7 @@ module _ (M : Memory) (h : Held) (st : State) where
       λ i. record { script = a i; rows = c i; words = b i; tokens = tokensOf (st .entries); latest = latestOf (map rowOf (st .entries)) }
 
   -- the slices are as long as they were, where there is room
-  pub same-rooms : Within (roomsIn M) h → Within (roomsIn M) (heldBy L) → roomsIn (leftIn M h (handed L)) ≡ roomsIn M
+  pub same-rooms : Within (roomsIn M) h → Within (roomsIn M) (heldBy e L) → roomsIn (leftIn M h (handed L)) ≡ roomsIn M
   same-rooms w x =
       let s : length (leave (st .script) (h .bytes) (M .script)) ≡ length (M .script) =
       leave-length (st .script) (h .bytes) (M .script) (omega (arith, x .bytes)) (omega (arith, w .bytes)) in
@@ -154,32 +155,36 @@ module _ (M : Memory) (h : Held) (st : State) where
 
 -- ---- a call on memory that holds a state
 
-module _ (l : Lists) (M : Memory) (h : Held) (st : State) (H : Holds l M h st) where
+module _ (E : Edition) (l : Lists) (M : Memory) (h : Held) (st : State) (H : Holds E l M h st) where
+  -- its edition is the one that is lent
+  pub held-edition : h .edition ≡ numberOf E
+  held-edition = ap (λ (x : Held). x .edition) (H .counts)
+
   pub held-within : Within (roomsIn M) h
-  held-within = subst (Within (roomsIn M)) (sym (H .counts)) (state-within l M st (H .good))
+  held-within = subst (Within (roomsIn M)) (sym (H .counts)) (state-within E l M st (H .good))
 
   -- it is the call on the state
-  pub call-is : (k : ℕ) (n : List ℕ) → amendIn l M h k n ≡ given (amend l (roomsIn M) st k n)
-  call-is k n = asked l M h k n held-within ∙ ap (λ (x : Lent). amendLent l (roomsIn M) x k n) (H .used) ∙ amend-lent l (roomsIn M) st (H .good) k n
+  pub call-is : (k : ℕ) (n : List ℕ) → amendIn l M h k n ≡ given (amend E l (roomsIn M) st k n)
+  call-is k n = asked l M h k n E held-edition held-within ∙ ap (λ (x : Lent). amendLent E l (roomsIn M) x k n) (H .used) ∙ amend-lent E l (roomsIn M) st (H .good) k n
 
   -- and leaves memory that holds the state that the call leaves
-  pub call-holds : (k : ℕ) (n : List ℕ) {r : Answer} {M′ : Memory} → Amends l M h k n r M′ → (roomsIn M′ ≡ roomsIn M) × Holds l M′ (heldOf r) (left st (amend l (roomsIn M) st k n))
-  call-holds k n {r} {M′} A = go (amend l (roomsIn M) st k n) refl
+  pub call-holds : (k : ℕ) (n : List ℕ) {r : Answer} {M′ : Memory} → Amends l M h k n r M′ → (roomsIn M′ ≡ roomsIn M) × Holds E l M′ (heldOf r) (left st (amend E l (roomsIn M) st k n))
+  call-holds k n {r} {M′} A = go (amend E l (roomsIn M) st k n) refl
     where
-      good : Good l (roomsIn M) (left st (amend l (roomsIn M) st k n))
-      good = amends-good l (roomsIn M) (omega arith) (omega arith) ((k, n) ∷ []) st (H .good)
+      good : Good E l (roomsIn M) (left st (amend E l (roomsIn M) st k n))
+      good = amends-good E l (roomsIn M) (omega arith) (omega arith) ((k, n) ∷ []) st (H .good)
 
-      go : (o : Result) → amend l (roomsIn M) st k n ≡ o → (roomsIn M′ ≡ roomsIn M) × Holds l M′ (heldOf r) (left st o)
+      go : (o : Result) → amend E l (roomsIn M) st k n ≡ o → (roomsIn M′ ≡ roomsIn M) × Holds E l M′ (heldOf r) (left st o)
       go (done st′) e =
           let is : amendIn l M h k n ≡ handed (lentOf st′) = call-is k n ∙ ap given e in
           let m : M′ ≡ leftIn M h (handed (lentOf st′)) = A .memory ∙ ap (leftIn M h) is in
-          let c : heldOf r ≡ heldBy (lentOf st′) = ap heldOf (A .answer ∙ ap (answered h n) is) in
-          let g : Good l (roomsIn M) st′ = subst (λ (x : Result). Good l (roomsIn M) (left st x)) e good in
-          let same : roomsIn M′ ≡ roomsIn M = ap roomsIn m ∙ same-rooms M h st′ held-within (state-within l M st′ g) in (
+          let c : heldOf r ≡ heldBy (numberOf E) (lentOf st′) = ap heldOf (A .answer ∙ ap (answered h n) is) ∙ ap (λ (e : ℕ). heldBy e (lentOf st′)) held-edition in
+          let g : Good E l (roomsIn M) st′ = subst (λ (x : Result). Good E l (roomsIn M) (left st x)) e good in
+          let same : roomsIn M′ ≡ roomsIn M = ap roomsIn m ∙ same-rooms (numberOf E) M h st′ held-within (state-within E l M st′ g) in (
             same,
             record {
-              good = subst (λ (R : Rooms). Good l R st′) (sym same) g;
-              used = (λ i. usedIn (m i) (c i)) ∙ used-again M h st′;
+              good = subst (λ (R : Rooms). Good E l R st′) (sym same) g;
+              used = (λ i. usedIn (m i) (c i)) ∙ used-again (numberOf E) M h st′;
               counts = c;
             },
           )
@@ -187,4 +192,4 @@ module _ (l : Lists) (M : Memory) (h : Held) (st : State) (H : Holds l M h st) w
           let is : amendIn l M h k n ≡ unchanged f p = call-is k n ∙ ap given e in
           let m : M′ ≡ M = A .memory ∙ ap (leftIn M h) is in
           let c : heldOf r ≡ h = ap heldOf (A .answer ∙ ap (answered h n) is) in
-          (ap roomsIn m, subst (λ (X : Memory). Holds l X (heldOf r) st) (sym m) (subst (λ (x : Held). Holds l M x st) (sym c) H))
+          (ap roomsIn m, subst (λ (X : Memory). Holds E l X (heldOf r) st) (sym m) (subst (λ (x : Held). Holds E l M x st) (sym c) H))

@@ -8,6 +8,7 @@ use lib.ListN.{length, take, drop, getD}
 use Rattle.tokens.specs.Limits.{mostBytes, mostTokens}
 use Rattle.tokens.specs.Text.{count}
 use Rattle.tokens.specs.Names.{Lists}
+use Rattle.grammar.specs.Grammar.{Edition}
 use Rattle.tokens.specs.Tokens.{Lexed, lexed, refused as faulty, scan, counts, endOf}
 use Rattle.grammar.specs.Readers.{first, lastOf, closes}
 use Rattle.grammar.specs.Script.{Entry, movedEntry, accepted, readScript, noZero, tokensOf}
@@ -53,11 +54,11 @@ amendedList es e es′ n ns = es ++ (map (movedEntry (e .start)) ns ++ map (betw
 
 abbrev pub AmendLaw : Type 0
 AmendLaw =
-    (l : Lists) (s n : List ℕ) (es es′ ns : List Entry) (e : Entry)
+    (E : Edition) (l : Lists) (s n : List ℕ) (es es′ ns : List Entry) (e : Entry)
     → T (noZero (s ++ n))
-    → readScript l s ≡ accepted (es ++ (e ∷ es′))
-    → readScript l n ≡ accepted ns
+    → readScript E l s ≡ accepted (es ++ (e ∷ es′))
+    → readScript E l n ≡ accepted ns
     → T (endsWell n)
     → length (replaced s e n) ≤ mostBytes
     → tokensOf (es ++ (ns ++ es′)) ≤ mostTokens
-    → readScript l (replaced s e n) ≡ accepted (amendedList es e es′ (length n) ns)
+    → readScript E l (replaced s e n) ≡ accepted (amendedList es e es′ (length n) ns)

@@ -8,6 +8,7 @@ use lib.Dec.{T, ltb}
 use lib.ListN.{length}
 use Rattle.tokens.specs.Text.{if_then_else_}
 use Rattle.tokens.specs.Names.{Lists}
+use Rattle.grammar.specs.Grammar.{Edition}
 use Rattle.grammar.specs.Script.{Entry, Outcome, accepted, refused, nodes, tokensOf, noZero, readScript}
 use Rattle.amending.specs.Amend.{endsWell, replaced, amendedList}
 
@@ -57,9 +58,9 @@ pub data Answer : Type 0 where
 unfoldable pub fitting : Rooms → ℕ → List ℕ → List Entry → Answer
 fitting R p b es = if over R b es then refusal 16 p else done (record { script = b; entries = es })
 
--- ---- the call. Order: 17, 19, then the new text read alone as a script (1 to 15), 18, 16 over the totals; 20 is asked of lent words alone
+-- ---- the call. Order: 17, 19, then the new text read alone as a script (1 to 15), 18, 16 over the totals; 20 is asked of lent words alone, and 26 of the number that is lent with them
 
-module _ (l : Lists) (R : Rooms) where
+module _ (E : Edition) (l : Lists) (R : Rooms) where
   -- what reading the new text n answers (1 to 15), 18, 16
   unfoldable pub put : State → Pick Entry → List ℕ → Outcome → Answer
   put st p n (refused f at) = refusal f at
@@ -70,7 +71,7 @@ module _ (l : Lists) (R : Rooms) where
   -- 17, 19
   unfoldable pub amendAt : State → List ℕ → Option (Pick Entry) → Answer
   amendAt st n none = refusal 17 0
-  amendAt st n (some p) = if not (noZero n) then refusal 19 0 else put st p n (readScript l n)
+  amendAt st n (some p) = if not (noZero n) then refusal 19 0 else put st p n (readScript E l n)
 
   -- the k-th statement's text is replaced by n
   unfoldable pub amend : State → ℕ → List ℕ → Answer
@@ -84,16 +85,16 @@ left st (done st′) = st′
 left st (refusal f p) = st
 
 -- calls one after the other
-abbrev pub after : Lists → Rooms → State → List (ℕ × List ℕ) → State
-after l R st [] = st
-after l R st (c ∷ cs) = after l R (left st (amend l R st (c .0) (c .1))) cs
+abbrev pub after : Edition → Lists → Rooms → State → List (ℕ × List ℕ) → State
+after E l R st [] = st
+after E l R st (c ∷ cs) = after E l R (left st (amend E l R st (c .0) (c .1))) cs
 
 -- ---- what is said of calls
 
--- the state that a reading leaves: the statements are those that the script reads as, and there is room for all
-pub record Good (l : Lists) (R : Rooms) (st : State) : Type 0 where
+-- the state that a reading leaves: the statements are those that the script reads as in this edition, and there is room for all
+pub record Good (E : Edition) (l : Lists) (R : Rooms) (st : State) : Type 0 where
   pub clear : T (noZero (st .script))
-  pub read : readScript l (st .script) ≡ accepted (st .entries)
+  pub read : readScript E l (st .script) ≡ accepted (st .entries)
   pub room : over R (st .script) (st .entries) ≡ false
 
 -- what reading the whole script b anew answers, within the rooms; any refusal is 16 at the new text's end p

@@ -9,7 +9,8 @@ use Rattle.tokens.specs.Limits.{mostBytes, mostTokens}
 use Rattle.tokens.specs.Text.{if_then_else_}
 use Rattle.tokens.specs.Names.{Lists}
 use Rattle.grammar.specs.Sizes.{recordWidth, entryWidth, mostRecords, mostStatements}
-use Rattle.grammar.specs.Script.{Entry, accepted, readScript, noZero, nodes}
+use Rattle.grammar.specs.Grammar.{Edition}
+use Rattle.grammar.specs.Script.{Entry, accepted, readScript, noZero, nodes, numberOf}
 use Rattle.grammar.specs.Words.{latestOf}
 use Rattle.reading.specs.declared.judging.Counts.{Counts}
 use Rattle.reading.specs.declared.reading.Answer.{Answer}
@@ -54,9 +55,9 @@ Few c = (c .bytes ≤ mostBytes) × (c .statements ≤ mostStatements) × (c .re
 abbrev pub Ends : List ℕ → Counts → Type 0
 Ends n c = (c .last ≤ length n) × ((c .tokens ≡ 0 → ⊥) → 1 ≤ c .last)
 
--- what is used of memory that holds the new text alone; its latest date is not asked for
+-- what is used of memory that holds the new text alone; its latest date and its edition are not asked for
 abbrev pub alone : Counts → Held
-alone c = record { bytes = c .bytes; statements = c .statements; records = c .records; tokens = c .tokens; latest = 0 }
+alone c = record { bytes = c .bytes; statements = c .statements; records = c .records; tokens = c .tokens; latest = 0; edition = 0 }
 
 -- what is used with the new text in place of an entry; the latest date is told by the entries, once they are there
 abbrev pub totals : Held → Row → Counts → Held
@@ -66,6 +67,7 @@ totals h e c = record {
   records = h .records - e .records + c .records;
   tokens = h .tokens - e .tokens + c .tokens;
   latest = 0;
+  edition = h .edition;
 }
 
 -- 18, and 16 over the totals
@@ -81,12 +83,14 @@ abbrev pub latestThen : Handed → ℕ
 latestThen (handed L) = L .latest
 latestThen (unchanged f p) = 0
 
--- an amendment that is made: w is used then, with the latest date of the entries
+-- an amendment that is made: the new text is read in the edition whose number was lent, and w is used then, with the latest date of the entries
 pub record Fits (l : Lists) (M : Memory) (h : Held) (k : ℕ) (n : List ℕ) (c : Counts) (w : Held) : Type 0 where
+  pub edition : Edition
+  pub named : h .edition ≡ numberOf edition
   pub entries : List Entry
   pub there : k < h .statements
   pub clear : T (noZero n)
-  pub reads : readScript l n ≡ accepted entries
+  pub reads : readScript edition l n ≡ accepted entries
   pub bytes-are : c .bytes ≡ length n
   pub statements-are : c .statements ≡ length entries
   pub records-are : c .records ≡ nodes entries
@@ -96,7 +100,7 @@ pub record Fits (l : Lists) (M : Memory) (h : Held) (k : ℕ) (n : List ℕ) (c 
   pub tokens-sum : h .tokens ≡ sumTokens (rowsFrom (h .statements) (M .directory))
   pub latest-is : h .latest ≡ latestOf (rowsFrom (h .statements) (M .directory))
   pub whole : w ≡ totals h (wordsAt (M .directory) (entryWidth * k)) c
-  pub held-then : dated (latestThen (amendIn l M h k n)) w ≡ heldBy (swapped (usedIn M h) (pickAt k (h .statements) (M .directory)) n entries)
+  pub held-then : dated (latestThen (amendIn l M h k n)) w ≡ heldBy (h .edition) (swapped (usedIn M h) (pickAt k (h .statements) (M .directory)) n entries)
   pub fits : within (roomsIn M) w ≡ true
   pub is : amendIn l M h k n ≡ handed (swapped (usedIn M h) (pickAt k (h .statements) (M .directory)) n entries)
 
@@ -120,7 +124,7 @@ pub record Left (h : Held) (x : Handed) (M : Memory) (r : ℕ) (M′ : Memory) :
   pub latest : r ≡ latestThen x
   pub memory : M′ ≡ leftIn M h x
 
--- the answer that a verdict stands for: 0 and what is used then, with the latest date x; or its number, at its byte of the new text, and the old counts and date
+-- the answer that a verdict stands for: 0 and what is used then, with the latest date x; or its number, at its byte of the new text, and the old counts, date and edition
 abbrev pub answerBy : Held → List ℕ → ℕ → Verdict → Answer
 answerBy h n x (verdict.Fits c w) = acceptedWith (dated x w)
 answerBy h n x (verdict.Refused f p) = refusedAt h n f p

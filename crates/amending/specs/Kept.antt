@@ -8,6 +8,7 @@ use lib.Seq.{slice}
 use Rattle.tokens.specs.Names.{Lists}
 use Rattle.grammar.specs.Sizes.{recordWidth, entryWidth}
 use Rattle.grammar.specs.Trees.{records}
+use Rattle.grammar.specs.Grammar.{Edition}
 use Rattle.grammar.specs.Script.{Entry, accepted, readScript}
 use Rattle.grammar.specs.Latest.{latestIn}
 use Rattle.grammar.specs.Words.{Row, rowOf, latestOf}
@@ -56,17 +57,17 @@ recordsOf es = map (λ (e : Entry). records (e .tree)) es
 abbrev pub exchanged : {A : Type 0} → ℕ → List A → List A → List A
 exchanged k ys xs = take k xs ++ (ys ++ drop (suc k) xs)
 
--- The records of every statement but the k-th are the same words in the same order, and in its place stand those of the text n read alone;
+-- The records of every statement but the k-th are the same words in the same order, and in its place stand those of the text n read alone, in the script's edition;
 -- so for the texts. M, of which h is used, is the memory before the call, and M′, of which h′ is used, that behind it.
-pub record KeepsRecords (l : Lists) (M : Memory) (h : Held) (k : ℕ) (n : List ℕ) (M′ : Memory) (h′ : Held) : Type 0 where
+pub record KeepsRecords (E : Edition) (l : Lists) (M : Memory) (h : Held) (k : ℕ) (n : List ℕ) (M′ : Memory) (h′ : Held) : Type 0 where
   pub new : List Entry
-  pub reads : readScript l n ≡ accepted new
+  pub reads : readScript E l n ≡ accepted new
   pub there : k < h .statements
   pub records : recordsIn M′ h′ ≡ exchanged k (recordsOf new) (recordsIn M h)
 
-pub record KeepsTexts (l : Lists) (M : Memory) (h : Held) (k : ℕ) (n : List ℕ) (M′ : Memory) (h′ : Held) : Type 0 where
+pub record KeepsTexts (E : Edition) (l : Lists) (M : Memory) (h : Held) (k : ℕ) (n : List ℕ) (M′ : Memory) (h′ : Held) : Type 0 where
   pub new : List Entry
-  pub reads : readScript l n ≡ accepted new
+  pub reads : readScript E l n ≡ accepted new
   pub there : k < h .statements
   pub texts : textsIn M′ h′ ≡ exchanged k (textsOf n new) (textsIn M h)
 

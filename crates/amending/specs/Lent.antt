@@ -7,6 +7,7 @@ use lib.Dec.{leb, ltb, eqb}
 use lib.ListN.{length, take, drop}
 use Rattle.tokens.specs.Text.{if_then_else_}
 use Rattle.tokens.specs.Names.{Lists}
+use Rattle.grammar.specs.Grammar.{Edition}
 use Rattle.grammar.specs.Sizes.{recordWidth}
 use Rattle.grammar.specs.Script.{Entry, Outcome, accepted, refused, tokensOf, noZero, readScript}
 use Rattle.grammar.specs.Words.{wordsOf, Row, rowOf, latestOf}
@@ -77,7 +78,7 @@ swapped L p n ns = record {
   latest = latestOf (swappedRows p (length n) (map rowOf ns));
 }
 
--- ---- the call. Order: 20, 17, 19, then the new text read alone as a script (1 to 15), 18, 16 over the totals
+-- ---- the call in an edition. Order: 20, 17, 19, then the new text read alone as a script (1 to 15), 18, 16 over the totals
 
 -- lent words as they are left, or a refusal, which leaves them as they were
 pub data Handed : Type 0 where
@@ -88,7 +89,7 @@ pub data Handed : Type 0 where
 unfoldable pub fittingLent : Rooms → ℕ → Lent → Handed
 fittingLent R p L = if overRows R (length (L .script)) (L .rows) then unchanged 16 p else handed L
 
-module _ (l : Lists) (R : Rooms) where
+module _ (E : Edition) (l : Lists) (R : Rooms) where
   -- what reading the new text n answers (1 to 15), 18, 16
   unfoldable pub putLent : Lent → Pick Row → List ℕ → Outcome → Handed
   putLent L p n (refused f at) = unchanged f at
@@ -98,7 +99,7 @@ module _ (l : Lists) (R : Rooms) where
   -- 17, 19
   unfoldable pub lentAt : Lent → List ℕ → Option (Pick Row) → Handed
   lentAt L n none = unchanged 17 0
-  lentAt L n (some p) = if not (noZero n) then unchanged 19 0 else putLent L p n (readScript l n)
+  lentAt L n (some p) = if not (noZero n) then unchanged 19 0 else putLent L p n (readScript E l n)
 
   -- 20; the k-th statement's text is replaced by n
   unfoldable pub amendLent : Lent → ℕ → List ℕ → Handed

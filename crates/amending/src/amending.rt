@@ -19,7 +19,7 @@ ghost use Rattle.reading.specs.Judging.{listsIn};
 ghost use Rattle.amending.specs.Memory.{memory, amendIn, dated, acceptedWith, refusedAt, Amends};
 ghost use Rattle.amending.specs.Grounds.{Ready, Fits, Left};
 
-// Replaces the text of a statement: 20, 17, 19, then the new text read alone (1 to 15), 18, 16 over the totals; or the whole
+// Replaces the text of a statement: 26, 20, 17, 19, then the new text read alone (1 to 15), 18, 16 over the totals; or the whole
 // is as if it had been read anew.
 pub fn amend(
     script: &mut [u8],
@@ -105,6 +105,7 @@ fn replace(
     let entries_end = at + ENTRY_WIDTH * c.statements;
     let own = read(
         text,
+        held.edition,
         reserved,
         currencies,
         counters,
@@ -131,10 +132,11 @@ fn acceptance(whole: Held, latest: usize) -> Answer
         records: whole.records,
         tokens: whole.tokens,
         latest,
+        edition: whole.edition,
     }
 }
 
-// A refusal: its place is in the new text, and the counts and the latest date are the old ones.
+// A refusal: its place is in the new text; the counts, the latest date and the edition are the old ones.
 fn unchanged(held: Held, text: &[u8], number: u32, byte: usize) -> Answer
     ensures { λ r. ⌜ r ≡ refusedAt held (now (text .entry)) number byte ⌝ }
 {
@@ -149,5 +151,6 @@ fn unchanged(held: Held, text: &[u8], number: u32, byte: usize) -> Answer
         records: held.records,
         tokens: held.tokens,
         latest: held.latest,
+        edition: held.edition,
     }
 }

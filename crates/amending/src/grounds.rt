@@ -1,4 +1,4 @@
-// On what grounds an amendment is refused: 20, 17, 19, then the new text read alone (1 to 15), 18, 16 over the totals.
+// On what grounds an amendment is refused: 26, 20, 17, 19, then the new text read alone (1 to 15), 18, 16 over the totals.
 use crate::held::Held;
 use crate::orders::in_order;
 use crate::orders::wide;
@@ -16,7 +16,7 @@ ghost use Prim.Native.Nat.{_+_, _≤_};
 ghost use lib.ListN.{length};
 ghost use Rattle.grammar.specs.Sizes.{entryWidth};
 ghost use Rattle.reading.specs.Judging.{listsIn};
-ghost use Rattle.amending.specs.Memory.{memory, roomsOf, within};
+ghost use Rattle.amending.specs.Memory.{memory, roomsOf, within, isEdition};
 ghost use Rattle.amending.specs.Grounds.{endsWhole, endsShut, Ends, wordsAt, Stands, Few, alone, totals, fittingBy, MeetsVerdict};
 
 // The bytes `;` and `}`.
@@ -53,6 +53,9 @@ pub fn verdict_on(
 ) -> Verdict
     ensures { λ r. ⌜ MeetsVerdict (listsIn (now (reserved .entry)) (now (currencies .entry)) (now (counters .entry))) (memory (now (script .entry)) (now (records .entry)) (now (directory .entry))) held statement (now (text .entry)) r ⌝ }
 {
+    if !is_edition(held.edition) {
+        return Verdict::Refused(26, 0);
+    }
     if !is_within(script.len(), records.len(), directory.len(), held) {
         return Verdict::Refused(20, 0);
     }
@@ -72,7 +75,7 @@ pub fn verdict_on(
     if !is_clear(text) {
         return Verdict::Refused(19, 0);
     }
-    match judge(text, reserved, currencies, counters) {
+    match judge(text, held.edition == 2, reserved, currencies, counters) {
         Judged::Refused(k, b) => Verdict::Refused(k, b),
         Judged::Good(c) => fitting(
             script.len(),
@@ -84,6 +87,13 @@ pub fn verdict_on(
             c,
         ),
     }
+}
+
+// Whether there is an edition of this number.
+fn is_edition(edition: u32) -> bool
+    ensures { λ r. ⌜ r ≡ isEdition edition ⌝ }
+{
+    edition == 1 || edition == 2
 }
 
 // 18 and 16, where a text that can be read takes the place of an entry; the lent slices have so many bytes and words.
@@ -126,6 +136,7 @@ fn alone(c: Counts) -> Held
         records: c.records,
         tokens: c.tokens,
         latest: 0,
+        edition: 0,
     }
 }
 
@@ -208,5 +219,6 @@ fn totals(held: Held, row: Row, c: Counts) -> Held
         records: held.records - row.records + c.records,
         tokens: held.tokens - row.tokens + c.tokens,
         latest: 0,
+        edition: held.edition,
     }
 }

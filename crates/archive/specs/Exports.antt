@@ -16,19 +16,19 @@ use Rattle.amending.specs.declared.held.Held.{Held}
 abbrev pub word : ℕ → ℕ
 word n = n % 2 ^ 32
 
--- number, byte, line, column, bytes, statements, records, tokens, latest date
+-- number, byte, line, column, bytes, statements, records, tokens, latest date, edition
 unfoldable pub answerWords : Answer → List ℕ
 answerWords a =
-    a .number ∷ word (a .byte) ∷ word (a .line) ∷ word (a .column) ∷ word (a .bytes) ∷ word (a .statements) ∷ word (a .records) ∷ word (a .tokens) ∷ word (a .latest) ∷ []
+    a .number ∷ word (a .byte) ∷ word (a .line) ∷ word (a .column) ∷ word (a .bytes) ∷ word (a .statements) ∷ word (a .records) ∷ word (a .tokens) ∷ word (a .latest) ∷ a .edition ∷ []
 
 -- the number of an answer: 0 where the call was accepted
 abbrev pub numberIn : List ℕ → ℕ
 numberIn ws = getD ws 0 0
 
--- how much of the memory is used, and the script's latest date: the last five words of an answer
+-- how much of the memory is used, the script's latest date, and its edition: the last six words of an answer
 unfoldable pub heldIn : List ℕ → Held
 heldIn ws =
-    record { bytes = getD ws 4 0; statements = getD ws 5 0; records = getD ws 6 0; tokens = getD ws 7 0; latest = getD ws 8 0 }
+    record { bytes = getD ws 4 0; statements = getD ws 5 0; records = getD ws 6 0; tokens = getD ws 7 0; latest = getD ws 8 0; edition = getD ws 9 0 }
 
 -- of the script (0) or of the list of currencies (1), first byte, length
 unfoldable pub placeWords : Place → List ℕ
@@ -42,13 +42,13 @@ dayWords d = d .year ∷ d .month ∷ d .day ∷ []
 unfoldable pub dayIn : List ℕ → Day
 dayIn ws = record { year = getD ws 0 0; month = getD ws 1 0; day = getD ws 2 0 }
 
--- a script bs read into the records o and the directory d: the words of the answer, and what is left in both
-pub record Reads (l : Lists) (bs o d ws o′ d′ : List ℕ) : Type 0 where
+-- a script bs read in the edition of the number e into the records o and the directory d: the words of the answer, and what is left in both
+pub record Reads (e : ℕ) (l : Lists) (bs o d ws o′ d′ : List ℕ) : Type 0 where
   pub answer : Answer
-  pub leaves : Leaves l bs o d answer o′ d′
+  pub leaves : Leaves e l bs o d answer o′ d′
   pub words : ws ≡ answerWords answer
 
--- the statement k of the memory M, of which the words vs say how much is used, replaced by the text n
+-- the statement k of the memory M, of which the words vs say how much is used and in what edition, replaced by the text n
 pub record Replaces (l : Lists) (M : Memory) (vs : List ℕ) (k : ℕ) (n ws : List ℕ) (M′ : Memory) : Type 0 where
   pub answer : Answer
   pub amends : Amends l M (heldIn vs) k n answer M′
@@ -62,7 +62,7 @@ AreWords vs = (i : ℕ) → getD vs i 0 < 2 ^ 32
 
 -- the numbers of an answer, whole
 abbrev pub numbers : Answer → List ℕ
-numbers a = a .number ∷ a .byte ∷ a .line ∷ a .column ∷ a .bytes ∷ a .statements ∷ a .records ∷ a .tokens ∷ a .latest ∷ []
+numbers a = a .number ∷ a .byte ∷ a .line ∷ a .column ∷ a .bytes ∷ a .statements ∷ a .records ∷ a .tokens ∷ a .latest ∷ a .edition ∷ []
 
 -- calls of `script_amend` one after the other, each lent the words that the one before it answered; refused ones among them
 pub data Runs (l : Lists) : Memory → List ℕ → List (ℕ × List ℕ) → Memory → List ℕ → Type 0 where

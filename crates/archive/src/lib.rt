@@ -15,21 +15,23 @@ ghost use Rattle.reading.specs.Parts.{partNamed, placed};
 ghost use Rattle.amending.specs.Memory.{memory};
 ghost use Rattle.archive.specs.Exports.{word, answerWords, heldIn, placeWords, dayWords, Reads, Replaces};
 
-// Reads a script into records and directory.
+// Reads a script of the edition 1 or 2 into records and directory.
 #[no_mangle]
 pub extern "C" fn script_read(
     script: &[u8],
+    edition: u32,
     reserved: &[u8],
     currencies: &[u8],
     day_counters: &[u8],
     records: &mut [u32],
     directory: &mut [u32],
-    answer: &mut [u32; 9],
+    answer: &mut [u32; 10],
 )
-    ensures { λ _. ⌜ Reads (listsIn (now (reserved .entry)) (now (currencies .entry)) (now («day_counters» .entry))) (now (script .entry)) (now (records .entry)) (now (directory .entry)) (now (answer .exit)) (now (records .exit)) (now (directory .exit)) ⌝ }
+    ensures { λ _. ⌜ Reads edition (listsIn (now (reserved .entry)) (now (currencies .entry)) (now («day_counters» .entry))) (now (script .entry)) (now (records .entry)) (now (directory .entry)) (now (answer .exit)) (now (records .exit)) (now (directory .exit)) ⌝ }
 {
     let a = read(
         script,
+        edition,
         reserved,
         currencies,
         day_counters,
@@ -39,8 +41,8 @@ pub extern "C" fn script_read(
     *answer = answer_words(a);
 }
 
-// Replaces the text of one statement. The last five words of the answer say at entry how much of the memory is used, and
-// the script's latest date, as an earlier call left them.
+// Replaces the text of one statement. The last six words of the answer say at entry how much of the memory is used, the
+// script's latest date, and its edition, as an earlier call left them.
 #[no_mangle]
 pub extern "C" fn script_amend(
     script: &mut [u8],
@@ -51,7 +53,7 @@ pub extern "C" fn script_amend(
     day_counters: &[u8],
     records: &mut [u32],
     directory: &mut [u32],
-    answer: &mut [u32; 9],
+    answer: &mut [u32; 10],
 )
     ensures { λ _. ⌜ Replaces (listsIn (now (reserved .entry)) (now (currencies .entry)) (now («day_counters» .entry))) (memory (now (script .entry)) (now (records .entry)) (now (directory .entry))) (now (answer .entry)) statement (now (text .entry)) (now (answer .exit)) (memory (now (script .exit)) (now (records .exit)) (now (directory .exit))) ⌝ }
 {
@@ -103,7 +105,7 @@ pub extern "C" fn calendar_day(count: u32, day: &mut [u32; 3])
     *day = [d.year, d.month, d.day];
 }
 
-fn held_in(words: &[u32; 9]) -> Held
+fn held_in(words: &[u32; 10]) -> Held
     ensures { λ r. ⌜ r ≡ heldIn (now (words .entry)) ⌝ }
 {
     Held {
@@ -112,10 +114,11 @@ fn held_in(words: &[u32; 9]) -> Held
         records: wide(words[6]),
         tokens: wide(words[7]),
         latest: wide(words[8]),
+        edition: words[9],
     }
 }
 
-fn answer_words(a: Answer) -> [u32; 9]
+fn answer_words(a: Answer) -> [u32; 10]
     ensures { λ r. ⌜ r ≡ answerWords a ⌝ }
 {
     [
@@ -128,6 +131,7 @@ fn answer_words(a: Answer) -> [u32; 9]
         low_word(a.records),
         low_word(a.tokens),
         low_word(a.latest),
+        a.edition,
     ]
 }
 

@@ -16,8 +16,8 @@ use Rattle.tokens.proofs.Joins.{Joint, over, joined, scan-join}
 use Rattle.tokens.proofs.Cuts.{further, scan-further, Start, token-start}
 use Rattle.tokens.proofs.Shapes.{Sorted, scan-sorted, Behind, token-end}
 use Rattle.grammar.specs.Readers.{first, is, lastOf, closes}
-use Rattle.grammar.specs.Grammar.{Words}
-use Rattle.grammar.specs.Script.{Entry, Outcome, accepted, refused, from, statements, words, ofTokens, readScript, movedEntry, tokensOf, noZero}
+use Rattle.grammar.specs.Grammar.{Edition, Language}
+use Rattle.grammar.specs.Script.{Entry, Outcome, accepted, refused, from, statements, language, ofTokens, readScript, movedEntry, tokensOf, noZero}
 use Rattle.grammar.proofs.Laws.{nil-not}
 use Rattle.grammar.proofs.ScriptLaws.{forth, moved, from-forth, from-moved, prepend, prepend-accepted, count-append}
 use Rattle.grammar.proofs.SealLaws.{unsealed}
@@ -27,7 +27,7 @@ use Rattle.grammar.proofs.ReachLaws.{Asc, sorted-asc, Ahead, ahead, Goe
 
 -- ---- a text's tokens
 
-sorted-none : (W : Words) (i j : ℕ) (ts : List Token) → Sorted i j ts → None W ts
+sorted-none : (W : Language) (i j : ℕ) (ts : List Token) → Sorted i j ts → None W ts
 unfolding code
 sorted-none W i j [] s x t y e = nil-not t y x (sym e)
 sorted-none W i j (u ∷ ts) s [] t y e =
@@ -48,7 +48,7 @@ init-split (c ∷ l) (c′ ∷ x) us f u h n e =
     let R = init-split l x us f u h n (cc) in
     (R .0, (λ i. z i ∷ R .1 i), R .2)
 
-module _ (W : Words) where
+module _ (W : Language) where
   -- the bytes bs have the statements es, limits aside
   pub record Text (bs : List ℕ) (es : List Entry) : Type 0 where
     pub toks : List Token
@@ -266,61 +266,61 @@ unfolding script
 script-all s h = ap (λ (n : ℕ). take n s) (leading-every (other 0) s h) ∙ take-length s
 
 -- what an accepted script is: its text has the statements, and the limits are kept
-pub record Accepted (l : Lists) (s : List ℕ) (es : List Entry) : Type 0 where
+pub record Accepted (E : Edition) (l : Lists) (s : List ℕ) (es : List Entry) : Type 0 where
   pub short : length s ≤ mostBytes
   pub lists : goodLists l ≡ true
-  pub text : Text (words l) s es
+  pub text : Text (language E l) s es
   pub few : tokensOf es ≤ mostTokens
 
 less-one : (i j : ℕ) → i ≡ suc j → i - 1 ≡ j
 less-one i j h = omega arith
 
-counted : (W : Words) {s : List ℕ} {es : List Entry} (X : Text W s es) → count counts (X .toks ++ (final (length s) ∷ [])) - 1 ≡ tokensOf es
+counted : (W : Language) {s : List ℕ} {es : List Entry} (X : Text W s es) → count counts (X .toks ++ (final (length s) ∷ [])) - 1 ≡ tokensOf es
 unfolding code count
 counted W {s} {es} X = less-one (count counts (X .toks ++ (final (length s) ∷ []))) (tokensOf es) (count-append (X .toks) (final (length s) ∷ []) ∙ omega (arith, text-tokens W X))
 
-pub read-accepted : (l : Lists) (s : List ℕ) (es : List Entry) → T (noZero s) → readScript l s ≡ accepted es → Accepted l s es
+pub read-accepted : (E : Edition) (l : Lists) (s : List ℕ) (es : List Entry) → T (noZero s) → readScript E l s ≡ accepted es → Accepted E l s es
 unfolding readScript ofTokens tokens statements
-read-accepted l s es z h = go₁ (ltb mostBytes (length s)) refl (ap body (sym (script-all s z)) ∙ h)
+read-accepted E l s es z h = go₁ (ltb mostBytes (length s)) refl (ap body (sym (script-all s z)) ∙ h)
   where
     body : List ℕ → Outcome
-    body b = if ltb mostBytes (length b) then refused 1 0 else if not (goodLists l) then refused 2 0 else ofTokens l (length b) (tokens b)
+    body b = if ltb mostBytes (length b) then refused 1 0 else if not (goodLists l) then refused 2 0 else ofTokens E l (length b) (tokens b)
 
     never : {n p : ℕ} {X : Type 0} → refused n p ≡ accepted es → X
     never e = absurd (let o : _≡_ {A = ℕ} 0 1 = cc in omega arith)
 
     go₄ : ltb mostBytes (length s) ≡ false → goodLists l ≡ true → (ts : List Token) → scan 0 0 s ≡ lexed ts → (t : Bool) → ltb mostTokens (count counts (ts ++ (final (length s) ∷ [])) - 1) ≡ t
-        → (if t then refused 7 (length s) else from (words l) 0 (ts ++ (final (length s) ∷ []))) ≡ accepted es → Accepted l s es
+        → (if t then refused 7 (length s) else from (language E l) 0 (ts ++ (final (length s) ∷ []))) ≡ accepted es → Accepted E l s es
     go₄ b g ts c true e k = never k
     go₄ b g ts c false e k =
-        let X : Text (words l) s es = record { toks = ts; scanned = c; reads = k } in
-        record { short = ltb-false mostBytes (length s) b; lists = g; text = X; few = omega (arith, ltb-false mostTokens (count counts (ts ++ (final (length s) ∷ [])) - 1) e, counted (words l) X) }
+        let X : Text (language E l) s es = record { toks = ts; scanned = c; reads = k } in
+        record { short = ltb-false mostBytes (length s) b; lists = g; text = X; few = omega (arith, ltb-false mostTokens (count counts (ts ++ (final (length s) ∷ [])) - 1) e, counted (language E l) X) }
 
-    go₃ : ltb mostBytes (length s) ≡ false → goodLists l ≡ true → (o : Lexed) → scan 0 0 s ≡ o → ofTokens l (length s) (finished (length s) o) ≡ accepted es → Accepted l s es
+    go₃ : ltb mostBytes (length s) ≡ false → goodLists l ≡ true → (o : Lexed) → scan 0 0 s ≡ o → ofTokens E l (length s) (finished (length s) o) ≡ accepted es → Accepted E l s es
     go₃ b g (lexed ts) c k = go₄ b g ts c (ltb mostTokens (count counts (ts ++ (final (length s) ∷ [])) - 1)) refl k
     go₃ b g (faulty f p) c k = never k
 
-    go₂ : ltb mostBytes (length s) ≡ false → (t : Bool) → goodLists l ≡ t → (if not t then refused 2 0 else ofTokens l (length s) (tokens s)) ≡ accepted es → Accepted l s es
+    go₂ : ltb mostBytes (length s) ≡ false → (t : Bool) → goodLists l ≡ t → (if not t then refused 2 0 else ofTokens E l (length s) (tokens s)) ≡ accepted es → Accepted E l s es
     go₂ b true g k = go₃ b g (scan 0 0 s) refl k
     go₂ b false g k = never k
 
-    go₁ : (t : Bool) → ltb mostBytes (length s) ≡ t → (if t then refused 1 0 else if not (goodLists l) then refused 2 0 else ofTokens l (length s) (tokens s)) ≡ accepted es → Accepted l s es
+    go₁ : (t : Bool) → ltb mostBytes (length s) ≡ t → (if t then refused 1 0 else if not (goodLists l) then refused 2 0 else ofTokens E l (length s) (tokens s)) ≡ accepted es → Accepted E l s es
     go₁ true b k = never k
     go₁ false b k = go₂ b (goodLists l) refl k
 
-pub accepted-read : (l : Lists) (s : List ℕ) (es : List Entry) → T (noZero s) → Accepted l s es → readScript l s ≡ accepted es
+pub accepted-read : (E : Edition) (l : Lists) (s : List ℕ) (es : List Entry) → T (noZero s) → Accepted E l s es → readScript E l s ≡ accepted es
 unfolding readScript ofTokens tokens statements
-accepted-read l s es z A =
+accepted-read E l s es z A =
     ap body (script-all s z)
-    ∙ ap (λ (t : Bool). if t then refused 1 0 else if not (goodLists l) then refused 2 0 else ofTokens l (length s) (tokens s)) (le-ltb mostBytes (length s) (A .short))
-    ∙ ap (λ (t : Bool). if not t then refused 2 0 else ofTokens l (length s) (tokens s)) (A .lists)
-    ∙ ap (λ (o : Lexed). ofTokens l (length s) (finished (length s) o)) (A .text .scanned)
-    ∙ ap (λ (t : Bool). if t then refused 7 (length s) else from (words l) 0 (A .text .toks ++ (final (length s) ∷ [])))
-    (le-ltb mostTokens (count counts (A .text .toks ++ (final (length s) ∷ [])) - 1) (omega (arith, A .few, counted (words l) (A .text))))
+    ∙ ap (λ (t : Bool). if t then refused 1 0 else if not (goodLists l) then refused 2 0 else ofTokens E l (length s) (tokens s)) (le-ltb mostBytes (length s) (A .short))
+    ∙ ap (λ (t : Bool). if not t then refused 2 0 else ofTokens E l (length s) (tokens s)) (A .lists)
+    ∙ ap (λ (o : Lexed). ofTokens E l (length s) (finished (length s) o)) (A .text .scanned)
+    ∙ ap (λ (t : Bool). if t then refused 7 (length s) else from (language E l) 0 (A .text .toks ++ (final (length s) ∷ [])))
+    (le-ltb mostTokens (count counts (A .text .toks ++ (final (length s) ∷ [])) - 1) (omega (arith, A .few, counted (language E l) (A .text))))
     ∙ A .text .reads
   where
     body : List ℕ → Outcome
-    body b = if ltb mostBytes (length b) then refused 1 0 else if not (goodLists l) then refused 2 0 else ofTokens l (length b) (tokens b)
+    body b = if ltb mostBytes (length b) then refused 1 0 else if not (goodLists l) then refused 2 0 else ofTokens E l (length b) (tokens b)
 
 pub tokens-append : (x y : List Entry) → tokensOf (x ++ y) ≡ tokensOf x + tokensOf y
 tokens-append [] y = omega arith
@@ -345,9 +345,9 @@ pub script-noZero : (bs : List ℕ) → T (noZero (script bs))
 unfolding script
 script-noZero bs = leading-take (other 0) bs
 
-pub read-script : (l : Lists) (bs : List ℕ) → readScript l (script bs) ≡ readScript l bs
+pub read-script : (E : Edition) (l : Lists) (bs : List ℕ) → readScript E l (script bs) ≡ readScript E l bs
 unfolding readScript
-read-script l bs = ap body (script-all (script bs) (script-noZero bs))
+read-script E l bs = ap body (script-all (script bs) (script-noZero bs))
   where
     body : List ℕ → Outcome
-    body s = if ltb mostBytes (length s) then refused 1 0 else if not (goodLists l) then refused 2 0 else ofTokens l (length s) (tokens s)
+    body s = if ltb mostBytes (length s) then refused 1 0 else if not (goodLists l) then refused 2 0 else ofTokens E l (length s) (tokens s)

@@ -6,18 +6,17 @@ use Prim.Native.Nat.{ℕ, _+_}
 use Prim.Native.String.{String}
 use native.Mathlib.Omega.{arith}
 use lib.Dec.{eqb}
-use lib.ListN.{length, take, length-append, length-map}
-use lib.Seq.{take-append-seam}
+use lib.ListN.{length, length-map}
 use borrow.Author.Tests.{eqb-true}
 use Rattle.tokens.specs.Limits.{mostDepth}
 use Rattle.tokens.specs.Text.{if_then_else_, other}
 use Rattle.tokens.specs.Tokens.{Token, code, counts}
 use Rattle.grammar.specs.Trees.{Tree}
-use Rattle.grammar.specs.Readers.{Reader, Out, ok, refused as wrong, first, is, skip, lastOf, closes}
-use Rattle.grammar.specs.Grammar.{Words, statement}
+use Rattle.grammar.specs.Readers.{Out, ok, refused as wrong, first, is, skip, lastOf, closes}
+use Rattle.grammar.specs.Grammar.{Edition, one, two, Language, statement}
 use Rattle.grammar.specs.Script.{Entry, Outcome, accepted, refused, back, from, turn, onward, front, entryOf}
 use Rattle.grammar.specs.Computing.{computing}
-use Rattle.grammar.proofs.Laws.{Near, Follows, Quiet, Reads, nil-not, lead, lead-skip, skip-lead, skip-first, skip-clear}
+use Rattle.grammar.proofs.Laws.{Near, Follows, nil-not, lead, lead-skip, skip-lead, skip-first, skip-clear, reads-clear, split-same}
 use Rattle.grammar.proofs.StatementLaws.{Tail, stops, near-tail, statement-tail}
 use Rattle.grammar.proofs.EndingLaws.{last-append}
 use Rattle.grammar.proofs.ScriptLaws.{forth, prepend, Left, Run, none, more, run-from, from-run, Replaced, run-tail, from-eq, Step, step-of, step-by, last-one, in-front, Parts, map-parts, quiet-nil, quiet-last, back-back, last-map, forth-back}
@@ -90,43 +89,28 @@ loose-else : (r r′ : List Token) → Loose r r′ → is "else" (first r′) �
 loose-else r r′ (Loose.near e) = ap (λ t. is "else" t) e
 loose-else r r′ (loose o a) = a .noElse ∙ sym (o .noElse)
 
--- ---- lists
-
-pub split-same : (x y x′ y′ : List Token) → x ++ y ≡ x′ ++ y′ → length y ≡ length y′ → x ≡ x′
-split-same x y x′ y′ e l =
-    let n : length x ≡ length x′ = omega (arith, length-append x y, length-append x′ y′, ap length e) in
-    sym (take-append-seam x y) ∙ ap (take (length x)) e ∙ ap (λ (k : ℕ). take k (x′ ++ y′)) n ∙ take-append-seam x′ y′
-
 -- ---- what begins a statement
 
 eqb-kind : (s : String) (t : Token) → is s t ≡ true → t ≡ record { kind = code s; from = t .from; text = t .text }
 eqb-kind s t e = λ i. record { kind = sym (eqb-true (code s) (t .kind) e) i; from = t .from; text = t .text }
 
--- a reader that reads a token reads the newlines behind it
-reads-clear : {A : Type 0} {m : Reader A} {ts : List Token} {a : A} {r : List Token} → Reads Near 1 m ts a r → is "Newline" (first r) ≡ false
-unfolding code skip
-reads-clear {r = []} M = refl
-reads-clear {A} {m} {ts} {a} {r = t ∷ r} M = go (is "Newline" t) refl
-  where
-    line : is "Newline" t ≡ true → Quiet (t ∷ [])
-    line e x = rw (e, skip)
+-- what no statement begins with: `else`, `on`, `in`, `;`, `)`
+abbrev Stopped : Language → Type 0
+Stopped W =
+    (x : ℕ) (w : List ℕ) (us : List Token)
+    → (statement W mostDepth (record { kind = 49; from = x; text = w } ∷ us) ≡ wrong 8 x) × (statement W mostDepth (record { kind = 50; from = x; text = w } ∷ us) ≡ wrong 8 x)
+    × (statement W mostDepth (record { kind = 51; from = x; text = w } ∷ us) ≡ wrong 8 x) × (statement W mostDepth (record { kind = 48; from = x; text = w } ∷ us) ≡ wrong 8 x)
+    × (statement W mostDepth (record { kind = 41; from = x; text = w } ∷ us) ≡ wrong 8 x)
 
-    go : (b : Bool) → is "Newline" t ≡ b → b ≡ false
-    go false e = refl
-    go true e =
-        let n : M .used ≡ [] → ⊥ = λ o. omega (arith, ap length o, M .enough) in
-        let p : m (M .used ++ (t ∷ t ∷ r)) ≡ ok a (t ∷ r) = M .goes (t ∷ []) (t ∷ r) (line e) (λ o. absurd (n o)) refl in
-        let q : m (M .used ++ (t ∷ t ∷ r)) ≡ ok a (t ∷ t ∷ r) = M .goes [] (t ∷ t ∷ r) (λ x. refl) (λ o. refl) refl in
-        let z : t ∷ r ≡ t ∷ t ∷ r = cc in
-        absurd (omega (arith, ap length z))
+-- it computes in each edition
+stopped : (e : Edition) (r c d : List (List ℕ)) → Stopped (record { edition = e; reserved = r; currencies = c; counters = d })
+unfolding computing
+stopped one r c d x w us = (refl, refl, refl, refl, refl)
+stopped two r c d x w us = (refl, refl, refl, refl, refl)
 
-module _ (W : Words) where
-  never : (x : ℕ) (w : List ℕ) (us : List Token)
-      → (statement W mostDepth (record { kind = 49; from = x; text = w } ∷ us) ≡ wrong 8 x) × (statement W mostDepth (record { kind = 50; from = x; text = w } ∷ us) ≡ wrong 8 x)
-      × (statement W mostDepth (record { kind = 51; from = x; text = w } ∷ us) ≡ wrong 8 x) × (statement W mostDepth (record { kind = 48; from = x; text = w } ∷ us) ≡ wrong 8 x)
-      × (statement W mostDepth (record { kind = 41; from = x; text = w } ∷ us) ≡ wrong 8 x)
-  unfolding computing
-  never x w us = (refl, refl, refl, refl, refl)
+module _ (W : Language) where
+  never : Stopped W
+  never = stopped (W .edition) (W .reserved) (W .currencies) (W .counters)
 
   not-begun : (s : String) → ((x : ℕ) (w : List ℕ) (us : List Token) → statement W mostDepth (record { kind = code s; from = x; text = w } ∷ us) ≡ wrong 8 x)
       → (u : Token) (us : List Token) (t : Tree) (r : List Token) → statement W mostDepth (u ∷ us) ≡ ok t r → is s u ≡ false

@@ -13,10 +13,10 @@ use Rattle.tokens.specs.Tokens.{Token, code, counts}
 use Rattle.grammar.specs.Trees.{Tree}
 use Rattle.grammar.specs.Readers.{Out, ok, refused, Reader, bind, _>>=_, _>>_, first, is, give, fail, failAt, ask, peek, read, the, lastOf, closes}
 use Rattle.grammar.specs.Grammar as G
-use Rattle.grammar.specs.Grammar.{deeper, optional, Words, Inner, deep, nextKind}
+use Rattle.grammar.specs.Grammar.{deeper, optional, Language, Inner, deep, nextKind}
 use Rattle.grammar.proofs.Laws.{Rel, Near, Follows, near-follows, near-append, Reads, Law, bind-goes, failAt-law, the-law, loop-law}
 use Rattle.grammar.proofs.GrammarLaws.{Moves, Each, InnerLaw, expression-law, blockTurn-law, named-law, pays-law, primary-law, target-law, moving-stays}
-use Rattle.grammar.proofs.StatementLaws.{then₁, moved, given, idle₂, ended-tail, ifOver-tail, forOver-tail, assign-tail, compound-tail, near-tail, statement-tail, over-reads}
+use Rattle.grammar.proofs.StatementLaws.{then₁, moved, given, ended-tail, ifOver-tail, forOver-tail, assign-tail, compound-tail, near-tail, statement-tail, nameFirst-two, over-reads}
 use Rattle.grammar.proofs.EndingLaws.{bad, Fine, Firm, Ends, last-append, EachFirm, shallow, inside, each-moves, pays-firm, primary-firm, Some, bind-ends, if-ends, ask-ends, peek-ends, failAt-ends, the-some, the-last, kind-of, read-some, firm-name, firm-fine, firm-is-fine, named-fine}
 
 -- what was read, up to r, ends in `;` or `}`
@@ -87,11 +87,11 @@ module _ {A B : Type 0} {P : Rel} {m : Reader A} where
       go (refused x p) q w = absurd (let z : _≡_ {A = ℕ} 0 1 = cc in omega arith)
 
 module _ {A B : Type 0} {P : Rel} {m : Reader A} {f : A → Reader B} where
-  pub then-closed : Law Near (λ a. 1) m → Ends Fine m → ((a : A) → Closed P 1 (f a)) → Closed P 2 (m >>= f)
+  pub then-closed : Law Near (λ a. 1) m → Ends Fine m → ((a : A) → Closed P 1 (f a)) → Closed P 1 (m >>= f)
   unfolding _>>=_
   then-closed hm en hf ts b r e k = go (m ts) refl e
     where
-      go : (o : Out A) → m ts ≡ o → bind f o ≡ ok b r → Reads P 2 (m >>= f) ts b r
+      go : (o : Out A) → m ts ≡ o → bind f o ≡ ok b r → Reads P 1 (m >>= f) ts b r
       go (ok a s) q w =
           let M : Reads Near 1 m ts a s = hm ts a s q in
           let E : (used : List Token) × (ts ≡ used ++ s) × Fine used = en ts a s q in
@@ -127,7 +127,7 @@ start-plain : bad start ≡ false
 unfolding code start
 start-plain = refl
 
-module _ {P : Rel} (F : Follows P) (W : Words) where
+module _ {P : Rel} (F : Follows P) (W : Language) where
   -- pays and its `;`
   strict : Option (Reader Tree) → Reader Tree
   strict o = G.pays W o >>= λ e. (the ";" >> give e)
@@ -180,26 +180,27 @@ module _ {P : Rel} (F : Follows P) (W : Words) where
   unfolding G.target
   target-fine = firm-is-fine (firm-fine firm-name (named-fine W))
 
-  assignPaid-closed : (o : Option (Reader Tree)) → EachFirm o → Closed P 2 (G.assignPaid W o)
+  assignPaid-closed : (o : Option (Reader Tree)) → EachFirm o → Closed P 1 (G.assignPaid W o)
   unfolding G.assignPaid
   assignPaid-closed o g = then-closed (target-law W) target-fine λ x. map-closed 1 _ (paid-closed o g)
 
-  nameFirst-closed : (p : Reader Tree) (o : Option (Reader Tree)) → Moves p → EachFirm o → (k : ℕ) → Closed P 2 (G.nameFirst W p o k)
+  nameFirst-closed : (p : Reader Tree) (o : Option (Reader Tree)) → Moves p → EachFirm o → (k : ℕ) → Closed P 1 (G.nameFirst W p o k)
   unfolding G.nameFirst
   nameFirst-closed p o h g k =
-      search (if-closed, law-closed 2 (assign-tail F W p h), law-closed 2 (compound-tail F W p h), assignPaid-closed o g, law-closed 2 (ended-tail F p h))
+      search (if-closed, law-closed 1 (assign-tail F W p h), law-closed 1 (compound-tail F W p h), assignPaid-closed o g, law-closed 1 (ended-tail F W p h))
 
   plain-closed : ((r r′ : List Token) → P r r′ → is "else" (first r′) ≡ is "else" (first r))
       → (p : Reader Tree) (o : Option Inner) → Moves p → EachInnerFirm o → Closed P 1 (G.plain W p o)
   unfolding G.plain deeper
-  plain-closed noElse p none h flat = peek-closed λ t. search (if-closed, failAt-closed, paid-closed none shallow, law-closed 1 (idle₂ F (ended-tail F p h)))
+  plain-closed noElse p none h flat = peek-closed λ t. search (if-closed, failAt-closed, paid-closed none shallow, law-closed 1 (ended-tail F W p h))
   plain-closed noElse p (some i) h (under g f) = peek-closed λ t.
-      search (if-closed, law-closed 1 (ifOver-tail F noElse i g), law-closed 1 (forOver-tail F W i g), paid-closed (some (i .primary)) (inside (g .primary) f), law-closed 1 (idle₂ F (ended-tail F p h)))
+      search (if-closed, law-closed 1 (ifOver-tail F W noElse i g), law-closed 1 (forOver-tail F W i g), paid-closed (some (i .primary)) (inside (g .primary) f), law-closed 1 (ended-tail F W p h))
 
   statementOver-closed : ((r r′ : List Token) → P r r′ → is "else" (first r′) ≡ is "else" (first r))
       → (p : Reader Tree) (o : Option Inner) → Moves p → EachInnerFirm o → Closed P 1 (G.statementOver W p o)
   statementOver-closed noElse p o h g ts a r e k =
-      over-reads W p o ts a r (λ q. nameFirst-closed p (deep o) h (firm-deep o g) (nextKind ts) ts a r q k) (λ q. plain-closed noElse p o h g ts a r q k) e
+      over-reads W p o ts a r (nameFirst-two W p (deep o) h (each-moves (deep o) (firm-deep o g)))
+      (λ q. nameFirst-closed p (deep o) h (firm-deep o g) (nextKind W ts) ts a r q k) (λ q. plain-closed noElse p o h g ts a r q k) e
 
   -- a statement that ends in `;` or `}` is read the same, whatever stands behind it that agrees on `else`
   pub statement-closed : ((r r′ : List Token) → P r r′ → is "else" (first r′) ≡ is "else" (first r)) → (d : ℕ) → Closed P 1 (G.statement W d)
@@ -256,28 +257,28 @@ brace-noEnd : Ends NoEnd (the "}")
 unfolding code
 brace-noEnd = the-noEnd "}" refl refl
 
-ended-noEnd : (p : Reader Tree) → Moves p → Ends NoEnd (G.ended p)
-unfolding G.ended _>>_
-ended-noEnd p h = some-noEnd (law-some (λ a. 1) (expression-law p h)) λ e. noEnd-keeps semicolon-noEnd λ t. keeps-give e
-
 block-noEnd : (s : Reader Tree) → Moves s → Ends NoEnd (G.block s)
 unfolding G.block _>>_
 block-noEnd s h =
     some-noEnd (the-some "{") λ t. some-noEnd (law-some (λ a. 0) (loop-law (blockTurn-law s h) _)) λ ss. noEnd-keeps brace-noEnd λ u. keeps-give ss
 
-ifOver-noEnd : (i : Inner) → InnerLaw i → Ends NoEnd (G.ifOver i)
-unfolding G.ifOver _>>_
-ifOver-noEnd i h =
-    some-noEnd read-some λ t. some-noEnd (law-some (λ a. 1) (expression-law (i .primary) (h .primary))) λ e.
-    noEnd-keeps (block-noEnd (i .statement) (h .statement)) λ ss.
-    ask-ends (is "else") (noEnd-is-keeps (some-noEnd read-some λ u. noEnd-keeps (block-noEnd (i .statement) (h .statement)) λ us. keeps-give _)) (keeps-give _)
+module _ (W : Language) where
+  ended-noEnd : (p : Reader Tree) → Moves p → Ends NoEnd (G.ended W p)
+  unfolding G.ended _>>_
+  ended-noEnd p h = some-noEnd (law-some (λ a. 1) (expression-law W p h)) λ e. noEnd-keeps semicolon-noEnd λ t. keeps-give e
 
-module _ (W : Words) where
+  ifOver-noEnd : (i : Inner) → InnerLaw i → Ends NoEnd (G.ifOver W i)
+  unfolding G.ifOver _>>_
+  ifOver-noEnd i h =
+      some-noEnd read-some λ t. some-noEnd (law-some (λ a. 1) (expression-law W (i .primary) (h .primary))) λ e.
+      noEnd-keeps (block-noEnd (i .statement) (h .statement)) λ ss.
+      ask-ends (is "else") (noEnd-is-keeps (some-noEnd read-some λ u. noEnd-keeps (block-noEnd (i .statement) (h .statement)) λ us. keeps-give _)) (keeps-give _)
+
   forOver-noEnd : (i : Inner) → InnerLaw i → Ends NoEnd (G.forOver W i)
   unfolding G.forOver _>>_
   forOver-noEnd i h =
       some-noEnd read-some λ t. some-noEnd (the-some "name") λ v. some-noEnd (law-some (λ a. 0) (named-law W v)) λ x. some-noEnd (the-some "in") λ u.
-      some-noEnd (law-some (λ a. 1) (expression-law (i .primary) (h .primary))) λ e. noEnd-keeps (block-noEnd (i .statement) (h .statement)) λ ss. keeps-give _
+      some-noEnd (law-some (λ a. 1) (expression-law W (i .primary) (h .primary))) λ e. noEnd-keeps (block-noEnd (i .statement) (h .statement)) λ ss. keeps-give _
 
   paid-noEnd : (o : Option (Reader Tree)) → EachFirm o → Ends NoEnd (G.paid W o)
   unfolding G.paid optional _>>_
@@ -308,7 +309,7 @@ module _ (W : Words) where
 
   statementOver-noEnd : (p : Reader Tree) (o : Option Inner) → Moves p → EachInnerFirm o → Ends NoEnd (G.statementOver W p o)
   unfolding G.statementOver
-  statementOver-noEnd p o h g ts a r e = if-ends (is "name" (first ts)) (nameFirst-noEnd p (deep o) h (firm-deep o g) (nextKind ts)) (plain-noEnd p o h g) ts a r e
+  statementOver-noEnd p o h g ts a r e = if-ends (is "name" (first ts)) (nameFirst-noEnd p (deep o) h (firm-deep o g) (nextKind W ts)) (plain-noEnd p o h g) ts a r e
 
   -- no statement reads End
   pub statement-noEnd : (d : ℕ) → Ends NoEnd (G.statement W d)

@@ -1,5 +1,5 @@
 -- Whatever is read has true dates: each is the count of a day that a text writes, so that none is past the last.
--- Each form that readers are made of has its law, so that a reader's law follows the reader's own text.
+-- A reader's law follows the reader's own text, by the laws of `GivesLaws`.
 use mathlib.Core.Path.{_≡_, refl, sym, ap, subst, _∙_}
 use mathlib.Core.Logic.{inl, inr, ⊎-elim}
 use mathlib.Core.Bool.{Bool, true, false, _||_, not}
@@ -20,12 +20,13 @@ use Rattle.tokens.specs.Tokens.{Token, Lexed, lexed, refused as faulty, tokens,
 use Rattle.tokens.proofs.DateLaws.{date-none, date-most}
 use Rattle.grammar.specs.Trees.{Tree, Trees, node, nil, _▹_, Fields, fields, none as unused, snoc, join, size, records}
 use Rattle.grammar.specs.Latest.{latestIn, Date, spot, equity, df, from, to, pays, Has, here, below, HasPart, this, other}
-use Rattle.grammar.specs.Readers.{Out, ok, refused, Reader, bind, _>>=_, _>>_, Turn, again, done, follow, turns, loop, first, is, skip, give, fail, failAt, ask, peek, the}
+use Rattle.grammar.specs.Readers.{Out, ok, refused, Reader, _>>=_, first, is, skip, peek, the}
 use Rattle.grammar.specs.Grammar as G
-use Rattle.grammar.specs.Grammar.{deeper, optional, grouped, sum, comparison, expression, items, arguments, method, postfixes, dateOf, aDate, rateIndex, Words, Inner, deep, nextKind, block, ifOver, ended}
-use Rattle.grammar.specs.Script.{Entry, Outcome, accepted, refused as wrong, front, back, entryOf, onward, turn, upTo, from as fromByte, statements, words, ofTokens, readScript}
+use Rattle.grammar.specs.Grammar.{Edition, Language, Inner, grouped, sum, comparison, expression, items, arguments, method, postfixes, dateOf, aDate, rateIndex, deep, block, ifOver, ended}
+use Rattle.grammar.specs.Script.{Entry, Outcome, accepted, refused as wrong, front, back, entryOf, onward, turn, upTo, from as fromByte, statements, language, ofTokens, readScript}
 use Rattle.grammar.specs.Words.{rowOf, latestOf}
-use Rattle.grammar.proofs.Refusals.{Each, nothing, just, by-order}
+use Rattle.grammar.proofs.Refusals.{Each, nothing, just, Both, each-deep, by-order}
+use Rattle.grammar.proofs.GivesLaws.{Passing, Gives, Turned, forms, bind-gives, then-gives, next-gives, give-gives, if-gives, ask-gives, edition-gives, loop-gives}
 use Rattle.grammar.proofs.LatestLaws.{NoneOr, latest-had}
 
 -- ---- trees whose dates are counts
@@ -90,44 +91,7 @@ mutual
   part-counted (this p) (more-dated h hs) = has-counted p h
   part-counted (other p) (more-dated h hs) = part-counted p hs
 
--- ---- readers that give what passes a test
-
--- what is read passes it; a refusal does
-abbrev Passing : {A : Type 0} → (A → Type 0) → Out A → Type 0
-Passing P (ok a r) = P a
-Passing P (refused f p) = Unit {0}
-
-record Gives {A : Type 0} (P : A → Type 0) (m : Reader A) : Type 0 where
-  goes : (ts : List Token) → Passing P (m ts)
-
--- what a turn ends with passes it
-abbrev Turned : {A : Type 0} → (A → Type 0) → Turn A A → Type 0
-Turned P (again a) = P a
-Turned P (done a) = P a
-
--- ---- the forms that readers are made of
-
-module _ {A B : Type 0} {Q : B → Type 0} {f : A → Reader B} where
-  bind-gives : {m : Reader A} (P : A → Type 0) → Gives P m → ((a : A) → P a → Gives Q (f a)) → Gives Q (m >>= f)
-  unfolding _>>=_
-  bind-gives {m} P hm hf = record { goes = λ ts. go (m ts) (hm .goes ts) }
-    where
-      go : (o : Out A) → Passing P o → Passing Q (bind f o)
-      go (ok a r) h = hf a h .goes r
-      go (refused x p) h = tt
-
-  -- whatever is read first
-  then-gives : (m : Reader A) → ((a : A) → Gives Q (f a)) → Gives Q (m >>= f)
-  then-gives m hf = bind-gives (λ a. Unit {0}) (record { goes = λ ts. go (m ts) }) (λ a h. hf a)
-    where
-      go : (o : Out A) → Passing (λ a. Unit {0}) o
-      go (ok a r) = tt
-      go (refused x p) = tt
-
-module _ {A B : Type 0} {Q : B → Type 0} {k : Reader B} where
-  next-gives : (m : Reader A) → Gives Q k → Gives Q (m >> k)
-  unfolding _>>_
-  next-gives m hk = then-gives m (λ a. hk)
+-- ---- readers that give trees whose dates are counts
 
 module _ {B : Type 0} {Q : B → Type 0} where
   then-tree : {m : Reader Tree} {f : Tree → Reader B} → Gives Dated m → ((t : Tree) → Dated t → Gives Q (f t)) → Gives Q (m >>= f)
@@ -139,54 +103,7 @@ module _ {B : Type 0} {Q : B → Type 0} where
   then-date : {m : Reader ℕ} {f : ℕ → Reader B} → Gives Counted m → ((d : ℕ) → Counted d → Gives Q (f d)) → Gives Q (m >>= f)
   then-date hm hf = bind-gives Counted hm hf
 
-module _ {A : Type 0} {P : A → Type 0} where
-  give-gives : (a : A) → P a → Gives P (give a)
-  unfolding give
-  give-gives a h = record { goes = λ ts. h }
-
-  fail-gives : (n : ℕ) → Gives P (fail n)
-  unfolding fail
-  fail-gives n = record { goes = λ ts. tt }
-
-  failAt-gives : (t : Token) (n : ℕ) → Gives P (failAt t n)
-  unfolding failAt
-  failAt-gives t n = record { goes = λ ts. tt }
-
-  if-gives : (b : Bool) {m k : Reader A} → Gives P m → Gives P k → Gives P (if b then m else k)
-  if-gives true hm hk = hm
-  if-gives false hm hk = hk
-
-  ask-gives : (test : Token → Bool) {m k : Reader A} → Gives P m → Gives P k → Gives P (ask test m k)
-  unfolding ask
-  ask-gives test hm hk = record { goes = λ ts. if-gives (test (first ts)) hm hk .goes ts }
-
-  optional-gives : (s : String) (a : A) {m : Reader A} → P a → Gives P m → Gives P (optional s a m)
-  unfolding optional
-  optional-gives s a h hm = ask-gives (is s) (next-gives (the s) hm) (give-gives a h)
-
-  module _ {step : A → Reader (Turn A A)} (steps : (a : A) → P a → Gives (Turned P) (step a)) where
-    turns-gives : (n : ℕ) (a : A) → P a → (ts : List Token) → Passing P (turns n step a ts)
-    unfolding turns
-    turns-gives zero a h ts = tt
-    turns-gives (suc n) a h ts = go (turns-gives n) (step a ts) (steps a h .goes ts)
-      where
-        go : ((b : A) → P b → (r : List Token) → Passing P (turns n step b r)) → (o : Out (Turn A A)) → Passing (Turned P) o
-            → Passing P (follow (λ b ts′. turns n step b ts′) o)
-        go ih (ok (again b) r) g = ih b g r
-        go ih (ok (done b) r) g = g
-        go ih (refused x p) g = tt
-
-    loop-gives : (a : A) → P a → Gives P (loop step a)
-    unfolding loop
-    loop-gives a h = record { goes = λ ts. turns-gives (suc (length ts)) a h ts }
-
-  module _ {X : Type 0} {R : X → Type 0} {k : X → Reader A} where
-    deeper-gives : (t : Token) {o : Option X} → Each R o → ((x : X) → R x → Gives P (k x)) → Gives P (deeper t o k)
-    unfolding deeper
-    deeper-gives t nothing g = failAt-gives t 15
-    deeper-gives t (just h) g = g _ h
-
-ruleset laws = (then-tree, then-trees, then-date, then-gives, next-gives, give-gives, fail-gives, failAt-gives, if-gives, ask-gives, optional-gives, loop-gives, deeper-gives, unused-dated, node-dated, nil-dated, more-dated, snoc-dated, join-dated, none-counted)
+ruleset laws = (then-tree, then-trees, then-date, forms, unused-dated, node-dated, nil-dated, more-dated, snoc-dated, join-dated, none-counted)
 
 -- ---- the readers of the grammar
 
@@ -194,7 +111,7 @@ ruleset laws = (then-tree, then-trees, then-date, then-gives, next-gives, give-g
 abbrev Reads : Reader Tree → Type 0
 Reads m = Gives Dated m
 
-groupTurn-dated : (op : Token → Bool) (operand : Reader Tree) → Reads operand → (b : ℕ) (l : Tree) → Dated l → Gives (Turned Dated) (G.groupTurn op operand b l)
+groupTurn-dated : (op : Token → Bool) (operand : Reader Tree) → Reads operand → (b : ℕ) (l : Tree) → Dated l → Gives (Turned Dated Dated) (G.groupTurn op operand b l)
 unfolding G.groupTurn
 groupTurn-dated op operand h b l g = search laws depth 9
 
@@ -202,41 +119,30 @@ grouped-dated : (op : Token → Bool) (operand : Reader Tree) → Reads operand 
 unfolding grouped
 grouped-dated op operand h = then-gives peek λ t. then-tree h λ l g. loop-gives (groupTurn-dated op operand h _) l g
 
-sum-dated : (p : Reader Tree) → Reads p → Reads (sum p)
-unfolding sum
-sum-dated p h = search grouped-dated
+-- the operands that wait in a chain of `**`
+abbrev DatedWaiting : List (ℕ × Tree) → Type 0
+DatedWaiting [] = Unit {0}
+DatedWaiting (l ∷ ls) = Dated (l .1) × DatedWaiting ls
 
-comparison-dated : (p : Reader Tree) → Reads p → Reads (comparison p)
-unfolding comparison
-comparison-dated p h = search (laws, sum-dated) depth 12
+abbrev DatedChain : G.Chain → Type 0
+DatedChain c = Dated (c .1) × DatedWaiting (c .2)
 
-expression-dated : (p : Reader Tree) → Reads p → Reads (expression p)
-unfolding expression
-expression-dated p h = search (grouped-dated, comparison-dated)
+onto-dated : (r : Tree) (ls : List (ℕ × Tree)) → Dated r → DatedWaiting ls → Dated (G.onto r ls)
+onto-dated r [] h hs = h
+onto-dated r (l ∷ ls) h hs = onto-dated (G.binary 12 (l .0) (l .1) r) ls (unused-dated (more-dated (hs .0) (more-dated h nil-dated))) (hs .1)
 
-itemTurn-dated : (s : String) (p : Reader Tree) → Reads p → (es : Trees) → DatedAll es → Gives (Turned DatedAll) (G.itemTurn s p es)
-unfolding G.itemTurn
-itemTurn-dated s p h es g = search (laws, expression-dated) depth 12
+raiseTurn-dated : (operand : Reader Tree) → Reads operand → (c : G.Chain) → DatedChain c → Gives (Turned DatedChain Dated) (G.raiseTurn operand c)
+unfolding G.raiseTurn
+raiseTurn-dated operand h c g =
+    ask-gives (is "**") (next-gives _ (then-gives peek λ t. then-tree h λ r k. give-gives _ (k, g))) (give-gives _ (onto-dated (c .1) (c .2) (g .0) (g .1)))
 
-items-dated : (s : String) (p : Reader Tree) → Reads p → Gives DatedAll (items s p)
-unfolding items
-items-dated s p h = loop-gives (itemTurn-dated s p h) nil nil-dated
-
-arguments-dated : (o : Option (Reader Tree)) → Each Reads o → Gives DatedAll (arguments o)
-unfolding arguments
-arguments-dated o h = search (laws, items-dated) depth 12
+raised-dated : (operand : Reader Tree) → Reads operand → Reads (G.raised operand)
+unfolding G.raised
+raised-dated operand h = then-gives peek λ t. then-tree h λ l g. loop-gives {R = DatedChain} (raiseTurn-dated operand h) _ (g, tt)
 
 method-dated : (b : ℕ) (x : Tree) → Dated x → (m : Token) (es : Trees) → DatedAll es → Reads (method b x m es)
 unfolding method
 method-dated b x h m es hs = search laws depth 12
-
-postfixTurn-dated : (o : Option (Reader Tree)) → Each Reads o → (b : ℕ) (x : Tree) → Dated x → Gives (Turned Dated) (G.postfixTurn o b x)
-unfolding G.postfixTurn
-postfixTurn-dated o h b x g = search (laws, arguments-dated, method-dated, expression-dated) depth 12
-
-postfixes-dated : (o : Option (Reader Tree)) → Each Reads o → (b : ℕ) (x : Tree) → Dated x → Reads (postfixes o b x)
-unfolding postfixes
-postfixes-dated o h b = loop-gives (postfixTurn-dated o h b)
 
 dateOf-counted : (t : Token) → Gives Counted (dateOf t)
 unfolding dateOf
@@ -254,31 +160,64 @@ rateIndex-dated : (b : ℕ) → Reads (rateIndex b)
 unfolding rateIndex
 rateIndex-dated b = search (laws, dateOf-counted) depth 20
 
-blockTurn-dated : (s : Reader Tree) → Reads s → (ss : Trees) → DatedAll ss → Gives (Turned DatedAll) (G.blockTurn s ss)
+blockTurn-dated : (s : Reader Tree) → Reads s → (ss : Trees) → DatedAll ss → Gives (Turned DatedAll DatedAll) (G.blockTurn s ss)
 unfolding G.blockTurn
 blockTurn-dated s h ss g = search laws depth 9
 
 block-dated : (s : Reader Tree) → Reads s → Gives DatedAll (block s)
 unfolding block
-block-dated s h = search (laws, blockTurn-dated) depth 9
+block-dated s h =
+    next-gives (the "{") (then-trees (loop-gives (blockTurn-dated s h) nil nil-dated) λ ss g. next-gives (the "}") (give-gives ss g))
 
-record InnerReads (i : Inner) : Type 0 where
-  statement : Reads (i .statement)
-  primary : Reads (i .primary)
+module _ (W : Language) where
+  power-dated : (p : Reader Tree) → Reads p → Reads (G.power W p)
+  unfolding G.power
+  power-dated p h = search (edition-gives, grouped-dated, raised-dated)
 
-ifOver-dated : (i : Inner) → InnerReads i → Reads (ifOver i)
-unfolding ifOver
-ifOver-dated i h = search (laws, expression-dated, block-dated) depth 16
+  signed-dated : (p : Reader Tree) → Reads p → Reads (G.signed W p)
+  unfolding G.signed
+  signed-dated p h = search (edition-gives, power-dated)
 
-ended-dated : (p : Reader Tree) → Reads p → Reads (ended p)
-unfolding ended
-ended-dated p h = search (laws, expression-dated) depth 9
+  sum-dated : (p : Reader Tree) → Reads p → Reads (sum W p)
+  unfolding sum
+  sum-dated p h = search (grouped-dated, power-dated)
 
-each-deep : (o : Option Inner) → Each InnerReads o → Each Reads (deep o)
-each-deep none nothing = nothing
-each-deep (some i) (just h) = just (h .primary)
+  comparison-dated : (p : Reader Tree) → Reads p → Reads (comparison W p)
+  unfolding comparison
+  comparison-dated p h = search (laws, sum-dated) depth 12
 
-module _ (W : Words) where
+  expression-dated : (p : Reader Tree) → Reads p → Reads (expression W p)
+  unfolding expression
+  expression-dated p h = search (edition-gives, grouped-dated, comparison-dated)
+
+  itemTurn-dated : (s : String) (p : Reader Tree) → Reads p → (es : Trees) → DatedAll es → Gives (Turned DatedAll DatedAll) (G.itemTurn W s p es)
+  unfolding G.itemTurn
+  itemTurn-dated s p h es g = search (laws, expression-dated) depth 12
+
+  items-dated : (s : String) (p : Reader Tree) → Reads p → Gives DatedAll (items W s p)
+  unfolding items
+  items-dated s p h = loop-gives (itemTurn-dated s p h) nil nil-dated
+
+  arguments-dated : (o : Option (Reader Tree)) → Each Reads o → Gives DatedAll (arguments W o)
+  unfolding arguments
+  arguments-dated o h = search (laws, items-dated) depth 12
+
+  postfixTurn-dated : (o : Option (Reader Tree)) → Each Reads o → (b : ℕ) (x : Tree) → Dated x → Gives (Turned Dated Dated) (G.postfixTurn W o b x)
+  unfolding G.postfixTurn
+  postfixTurn-dated o h b x g = search (laws, arguments-dated, method-dated, expression-dated) depth 12
+
+  postfixes-dated : (o : Option (Reader Tree)) → Each Reads o → (b : ℕ) (x : Tree) → Dated x → Reads (postfixes W o b x)
+  unfolding postfixes
+  postfixes-dated o h b = loop-gives (postfixTurn-dated o h b)
+
+  ifOver-dated : (i : Inner) → Both Reads i → Reads (ifOver W i)
+  unfolding ifOver
+  ifOver-dated i h = search (laws, expression-dated, block-dated) depth 16
+
+  ended-dated : (p : Reader Tree) → Reads p → Reads (ended W p)
+  unfolding ended
+  ended-dated p h = search (laws, expression-dated) depth 9
+
   equity-dated : (b : ℕ) (t : Token) → Reads (G.equity W b t)
   unfolding G.equity
   equity-dated b t = search (laws, aDate-counted) depth 8
@@ -307,7 +246,7 @@ module _ (W : Words) where
   unfolding G.name
   name-dated o h t = search (laws, call-dated, spot-dated, df-dated, rateIndex-dated, named-dated, postfixes-dated) depth 10
 
-  payTurn-dated : (p : Reader Tree) → Reads p → (es : Trees) → DatedAll es → Gives (Turned DatedAll) (G.payTurn W p es)
+  payTurn-dated : (p : Reader Tree) → Reads p → (es : Trees) → DatedAll es → Gives (Turned DatedAll DatedAll) (G.payTurn W p es)
   unfolding G.payTurn
   payTurn-dated p h es g = search (laws, expression-dated) depth 8
 
@@ -321,11 +260,11 @@ module _ (W : Words) where
 
   minus-dated : (o : Option (Reader Tree)) → Each Reads o → (t : Token) → Reads (G.minus W o t)
   unfolding G.minus G.constant
-  minus-dated o h t = search laws depth 9
+  minus-dated o h t = search (laws, signed-dated) depth 9
 
   primaryOver-dated : (o : Option (Reader Tree)) → Each Reads o → Reads (G.primaryOver W o)
   unfolding G.primaryOver G.constant
-  primaryOver-dated o h = search (laws, expression-dated, items-dated, postfixes-dated, minus-dated, pays-dated, name-dated) depth 24
+  primaryOver-dated o h = search (laws, expression-dated, signed-dated, items-dated, postfixes-dated, minus-dated, pays-dated, name-dated) depth 24
 
   primary-dated : (d : ℕ) → Reads (G.primary W d)
   unfolding G.primary
@@ -336,7 +275,7 @@ module _ (W : Words) where
   unfolding G.target
   target-dated = search (laws, named-dated) depth 9
 
-  forOver-dated : (i : Inner) → InnerReads i → Reads (G.forOver W i)
+  forOver-dated : (i : Inner) → Both Reads i → Reads (G.forOver W i)
   unfolding G.forOver
   forOver-dated i h = search (laws, expression-dated, block-dated) depth 16
 
@@ -360,13 +299,13 @@ module _ (W : Words) where
   unfolding G.nameFirst
   nameFirst-dated p o h g k = search (if-gives, assign-dated, compound-dated, assignPaid-dated, ended-dated)
 
-  plain-dated : (p : Reader Tree) (o : Option Inner) → Reads p → Each InnerReads o → Reads (G.plain W p o)
+  plain-dated : (p : Reader Tree) (o : Option Inner) → Reads p → Each (Both Reads) o → Reads (G.plain W p o)
   unfolding G.plain
   plain-dated p o h g = search (laws, ifOver-dated, forOver-dated, paid-dated, each-deep, ended-dated) depth 9
 
-  statementOver-dated : (p : Reader Tree) (o : Option Inner) → Reads p → Each InnerReads o → Reads (G.statementOver W p o)
+  statementOver-dated : (p : Reader Tree) (o : Option Inner) → Reads p → Each (Both Reads) o → Reads (G.statementOver W p o)
   unfolding G.statementOver
-  statementOver-dated p o h g = record { goes = λ ts. if-gives (is "name" (first ts)) (nameFirst-dated p (deep o) h (each-deep o g) (nextKind ts)) (plain-dated p o h g) .goes ts }
+  statementOver-dated p o h g = record { goes = λ ts. if-gives (is "name" (first ts)) (nameFirst-dated p (deep o) h (each-deep o g) (G.nextKind W ts)) (plain-dated p o h g) .goes ts }
 
   statement-dated : (d : ℕ) → Reads (G.statement W d)
   unfolding G.statement
@@ -391,7 +330,7 @@ front-sound : (e : Entry) → Dated (e .tree) → (o : Outcome) → Sound o → 
 front-sound e h (accepted es) hs = (h, hs)
 front-sound e h (wrong f p) hs = tt
 
-module _ (W : Words) where
+module _ (W : Language) where
   turn-sound : (k : ℕ → List Token → Outcome) → ((b : ℕ) (ts : List Token) → Sound (k b ts)) → (b : ℕ) (ts : List Token) → Sound (turn W k b ts)
   unfolding turn onward entryOf
   turn-sound k h b ts = go (is "End" (first ts)) (G.statement W mostDepth vs) (statement-dated W mostDepth .goes vs)
@@ -415,17 +354,17 @@ module _ (W : Words) where
   upTo-sound zero b ts = tt
   upTo-sound (suc n) b ts = turn-sound (λ b′ ts′. upTo W n b′ ts′) (upTo-sound n) b (skip ts)
 
-ofTokens-sound : (l : Lists) (n : ℕ) (o : Lexed) → Sound (ofTokens l n o)
+ofTokens-sound : (E : Edition) (l : Lists) (n : ℕ) (o : Lexed) → Sound (ofTokens E l n o)
 unfolding ofTokens statements fromByte
-ofTokens-sound l n (lexed ts) = go (ltb mostTokens (count counts ts - 1))
+ofTokens-sound E l n (lexed ts) = go (ltb mostTokens (count counts ts - 1))
   where
-    go : (b : Bool) → Sound (if b then wrong 7 n else statements (words l) ts)
+    go : (b : Bool) → Sound (if b then wrong 7 n else statements (language E l) ts)
     go true = tt
-    go false = upTo-sound (words l) (suc (length ts)) 0 ts
-ofTokens-sound l n (faulty f p) = tt
+    go false = upTo-sound (language E l) (suc (length ts)) 0 ts
+ofTokens-sound E l n (faulty f p) = tt
 
-read-sound : (l : Lists) (bs : List ℕ) → Sound (readScript l bs)
-read-sound l bs = by-order Sound l bs tt tt λ h. ofTokens-sound l (length (script bs)) (tokens (script bs))
+read-sound : (E : Edition) (l : Lists) (bs : List ℕ) → Sound (readScript E l bs)
+read-sound E l bs = by-order Sound E l bs tt tt λ h. ofTokens-sound E l (length (script bs)) (tokens (script bs))
 
 -- ---- what is read has true dates
 
@@ -455,11 +394,11 @@ unfolding latestOf
 latest-most [] h = omega arith
 latest-most (e ∷ es) h = omega (arith, tree-most (e .tree) (h .0), latest-most es (h .1))
 
-module _ (l : Lists) (bs : List ℕ) {es : List Entry} (e : readScript l bs ≡ accepted es) where
+module _ (E : Edition) (l : Lists) (bs : List ℕ) {es : List Entry} (e : readScript E l bs ≡ accepted es) where
   -- each date of a statement is 0, where none is written, or the count of a true day
   pub read-dates : (t : Entry) → List·Memᴰ t es → (x : ℕ) → Has x (t .tree) → NoneOr TrueDay x
-  read-dates t m x h = counted-day (has-counted h (entry-dated m (subst Sound e (read-sound l bs))))
+  read-dates t m x h = counted-day (has-counted h (entry-dated m (subst Sound e (read-sound E l bs))))
 
   -- so the script's latest date is not past the last day
   pub read-latest : latestOf (map rowOf es) ≤ lastCount
-  read-latest = latest-most es (subst Sound e (read-sound l bs))
+  read-latest = latest-most es (subst Sound e (read-sound E l bs))

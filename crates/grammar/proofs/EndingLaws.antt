@@ -13,11 +13,11 @@ use Rattle.tokens.specs.Text.{if_then_else_}
 use Rattle.tokens.specs.Names.{place}
 use Rattle.tokens.specs.Tokens.{Token, code, counts}
 use Rattle.grammar.specs.Trees.{Tree, Trees}
-use Rattle.grammar.specs.Readers.{Out, ok, refused, Reader, bind, _>>=_, _>>_, Turn, again, done, follow, loop, first, is, skip, give, fail, failAt, ask, peek, read, the, lastOf, closes}
+use Rattle.grammar.specs.Readers.{Out, ok, refused, Reader, bind, _>>=_, _>>_, Turn, again, done, follow, loop, first, is, skip, give, fail, failAt, ask, look, peek, read, the, lastOf, closes}
 use Rattle.grammar.specs.Grammar as G
-use Rattle.grammar.specs.Grammar.{deeper, optional, grouped, sum, comparison, expression, items, arguments, method, postfixes, dateOf, aDate, content, df, rateIndex, Words}
+use Rattle.grammar.specs.Grammar.{deeper, optional, grouped, sum, comparison, expression, items, arguments, method, postfixes, dateOf, aDate, content, df, rateIndex, Edition, one, two, inEdition, Language}
 use Rattle.grammar.proofs.Laws.{Near, near-follows, the-law, Law, Reads, cost, loop-eq, left-shorter, lead, lead-skip}
-use Rattle.grammar.proofs.GrammarLaws.{Moves, Each, nothing, just, grouped-law, comparison-law, groupTurn-law, itemTurn-law, postfixTurn-law, payTurn-law, primary-law}
+use Rattle.grammar.proofs.GrammarLaws.{Moves, Each, nothing, just, grouped-law, power-law, comparison-law, groupTurn-law, raiseTurn-law, itemTurn-law, postfixTurn-law, payTurn-law, primary-law}
 
 -- no expression ends in this
 abbrev pub bad : Token → Bool
@@ -111,6 +111,10 @@ module _ {A : Type 0} where
   pub ask-ends : {K : List Token → Type 0} (test : Token → Bool) {m n : Reader A} → Ends K m → Ends K n → Ends K (ask test m n)
   unfolding ask
   ask-ends test hm hn ts a r e = if-ends (test (first ts)) hm hn ts a r e
+
+  pub look-ends : {K : List Token → Type 0} (test : List Token → Bool) {m n : Reader A} → Ends K m → Ends K n → Ends K (look test m n)
+  unfolding look
+  look-ends test hm hn ts a r e = if-ends (test ts) hm hn ts a r e
 
 module _ {B : Type 0} {f : Token → Reader B} where
   pub peek-ends : {K : List Token → Type 0} → ((t : Token) → Ends K (f t)) → Ends K (peek >>= f)
@@ -251,42 +255,21 @@ unfolding grouped
 grouped-firm op p h f =
     peek-ends λ t. firm-fine f λ l. loop-fine (groupTurn-law op p h _) (groupTurn-fine op p f _) l
 
-pub sum-firm : (p : Reader Tree) → Moves p → Ends Firm p → Ends Firm (sum p)
-unfolding sum
-sum-firm p h f = search (grouped-firm, grouped-law)
+raiseTurn-fine : (p : Reader Tree) → Ends Firm p → (c : G.Chain) → Ends Fine (G.raiseTurn p c)
+unfolding G.raiseTurn
+raiseTurn-fine p f c = ask-ends (is "**") (firm-is-fine (next-firm read-some (peek-ends λ t. firm-fine f λ r. fine-give _))) (fine-give _)
 
-pub comparison-firm : (p : Reader Tree) → Moves p → Ends Firm p → Ends Firm (comparison p)
-unfolding comparison
-comparison-firm p h f =
-    peek-ends λ s. firm-fine (sum-firm p h f) λ l. ask-ends _ (firm-is-fine (then-firm read-some λ t. firm-fine (sum-firm p h f) λ r. fine-give _)) (fine-give _)
+pub raised-firm : (p : Reader Tree) → Moves p → Ends Firm p → Ends Firm (G.raised p)
+unfolding G.raised
+raised-firm p h f = peek-ends λ t. firm-fine f λ l. loop-fine (raiseTurn-law p h) (raiseTurn-fine p f) _
 
-pub expression-firm : (p : Reader Tree) → Moves p → Ends Firm p → Ends Firm (expression p)
-unfolding expression
-expression-firm p h f = search (grouped-firm, comparison-firm, comparison-law)
-
-itemTurn-fine : (s : String) (p : Reader Tree) → Moves p → Ends Firm p → (es : Trees) → Ends Fine (G.itemTurn s p es)
-unfolding G.itemTurn
-itemTurn-fine s p h f es = search (ends, firm-is-fine firm-comma, firm-is-fine (expression-firm p h f)) depth 9
-
-pub items-fine : (s : String) (p : Reader Tree) → Moves p → Ends Firm p → Ends Fine (items s p)
-unfolding items
-items-fine s p h f = loop-fine (itemTurn-law s p h) (itemTurn-fine s p h f) _
-
-items-some : (s : String) (p : Reader Tree) → Moves p → Ends Firm p → Ends Some (items s p)
-items-some s p h f = fine-is-some (items-fine s p h f)
-
-expression-some : (p : Reader Tree) → Moves p → Ends Firm p → Ends Some (expression p)
-expression-some p h f = firm-is-some (expression-firm p h f)
-
-expression-fine : (p : Reader Tree) → Moves p → Ends Firm p → Ends Fine (expression p)
-expression-fine p h f = firm-is-fine (expression-firm p h f)
+module _ {A : Type 0} {K : List Token → Type 0} where
+  pub edition-ends : (e : Edition) {m n : Reader A} → Ends K m → Ends K n → Ends K (inEdition e m n)
+  edition-ends one hm hn = hm
+  edition-ends two hm hn = hn
 
 -- where the last is read by `the`
 ruleset firm-last = (peek-ends, if-ends, deeper-ends, fail-ends, failAt-ends, next-firm, then-firm, firm-next, read-some, fine-give)
-
-pub arguments-firm : (o : Option (Reader Tree)) → EachFirm o → Ends Firm (arguments o)
-unfolding arguments
-arguments-firm o g = search (firm-last, firm-close, items-some) depth 12
 
 pub method-fine : (b : ℕ) (x : Tree) (m : Token) (es : Trees) → Ends Fine (method b x m es)
 unfolding method
@@ -295,19 +278,6 @@ method-fine b x m es = search ends depth 9
 pub each-moves : (o : Option (Reader Tree)) → EachFirm o → Each o
 each-moves none shallow = nothing
 each-moves (some p) (inside m f) = just m
-
-postfixTurn-fine : (o : Option (Reader Tree)) → EachFirm o → (b : ℕ) (x : Tree) → Ends Fine (G.postfixTurn o b x)
-unfolding G.postfixTurn
-postfixTurn-fine o g b x =
-    peek-ends λ t. if-ends (is "." t)
-    (firm-is-fine (next-firm read-some (then-firm (firm-is-some firm-name) λ m. firm-fine (arguments-firm o g) λ es. fine-fine (method-fine b x m es) λ y. fine-give _)))
-    (if-ends (is "[" t)
-    (deeper-ends t o g λ p h f. firm-is-fine (next-firm read-some (then-firm (expression-some p h f) λ i. firm-next firm-bracket (fine-give _))))
-    (fine-give (done x)))
-
-pub postfixes-fine : (o : Option (Reader Tree)) → EachFirm o → (b : ℕ) (x : Tree) → Ends Fine (postfixes o b x)
-unfolding postfixes
-postfixes-fine o g b x = loop-fine (postfixTurn-law o (each-moves o g) b) (postfixTurn-fine o g b) x
 
 dateOf-fine : (t : Token) → Ends Fine (dateOf t)
 unfolding dateOf
@@ -335,7 +305,62 @@ rateIndex-firm b =
     next-firm (firm-is-some firm-comma) (then-firm (firm-is-some firm-string) λ u. firm-next firm-close
     (fine-fine (dateOf-fine t) λ a. fine-fine (dateOf-fine u) λ b. fine-give _))))
 
-module _ (W : Words) where
+module _ (W : Language) where
+  pub power-firm : (p : Reader Tree) → Moves p → Ends Firm p → Ends Firm (G.power W p)
+  unfolding G.power
+  power-firm p h f = search (edition-ends, grouped-firm, raised-firm)
+
+  pub signed-firm : (p : Reader Tree) → Moves p → Ends Firm p → Ends Firm (G.signed W p)
+  unfolding G.signed
+  signed-firm p h f = search (edition-ends, power-firm)
+
+  pub sum-firm : (p : Reader Tree) → Moves p → Ends Firm p → Ends Firm (sum W p)
+  unfolding sum
+  sum-firm p h f = search (grouped-firm, grouped-law, power-firm, power-law)
+
+  pub comparison-firm : (p : Reader Tree) → Moves p → Ends Firm p → Ends Firm (comparison W p)
+  unfolding comparison
+  comparison-firm p h f =
+      peek-ends λ s. firm-fine (sum-firm p h f) λ l. ask-ends _ (firm-is-fine (then-firm read-some λ t. firm-fine (sum-firm p h f) λ r. fine-give _)) (fine-give _)
+
+  pub expression-firm : (p : Reader Tree) → Moves p → Ends Firm p → Ends Firm (expression W p)
+  unfolding expression
+  expression-firm p h f = search (edition-ends, grouped-firm, grouped-law, comparison-firm, comparison-law)
+
+  itemTurn-fine : (s : String) (p : Reader Tree) → Moves p → Ends Firm p → (es : Trees) → Ends Fine (G.itemTurn W s p es)
+  unfolding G.itemTurn
+  itemTurn-fine s p h f es = search (ends, firm-is-fine firm-comma, firm-is-fine (expression-firm p h f)) depth 9
+
+  pub items-fine : (s : String) (p : Reader Tree) → Moves p → Ends Firm p → Ends Fine (items W s p)
+  unfolding items
+  items-fine s p h f = loop-fine (itemTurn-law W s p h) (itemTurn-fine s p h f) _
+
+  items-some : (s : String) (p : Reader Tree) → Moves p → Ends Firm p → Ends Some (items W s p)
+  items-some s p h f = fine-is-some (items-fine s p h f)
+
+  expression-some : (p : Reader Tree) → Moves p → Ends Firm p → Ends Some (expression W p)
+  expression-some p h f = firm-is-some (expression-firm p h f)
+
+  expression-fine : (p : Reader Tree) → Moves p → Ends Firm p → Ends Fine (expression W p)
+  expression-fine p h f = firm-is-fine (expression-firm p h f)
+
+  pub arguments-firm : (o : Option (Reader Tree)) → EachFirm o → Ends Firm (arguments W o)
+  unfolding arguments
+  arguments-firm o g = search (firm-last, firm-close, items-some) depth 12
+
+  postfixTurn-fine : (o : Option (Reader Tree)) → EachFirm o → (b : ℕ) (x : Tree) → Ends Fine (G.postfixTurn W o b x)
+  unfolding G.postfixTurn
+  postfixTurn-fine o g b x =
+      peek-ends λ t. if-ends (is "." t)
+      (firm-is-fine (next-firm read-some (then-firm (firm-is-some firm-name) λ m. firm-fine (arguments-firm o g) λ es. fine-fine (method-fine b x m es) λ y. fine-give _)))
+      (if-ends (is "[" t)
+      (deeper-ends t o g λ p h f. firm-is-fine (next-firm read-some (then-firm (expression-some p h f) λ i. firm-next firm-bracket (fine-give _))))
+      (fine-give (done x)))
+
+  pub postfixes-fine : (o : Option (Reader Tree)) → EachFirm o → (b : ℕ) (x : Tree) → Ends Fine (postfixes W o b x)
+  unfolding postfixes
+  postfixes-fine o g b x = loop-fine (postfixTurn-law W o (each-moves o g) b) (postfixTurn-fine o g b) x
+
   currencyOf-fine : (t : Token) → Ends Fine (G.currencyOf W t)
   unfolding G.currencyOf
   currencyOf-fine t = search ends depth 6
@@ -398,7 +423,7 @@ module _ (W : Words) where
 
   minus-firm : (o : Option (Reader Tree)) → EachFirm o → (t : Token) → Ends Firm (G.minus W o t)
   unfolding G.minus
-  minus-firm o g s = search (firm-last, firm-number, firm-fine) depth 9
+  minus-firm o g s = look-ends (G.lone W) (search (firm-number, firm-fine, fine-give)) (search (firm-last, signed-firm, firm-fine) depth 9)
 
   primaryOver-firm : (o : Option (Reader Tree)) → EachFirm o → Ends Firm (G.primaryOver W o)
   unfolding G.primaryOver
@@ -421,6 +446,7 @@ module _ (W : Words) where
         firm-string,
         firm-name,
         expression-some,
+        signed-firm,
         items-some,
         minus-firm,
         pays-firm,

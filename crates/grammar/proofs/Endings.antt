@@ -8,7 +8,7 @@ use Rattle.tokens.specs.Tokens.{Token, lexed, final, code, counts, endOf}
 use Rattle.tokens.proofs.Shapes.{Behind, token-end}
 use Rattle.tokens.proofs.Closers.{closer, token-closes}
 use Rattle.grammar.specs.Readers.{first, is, skip, lastOf, closes}
-use Rattle.grammar.specs.Grammar.{Words}
+use Rattle.grammar.specs.Grammar.{Language}
 use Rattle.grammar.specs.Script.{Entry}
 use Rattle.grammar.proofs.AmendLaws.{None, from-end}
 use Rattle.grammar.proofs.ReachLaws.{Ahead, ahead, none-tokens, end-last, last-last}
@@ -28,7 +28,7 @@ snoc-of (x ∷ ns) = go (snoc-of ns)
     go (nil h) = snoc [] x (ap {B = List Entry} (λ l. x ∷ l) h)
     go (snoc es e h) = snoc (x ∷ es) e (ap {B = List Entry} (λ l. x ∷ l) h)
 
-module _ (W : Words) where
+module _ (W : Language) where
   -- the last token of a text is the last statement's
   pub record LastToken (n : List ℕ) (toks : List Token) (e : Entry) : Type 0 where
     pub ends : endOf 0 toks ≡ e .end

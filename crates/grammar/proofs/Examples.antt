@@ -11,7 +11,8 @@ use Rattle.tokens.specs.Places.{line, column}
 use Rattle.tokens.specs.Names.{Lists}
 use Rattle.grammar.specs.Sizes.{recordRoom, statementRoom}
 use Rattle.grammar.specs.Trees.{Tree, Trees, node, nil, _▹_, fields}
-use Rattle.grammar.specs.Script.{Entry, Outcome, accepted, refused, readScript, nodes, tokensOf}
+use Rattle.grammar.specs.Grammar.{Edition, one, two}
+use Rattle.grammar.specs.Script.{Entry, Outcome, accepted, refused, readScript, reading, nodes, tokensOf}
 use Rattle.grammar.specs.Words.{wordsOf, directoryOf}
 use Rattle.grammar.specs.Computing.{computing}
 
@@ -74,13 +75,13 @@ own : Lists
 unfolding computing
 own = record { reserved = []; currencies = bytes "USD\nEUR\n"; counters = [] }
 
--- every script of a table is read as is said
-check : List (String × Said) → Bool
+-- every script of a table is read in an edition as is said
+check : Edition → List (String × Said) → Bool
 unfolding holds computing own
-check [] = true
-check (r ∷ rs) = let bs = bytes (r .0) in elim (holds bs (readScript own bs) (r .1)) [ true ↦ check rs | false ↦ false ]
+check e [] = true
+check e (r ∷ rs) = let bs = bytes (r .0) in elim (holds bs (readScript e own bs) (r .1)) [ true ↦ check e rs | false ↦ false ]
 
--- ---- proved readings
+-- ---- proved readings, of edition one
 
 -- P1 to P12, in this order
 abbrev proved : List (String × Said)
@@ -99,11 +100,19 @@ proved =
     ∷ ("", reads "")
     ∷ []
 
-readings : T (check proved)
+-- a call's name too
+abbrev broken : List (String × Said)
+broken = ("ln\n= 1;", refuses 8 3) ∷ ("Spot\n= 1;", refuses 8 5) ∷ []
+
+readings : T (check one proved)
 unfolding check
 readings = tt
 
--- the paper's run examples, and others
+readings₁ : T (check one broken)
+unfolding check
+readings₁ = tt
+
+-- the paper's run examples, and others, in either edition
 abbrev others : List (String × Said)
 others =
     ("x = a == b == c;", refuses 8 11)
@@ -154,11 +163,11 @@ others =
     ∷ ("x = 1 and 2 or not 3;", refuses 8 15)
     ∷ []
 
-readings₂ : T (check others)
+readings₂ : T (check one others) × T (check two others)
 unfolding check
-readings₂ = tt
+readings₂ = (tt, tt)
 
--- what is easily misread
+-- what is easily misread, in either edition
 abbrev closely : List (String × Said)
 closely =
     ("RateIndex(\"a\",\"bad\",\"bad\" 1);", refuses 8 26)
@@ -192,8 +201,6 @@ closely =
     ∷ ("pays 1e5;", reads "Pays(1,e5) ")
     ∷ ("Spot += 1; Df pays; for min in x {}", reads "Assign(Spot,Add(Spot,1)) Assign(Df,Add(Df,Pays())) ForEach(x) ")
     ∷ ("ln;", refuses 8 2)
-    ∷ ("ln\n= 1;", refuses 8 3)
-    ∷ ("Spot\n= 1;", refuses 8 5)
     ∷ ("1.5.mean();", refuses 5 0)
     ∷ ("1.mean();", refuses 8 2)
     ∷ ("x.5;", refuses 8 2)
@@ -221,17 +228,88 @@ closely =
     ∷ ("x = ((((((((((((((((((((((((((((((((ln(", refuses 15 38)
     ∷ []
 
-readings₃ : T (check closely)
+readings₃ : T (check one closely) × T (check two closely)
 unfolding check
-readings₃ = tt
+readings₃ = (tt, tt)
+
+-- ---- edition two
+
+-- `**` groups right and binds tighter than a sign; `and` binds tighter than `or`; a line break after a name does not matter
+abbrev second : List (String × Said)
+second =
+    ("x = 2**3**2;", reads "Assign(x,Pow(2,Pow(3,2))) ")
+    ∷ ("a and b or c and d;", reads "Or(And(a,b),And(c,d)) ")
+    ∷ ("-a**b;", reads "UnaryMinus(Pow(a,b)) ")
+    ∷ ("2**-3;", reads "Pow(2,-3) ")
+    ∷ ("--2;", reads "UnaryMinus(-2) ")
+    ∷ ("+2**2;", reads "Pow(2,2) ")
+    ∷ ("x = 2**-3**2;", reads "Assign(x,Pow(2,UnaryMinus(Pow(3,2)))) ")
+    ∷ ("x = -2**2;", reads "Assign(x,UnaryMinus(Pow(2,2))) ")
+    ∷ ("x = -2*3;", reads "Assign(x,Multiply(-2,3)) ")
+    ∷ ("x = -(2)**2;", reads "Assign(x,UnaryMinus(Pow(2,2))) ")
+    ∷ ("x = -2\n**2;", reads "Assign(x,UnaryMinus(Pow(2,2))) ")
+    ∷ ("x = - -2;", reads "Assign(x,UnaryMinus(-2)) ")
+    ∷ ("x = --2**2;", reads "Assign(x,UnaryMinus(UnaryMinus(Pow(2,2)))) ")
+    ∷ ("x = +2**-3;", reads "Assign(x,Pow(2,-3)) ")
+    ∷ ("x = 2**+3**2;", reads "Assign(x,Pow(2,Pow(3,2))) ")
+    ∷ ("x = 2**-a**-b**c;", reads "Assign(x,Pow(2,UnaryMinus(Pow(a,UnaryMinus(Pow(b,c)))))) ")
+    ∷ ("x = a**b.mean()**-c[0];", reads "Assign(x,Pow(a,Pow(Mean(b),UnaryMinus(Index(c,0))))) ")
+    ∷ ("x = (2**3)**2;", reads "Assign(x,Pow(Pow(2,3),2)) ")
+    ∷ ("x = -2**2*-3 - -1;", reads "Assign(x,Subtract(Multiply(UnaryMinus(Pow(2,2)),-3),-1)) ")
+    ∷ ("x = pow(2,3)**2/4**5;", reads "Assign(x,Divide(Pow(Pow(2,3),2),Pow(4,5))) ")
+    ∷ ("pays 2**3 -2 (a)**2;", reads "Pays(Subtract(Pow(2,3),2),Pow(a,2)) ")
+    ∷ ("x = 2**;", refuses 8 7)
+    ∷ ("x = 2***3;", refuses 8 7)
+    ∷ ("x = a or b and c;", reads "Assign(x,Or(a,And(b,c))) ")
+    ∷ ("x = a and b or c and d or e;", reads "Assign(x,Or(Or(And(a,b),And(c,d)),e)) ")
+    ∷ ("x = (a or b) and c;", reads "Assign(x,And(Or(a,b),c)) ")
+    ∷ ("x = a == b and c < d or e;", reads "Assign(x,Or(And(Equal(a,b),Inferior(c,d)),e)) ")
+    ∷ ("x\n= 1;", reads "Assign(x,1) ")
+    ∷ ("x\n\n+= 1;", reads "Assign(x,Add(x,1)) ")
+    ∷ ("x # c\npays 1;", reads "Assign(x,Add(x,Pays(1))) ")
+    ∷ ("ln\n= 1; Spot\n= 2;", reads "Assign(ln,1) Assign(Spot,2) ")
+    ∷ ("x\n== 1;", reads "Equal(x,1) ")
+    ∷ ("if a\n{ b\n= 2; }", reads "If0(a,Assign(b,2)) ")
+    ∷ ("x = --------------------------------2**2;", reads "Assign(x,UnaryMinus(UnaryMinus(UnaryMinus(UnaryMinus(UnaryMinus(UnaryMinus(UnaryMinus(UnaryMinus(UnaryMinus(UnaryMinus(UnaryMinus(UnaryMinus(UnaryMinus(UnaryMinus(UnaryMinus(UnaryMinus(UnaryMinus(UnaryMinus(UnaryMinus(UnaryMinus(UnaryMinus(UnaryMinus(UnaryMinus(UnaryMinus(UnaryMinus(UnaryMinus(UnaryMinus(UnaryMinus(UnaryMinus(UnaryMinus(UnaryMinus(UnaryMinus(Pow(2,2)))))))))))))))))))))))))))))))))) ")
+    ∷ ("x = ---------------------------------2**2;", refuses 15 36)
+    ∷ ("x = ((((((((((((((((((((((((((((((((-2**2", refuses 15 36)
+    ∷ ("x = ((((((((((((((((((((((((((((((((2**-2))))))))))))))))))))))))))))))));", reads "Assign(x,Pow(2,-2)) ")
+    ∷ ("x = ((((((((((((((((((((((((((((((((2**-2**2", refuses 15 39)
+    ∷ ("x = ((((((((((((((((((((((((((((((((2**+2", refuses 15 39)
+    ∷ []
+
+readings-two : T (check two second)
+unfolding check
+readings-two = tt
+
+-- the same bytes so many times
+times : ℕ → List ℕ → List ℕ
+times zero bs = []
+times (suc n) bs = bs ++ times n bs
+
+-- how many records a script has; its refusal's number and place where it is refused
+records-of : Edition → List ℕ → ℕ × ℕ
+unfolding computing own
+records-of e bs = told (readScript e own bs)
+  where
+    told : Outcome → ℕ × ℕ
+    told (accepted es) = (nodes es, 0)
+    told (refused n p) = (n, p)
+
+-- A chain of `**` is not counted for depth; each sign in it is: 32 and 33 of them
+chains : (records-of two (bytes "x = 1" ++ (times 200 (bytes "**1") ++ bytes ";")) ≡ (403, 0))
+    × (records-of two (bytes "x = " ++ (times 32 (bytes "-a**") ++ bytes "a;")) ≡ (99, 0))
+    × (records-of two (bytes "x = " ++ (times 33 (bytes "-a**") ++ bytes "a;")) ≡ (15, 132))
+unfolding records-of times computing own
+chains = (refl, refl, refl)
 
 -- ---- readings to rule out
 
--- no script of a table is read so
-never : List (String × String) → Bool
+-- no script of a table is read so in an edition
+never : Edition → List (String × String) → Bool
 unfolding holds computing own
-never [] = true
-never (r ∷ rs) = let bs = bytes (r .0) in elim (holds bs (readScript own bs) (reads (r .1))) [ true ↦ false | false ↦ never rs ]
+never e [] = true
+never e (r ∷ rs) = let bs = bytes (r .0) in elim (holds bs (readScript e own bs) (reads (r .1))) [ true ↦ false | false ↦ never e rs ]
 
 -- grouping `**` to the right; giving `and` precedence; letting `(a)[0]` index; ending a pays at a line break
 abbrev wrong : List (String × String)
@@ -242,18 +320,32 @@ wrong =
     ∷ ("pays x\ny = 1;", "Pays(x) Assign(y,1) ")
     ∷ []
 
-ruled-out : T (never wrong)
+ruled-out : T (never one wrong)
 unfolding never
 ruled-out = tt
+
+-- of edition two: grouping `**` to the left; a minus that is only the number's; one level of `and` and `or`; the other two
+abbrev wrong-two : List (String × String)
+wrong-two =
+    ("x = 2**3**2;", "Assign(x,Pow(Pow(2,3),2)) ")
+    ∷ ("x = -2**2;", "Assign(x,Pow(-2,2)) ")
+    ∷ ("x = a or b and c;", "Assign(x,And(Or(a,b),c)) ")
+    ∷ ("pays (a)[0];", "Pays(Index(a,0)) ")
+    ∷ ("pays x\ny = 1;", "Pays(x) Assign(y,1) ")
+    ∷ []
+
+ruled-out-two : T (never two wrong-two)
+unfolding never
+ruled-out-two = tt
 
 unfoldable pub entries : Outcome → List Entry
 entries (accepted es) = es
 entries (refused n p) = []
 
 -- counting places from the script's start: the second statement's name is at its byte 0, that of a nested one at 7 from `if`
-own-places : (wordsOf (entries (readScript own (bytes "a; bc;"))) ≡ 1 ∷ 1 ∷ 0 ∷ 0 ∷ 1 ∷ 0 ∷ 0 ∷ 0 ∷ 1 ∷ 1 ∷ 0 ∷ 0 ∷ 2 ∷ 0 ∷ 0 ∷ 0 ∷ [])
-    × (directoryOf (entries (readScript own (bytes "a; bc;"))) ≡ 0 ∷ 2 ∷ 1 ∷ 2 ∷ 0 ∷ 3 ∷ 6 ∷ 1 ∷ 2 ∷ 0 ∷ [])
-    × (wordsOf (entries (readScript own (bytes " if a { b; }"))) ≡ 1 ∷ 1 ∷ 0 ∷ 3 ∷ 1 ∷ 0 ∷ 0 ∷ 3 ∷ 1 ∷ 1 ∷ 0 ∷ 7 ∷ 1 ∷ 0 ∷ 0 ∷ 7 ∷ 38 ∷ 3 ∷ 2 ∷ 0 ∷ 0 ∷ 0 ∷ 0 ∷ 0 ∷ [])
+own-places : (wordsOf (entries (readScript one own (bytes "a; bc;"))) ≡ 1 ∷ 1 ∷ 0 ∷ 0 ∷ 1 ∷ 0 ∷ 0 ∷ 0 ∷ 1 ∷ 1 ∷ 0 ∷ 0 ∷ 2 ∷ 0 ∷ 0 ∷ 0 ∷ [])
+    × (directoryOf (entries (readScript one own (bytes "a; bc;"))) ≡ 0 ∷ 2 ∷ 1 ∷ 2 ∷ 0 ∷ 3 ∷ 6 ∷ 1 ∷ 2 ∷ 0 ∷ [])
+    × (wordsOf (entries (readScript one own (bytes " if a { b; }"))) ≡ 1 ∷ 1 ∷ 0 ∷ 3 ∷ 1 ∷ 0 ∷ 0 ∷ 3 ∷ 1 ∷ 1 ∷ 0 ∷ 7 ∷ 1 ∷ 0 ∷ 0 ∷ 7 ∷ 38 ∷ 3 ∷ 2 ∷ 0 ∷ 0 ∷ 0 ∷ 0 ∷ 0 ∷ [])
 unfolding computing own entries
 own-places = (refl, refl, refl)
 
@@ -264,7 +356,7 @@ listed : Outcome → List ℕ
 listed (accepted es) = length es ∷ nodes es ∷ tokensOf es ∷ wordsOf es
 listed (refused n p) = n ∷ p ∷ []
 
-listing : listed (readScript own (bytes "x pays;"))
+listing : listed (readScript one own (bytes "x pays;"))
     ≡ 1 ∷ 5 ∷ 3
     ∷ 1 ∷ 1 ∷ 0 ∷ 0 ∷ 1 ∷ 0 ∷ 0 ∷ 0
     ∷ 1 ∷ 1 ∷ 0 ∷ 0 ∷ 1 ∷ 0 ∷ 0 ∷ 0
@@ -275,7 +367,7 @@ unfolding computing listed own
 listing = refl
 
 -- its directory: start byte, end byte, records, tokens, the latest date
-listing-directory : directoryOf (entries (readScript own (bytes "x pays;"))) ≡ 0 ∷ 7 ∷ 5 ∷ 3 ∷ 0 ∷ []
+listing-directory : directoryOf (entries (readScript one own (bytes "x pays;"))) ≡ 0 ∷ 7 ∷ 5 ∷ 3 ∷ 0 ∷ []
 unfolding computing own entries
 listing-directory = refl
 
@@ -291,10 +383,13 @@ rooms = (refl, refl)
 
 -- ---- with other lists
 
+-- in either edition
 checkWith : Lists → List (String × Said) → Bool
 unfolding holds computing
 checkWith l [] = true
-checkWith l (r ∷ rs) = let bs = bytes (r .0) in elim (holds bs (readScript l bs) (r .1)) [ true ↦ checkWith l rs | false ↦ false ]
+checkWith l (r ∷ rs) =
+    let bs = bytes (r .0) in
+    elim (holds bs (readScript one l bs) (r .1) && holds bs (readScript two l bs) (r .1)) [ true ↦ checkWith l rs | false ↦ false ]
 
 unfoldable pub lists : String → String → String → Lists
 lists a b c = record { reserved = bytes a; currencies = bytes b; counters = bytes c }
@@ -315,3 +410,11 @@ malformed : T (checkWith (lists "" "EUR\nUSD\n" "") (("x", refuses 2 0) ∷ []) 
     && checkWith (lists "a\na\n" "USD\n" "") (("x", refuses 2 0) ∷ []) && checkWith (lists "" "USD\n" "\"\n") (("x", refuses 2 0) ∷ []))
 unfolding checkWith lists computing
 malformed = tt
+
+-- ---- the edition by its number
+
+-- another edition number: 26 at byte 0, also where the lists are bad (2), a byte is (3), and there is no room (16)
+other-edition : (reading 0 own 9 9 (bytes "x;") ≡ refused 26 0) × (reading 3 (lists "a\na" "" "") 0 0 (bytes "$") ≡ refused 26 0)
+    × (reading 1 own 0 0 (bytes "x;") ≡ refused 16 2) × (reading 2 (lists "a\na" "" "") 0 0 (bytes "x;") ≡ refused 2 0)
+unfolding computing own lists
+other-edition = (refl, refl, refl, refl)

@@ -1,6 +1,7 @@
 -- Each reader of the grammar leaves an end of its tokens, and of what it leaves it looks at the first token alone.
 use mathlib.Core.Path.{ap}
 use mathlib.Core.Bool.{Bool}
+use mathlib.Core.List.{_++_}
 use mathlib.Core.Option.{Option, none, some}
 use Prim.Native.Nat.{ℕ, zero, suc, _+_, _≤_}
 use Prim.Native.String.{String}
@@ -9,8 +10,8 @@ use Rattle.tokens.specs.Tokens.{Token}
 use Rattle.grammar.specs.Trees.{Tree, Trees}
 use Rattle.grammar.specs.Readers.{Reader, _>>=_, _>>_, Turn, again, done, give, ask, peek, read, the}
 use Rattle.grammar.specs.Grammar as G
-use Rattle.grammar.specs.Grammar.{deeper, optional, grouped, sum, comparison, expression, items, arguments, method, postfixes, dateOf, aDate, df, rateIndex, Words, Inner}
-use Rattle.grammar.proofs.Laws.{Rel, Near, near-follows, Law, bind-law, ask-law, the-law, give-law, fail-law, failAt-law, if-law, weaken, peek-law, read-law, cost, loop-law}
+use Rattle.grammar.specs.Grammar.{deeper, optional, grouped, sum, comparison, expression, items, arguments, method, postfixes, dateOf, aDate, df, rateIndex, Edition, one, two, inEdition, Language, Inner}
+use Rattle.grammar.proofs.Laws.{Rel, Near, near-follows, Law, bind-law, ask-law, the-law, give-law, fail-law, failAt-law, if-law, weaken, peek-law, read-law, near-append, second-near, Looks, look-law, cost, loop-law}
 
 abbrev pub Stays : {A : Type 0} → Reader A → Type 0
 Stays m = Law Near (λ a. 0) m
@@ -112,47 +113,23 @@ pub grouped-law : (op : Token → Bool) (operand : Reader Tree) → Moves operan
 unfolding grouped
 grouped-law op operand h = peek-then λ t. move-then h λ l. loop-law (groupTurn-law op operand h _) l
 
-pub sum-law : (p : Reader Tree) → Moves p → Moves (sum p)
-unfolding sum
-sum-law p h = search grouped-law
+pub raiseTurn-law : (operand : Reader Tree) → Moves operand → (c : G.Chain) → Steps (G.raiseTurn operand c)
+unfolding G.raiseTurn
+raiseTurn-law operand h c = search (laws, moving-stays h) depth 9
 
-pub comparison-law : (p : Reader Tree) → Moves p → Moves (comparison p)
-unfolding comparison
-comparison-law p h = search (laws, sum-law, moving-stays (sum-law p h)) depth 12
+pub raised-law : (operand : Reader Tree) → Moves operand → Moves (G.raised operand)
+unfolding G.raised
+raised-law operand h = peek-then λ t. move-then h λ l. loop-law (raiseTurn-law operand h) _
 
-pub expression-law : (p : Reader Tree) → Moves p → Moves (expression p)
-unfolding expression
-expression-law p h = search (grouped-law, comparison-law)
-
-pub expression-stays : (p : Reader Tree) → Moves p → Stays (expression p)
-expression-stays p h = moving-stays (expression-law p h)
-
-pub itemTurn-law : (s : String) (p : Reader Tree) → Moves p → (es : Trees) → Steps (G.itemTurn s p es)
-unfolding G.itemTurn
-itemTurn-law s p h es = search (laws, expression-law) depth 9
-
-pub items-law : (s : String) (p : Reader Tree) → Moves p → Stays (items s p)
-unfolding items
-items-law s p h = loop-law (itemTurn-law s p h) _
-
-pub arguments-law : (o : Option (Reader Tree)) → Each o → Moves (arguments o)
-unfolding arguments
-arguments-law o h = search (laws, items-law) depth 12
-
-pub arguments-stays : (o : Option (Reader Tree)) → Each o → Stays (arguments o)
-arguments-stays o h = moving-stays (arguments-law o h)
+module _ {A : Type 0} {P : Rel} where
+  -- what each edition has has its law
+  pub edition-law : (c : A → ℕ) (e : Edition) {m n : Reader A} → Law P c m → Law P c n → Law P c (inEdition e m n)
+  edition-law c one hm hn = hm
+  edition-law c two hm hn = hn
 
 pub method-law : (b : ℕ) (x : Tree) (m : Token) (es : Trees) → Stays (method b x m es)
 unfolding method
 method-law b x m es = search laws depth 12
-
-pub postfixTurn-law : (o : Option (Reader Tree)) → Each o → (b : ℕ) (x : Tree) → Steps (G.postfixTurn o b x)
-unfolding G.postfixTurn
-postfixTurn-law o h b x = search (laws, arguments-stays, method-law, expression-stays) depth 12
-
-pub postfixes-law : (o : Option (Reader Tree)) → Each o → (b : ℕ) (x : Tree) → Stays (postfixes o b x)
-unfolding postfixes
-postfixes-law o h b x = loop-law (postfixTurn-law o h b) x
 
 pub dateOf-law : (t : Token) → Stays (dateOf t)
 unfolding dateOf
@@ -180,7 +157,53 @@ pub record InnerLaw (i : Inner) : Type 0 where
   pub statement : Moves (i .statement)
   pub primary : Moves (i .primary)
 
-module _ (W : Words) where
+module _ (W : Language) where
+  pub power-law : (p : Reader Tree) → Moves p → Moves (G.power W p)
+  unfolding G.power
+  power-law p h = search (edition-law, grouped-law, raised-law)
+
+  pub signed-law : (p : Reader Tree) → Moves p → Moves (G.signed W p)
+  unfolding G.signed
+  signed-law p h = search (edition-law, power-law)
+
+  pub sum-law : (p : Reader Tree) → Moves p → Moves (sum W p)
+  unfolding sum
+  sum-law p h = search (grouped-law, power-law)
+
+  pub comparison-law : (p : Reader Tree) → Moves p → Moves (comparison W p)
+  unfolding comparison
+  comparison-law p h = search (laws, sum-law, moving-stays (sum-law p h)) depth 12
+
+  pub expression-law : (p : Reader Tree) → Moves p → Moves (expression W p)
+  unfolding expression
+  expression-law p h = search (edition-law, grouped-law, comparison-law)
+
+  pub expression-stays : (p : Reader Tree) → Moves p → Stays (expression W p)
+  expression-stays p h = moving-stays (expression-law p h)
+
+  pub itemTurn-law : (s : String) (p : Reader Tree) → Moves p → (es : Trees) → Steps (G.itemTurn W s p es)
+  unfolding G.itemTurn
+  itemTurn-law s p h es = search (laws, expression-law) depth 9
+
+  pub items-law : (s : String) (p : Reader Tree) → Moves p → Stays (items W s p)
+  unfolding items
+  items-law s p h = loop-law (itemTurn-law s p h) _
+
+  pub arguments-law : (o : Option (Reader Tree)) → Each o → Moves (arguments W o)
+  unfolding arguments
+  arguments-law o h = search (laws, items-law) depth 12
+
+  pub arguments-stays : (o : Option (Reader Tree)) → Each o → Stays (arguments W o)
+  arguments-stays o h = moving-stays (arguments-law o h)
+
+  pub postfixTurn-law : (o : Option (Reader Tree)) → Each o → (b : ℕ) (x : Tree) → Steps (G.postfixTurn W o b x)
+  unfolding G.postfixTurn
+  postfixTurn-law o h b x = search (laws, arguments-stays, method-law, expression-stays) depth 12
+
+  pub postfixes-law : (o : Option (Reader Tree)) → Each o → (b : ℕ) (x : Tree) → Stays (postfixes W o b x)
+  unfolding postfixes
+  postfixes-law o h b x = loop-law (postfixTurn-law o h b) x
+
   pub currencyOf-law : (t : Token) → Stays (G.currencyOf W t)
   unfolding G.currencyOf
   currencyOf-law t = search laws depth 6
@@ -232,16 +255,23 @@ module _ (W : Words) where
   unfolding G.pays
   pays-law o h = search (laws, payments-law, optional-law, moving-stays aDate-law, moving-stays aCurrency-law) depth 14
 
+  -- a number, and what stands behind it
+  pub lone-looks : Looks (G.lone W)
+  lone-looks x r nl r′ h q c e = λ i. G.loneBy W (near-append x r (nl ++ r′) h i) (second-near x r nl r′ h q c e i)
+
+  pub signed-stays : (p : Reader Tree) → Moves p → Stays (G.signed W p)
+  signed-stays p h = moving-stays (signed-law p h)
+
   pub minus-law : (o : Option (Reader Tree)) → Each o → (t : Token) → Moves (G.minus W o t)
   unfolding G.minus
-  minus-law o h t = search laws depth 8
+  minus-law o h t = look-law (G.lone W) lone-looks (search laws) (search (laws, signed-law) depth 8)
 
   pub minus-stays : (o : Option (Reader Tree)) → Each o → (t : Token) → Stays (G.minus W o t)
   minus-stays o h t = moving-stays (minus-law o h t)
 
   pub primaryOver-law : (o : Option (Reader Tree)) → Each o → Moves (G.primaryOver W o)
   unfolding G.primaryOver
-  primaryOver-law o h = search (laws, expression-stays, items-law, postfixes-law, minus-stays, pays-law, name-law, moving-stays) depth 24
+  primaryOver-law o h = search (laws, expression-stays, signed-stays, items-law, postfixes-law, minus-stays, pays-law, name-law) depth 24
 
   pub primary-law : (d : ℕ) → Moves (G.primary W d)
   unfolding G.primary

@@ -8,6 +8,7 @@ use lib.Dec.{T}
 use lib.ListN.{length, getD, drop}
 use Rattle.tokens.specs.Text.{bytes, same}
 use Rattle.grammar.specs.Sizes.{recordWidth}
+use Rattle.grammar.specs.Grammar.{one}
 use Rattle.grammar.specs.Script.{readScript}
 use Rattle.grammar.specs.Words.{wordsOf}
 use Rattle.grammar.specs.Computing.{computing}
@@ -23,7 +24,7 @@ kindOf r = getD (r .2) 0 0
 -- all words of a script's records; with one day counter
 words : String → List ℕ
 unfolding computing entries lists
-words s = wordsOf (entries (readScript (lists "" "USD\nEUR\n" "ACT/365\n") (bytes s)))
+words s = wordsOf (entries (readScript one (lists "" "USD\nEUR\n" "ACT/365\n") (bytes s)))
 
 -- those of the last record, which is that of the last statement as a whole
 last : String → List ℕ

@@ -5,6 +5,7 @@ use Prim.Native.Nat.{ℕ}
 use Prim.Native.String.{String}
 use lib.Dec.{T, eqb}
 use Rattle.tokens.specs.Text.{bytes, same}
+use Rattle.grammar.specs.Grammar.{one}
 use Rattle.grammar.specs.Script.{readScript}
 use Rattle.grammar.specs.Words.{Row, rowOf, latestOf}
 use Rattle.grammar.specs.Computing.{computing}
@@ -20,7 +21,7 @@ late = 741078
 -- the rows of a script's directory; with one day counter
 rows : String → List Row
 unfolding computing entries lists
-rows s = map rowOf (entries (readScript (lists "" "USD\nEUR\n" "ACT/365\n") (bytes s)))
+rows s = map rowOf (entries (readScript one (lists "" "USD\nEUR\n" "ACT/365\n") (bytes s)))
 
 -- each script of a table has the dates that are said, and the greatest of them
 check : List (String × List ℕ × ℕ) → Bool

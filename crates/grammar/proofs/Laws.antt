@@ -7,10 +7,11 @@ use Prim.Native.Nat.{ℕ, zero, suc, _+_, _≤_, _<_}
 use Prim.Native.String.{String}
 use native.Mathlib.Omega.{arith}
 use native.Mathlib.Nat.{le-refl, le-trans}
-use lib.ListN.{length, length-append}
+use lib.Seq.{take-append-seam}
+use lib.ListN.{length, take, length-append}
 use Rattle.tokens.specs.Text.{if_then_else_}
 use Rattle.tokens.specs.Tokens.{Token, code}
-use Rattle.grammar.specs.Readers.{Out, ok, refused, Reader, bind, _>>=_, Turn, again, done, follow, turns, loop, first, is, skip, give, fail, failAt, ask, peek, read, the}
+use Rattle.grammar.specs.Readers.{Out, ok, refused, Reader, bind, _>>=_, Turn, again, done, follow, turns, loop, first, second, is, skip, give, fail, failAt, ask, look, peek, read, the}
 
 -- ---- what may stand behind: r, of which a reader left r, and r′ in its place
 
@@ -48,6 +49,13 @@ pub record Reads {A : Type 0} (P : Rel) (c : ℕ) (m : Reader A) (ts : List Toke
 -- a reader that answers a has read c a tokens at least
 abbrev pub Law : {A : Type 0} → Rel → (A → ℕ) → Reader A → Type 0
 Law {A} P c m = (ts : List Token) (a : A) (r : List Token) → m ts ≡ ok a r → Reads P (c a) m ts a r
+
+-- ---- lists that are split at the same place
+
+pub split-same : (x y x′ y′ : List Token) → x ++ y ≡ x′ ++ y′ → length y ≡ length y′ → x ≡ x′
+split-same x y x′ y′ e l =
+    let n : length x ≡ length x′ = omega (arith, length-append x y, length-append x′ y′, ap length e) in
+    sym (take-append-seam x y) ∙ ap (take (length x)) e ∙ ap (λ (k : ℕ). take k (x′ ++ y′)) n ∙ take-append-seam x′ y′
 
 -- ---- one reader, then another
 
@@ -221,6 +229,61 @@ read-law F (u ∷ ts) t r e =
 pub the-law : {P : Rel} → Follows P → (s : String) → Law P (λ t. 1) (the s)
 unfolding the
 the-law F s = bind-near 0 0 (λ t. 1) (λ b. omega arith) peek-law (λ t. if-law (λ a. 1) (is s t) (read-law F) (fail-law (λ a. 1) 8))
+
+-- a reader that reads a token reads the newlines behind it
+pub reads-clear : {A : Type 0} {m : Reader A} {ts : List Token} {a : A} {r : List Token} → Reads Near 1 m ts a r → is "Newline" (first r) ≡ false
+unfolding code skip
+reads-clear {r = []} M = refl
+reads-clear {A} {m} {ts} {a} {r = t ∷ r} M = go (is "Newline" t) refl
+  where
+    line : is "Newline" t ≡ true → Quiet (t ∷ [])
+    line e x = rw (e, skip)
+
+    go : (b : Bool) → is "Newline" t ≡ b → b ≡ false
+    go false e = refl
+    go true e =
+        let n : M .used ≡ [] → ⊥ = λ o. omega (arith, ap length o, M .enough) in
+        let p : m (M .used ++ (t ∷ t ∷ r)) ≡ ok a (t ∷ r) = M .goes (t ∷ []) (t ∷ r) (line e) (λ o. absurd (n o)) refl in
+        let q : m (M .used ++ (t ∷ t ∷ r)) ≡ ok a (t ∷ t ∷ r) = M .goes [] (t ∷ t ∷ r) (λ x. refl) (λ o. refl) refl in
+        let z : t ∷ r ≡ t ∷ t ∷ r = cc in
+        absurd (omega (arith, ap length z))
+
+-- ---- looks at two tokens
+
+-- what stands behind newlines
+pub skip-same : (u z z′ : List Token) → first (skip z) ≡ first (skip z′) → first (skip (u ++ z)) ≡ first (skip (u ++ z′))
+unfolding skip
+skip-same [] z z′ e = e
+skip-same (t ∷ u) z z′ e = go (is "Newline" t) (skip-same u z z′ e)
+  where
+    go : (b : Bool) → first (skip (u ++ z)) ≡ first (skip (u ++ z′))
+        → first (elim b as (λ _. List Token) [ true ↦ skip (u ++ z) | false ↦ t ∷ (u ++ z) ]) ≡ first (elim b as (λ _. List Token) [ true ↦ skip (u ++ z′) | false ↦ t ∷ (u ++ z′) ])
+    go true h = h
+    go false h = refl
+
+-- the second token is the same where the same token stands behind what was read
+pub second-near : (x r nl r′ : List Token) → 1 ≤ length x → Quiet nl → is "Newline" (first r) ≡ false → Near r r′ → second (x ++ (nl ++ r′)) ≡ second (x ++ r)
+second-near [] r nl r′ h q c e = absurd (omega arith)
+second-near (t ∷ x) r nl r′ h q c e =
+    skip-same x (nl ++ r′) r (ap first (q r′) ∙ ap first (skip-clear r′ (ap (λ u. is "Newline" u) e ∙ c)) ∙ e ∙ ap first (sym (skip-clear r c)))
+
+-- a test that goes the same so
+abbrev pub Looks : (List Token → Bool) → Type 0
+Looks test = (x r nl r′ : List Token) → 1 ≤ length x → Quiet nl → is "Newline" (first r) ≡ false → Near r r′ → test (x ++ (nl ++ r′)) ≡ test (x ++ r)
+
+module _ {A : Type 0} where
+  pub look-law : (test : List Token → Bool) {m n : Reader A} → Looks test → Law Near (λ a. 1) m → Law Near (λ a. 1) n → Law Near (λ a. 1) (look test m n)
+  unfolding look
+  look-law test {m} {n} h hm hn ts a r e =
+      let M : Reads Near 1 (if test ts then m else n) ts a r = if-law (λ a. 1) (test ts) hm hn ts a r e in
+      record {
+        used = M .used;
+        split = M .split;
+        enough = M .enough;
+        goes = λ nl r′ q g p.
+            ap (λ (b : Bool). (if b then m else n) (M .used ++ (nl ++ r′))) (h (M .used) r nl r′ (M .enough) q (reads-clear M) p ∙ ap test (sym (M .split)))
+            ∙ M .goes nl r′ q g p;
+      }
 
 -- ---- loops
 

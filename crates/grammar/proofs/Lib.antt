@@ -1,6 +1,7 @@
 -- Laws of the definition, for the layers above.
 pub mod Laws
 pub mod GrammarLaws
+pub mod EditionLaws
 pub mod StatementLaws
 pub mod EndingLaws
 pub mod ScriptLaws
@@ -14,6 +15,8 @@ pub mod Endings
 pub mod TreeLaws
 pub mod SizeLaws
 pub mod Refusals
+pub mod GivesLaws
+pub mod KindLaws
 pub mod WordLaws
 pub mod LatestLaws
 pub mod DatedLaws

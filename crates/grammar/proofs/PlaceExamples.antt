@@ -9,15 +9,16 @@ use lib.ListN.{drop, getD}
 use Rattle.tokens.specs.Text.{bytes, same}
 use Rattle.grammar.specs.Sizes.{recordWidth}
 use Rattle.grammar.specs.Trees.{Tree, node, nil, _▹_, fields, none, meaning}
+use Rattle.grammar.specs.Grammar.{Edition, one, two}
 use Rattle.grammar.specs.Script.{Entry, readScript, nodes}
 use Rattle.grammar.specs.Words.{wordsOf}
 use Rattle.grammar.specs.Computing.{computing}
 use Rattle.grammar.proofs.Examples.{kindNames, nth, entries, lists}
 
 -- the statements of a script; with one day counter
-read : String → List Entry
+read : Edition → String → List Entry
 unfolding computing entries lists
-read s = entries (readScript (lists "" "USD\nEUR\n" "ACT/365\n") (bytes s))
+read e s = entries (readScript e (lists "" "USD\nEUR\n" "ACT/365\n") (bytes s))
 
 -- so many records are of the kinds that are named, and their eighth words are the places
 are : ℕ → List ℕ → List (String × ℕ) → Bool
@@ -28,11 +29,11 @@ are (suc n) ws [] = false
 are (suc n) ws (r ∷ rs) =
     same (bytes (nth kindNames (getD ws 0 0))) (bytes (r .0)) && (eqb (getD ws 7 0) (r .1) && are n (drop recordWidth ws) rs)
 
--- each script of a table has the records that are said, and no others
-check : List (String × List (String × ℕ)) → Bool
+-- each script of a table has the records that are said in an edition, and no others
+check : Edition → List (String × List (String × ℕ)) → Bool
 unfolding computing read are
-check [] = true
-check (r ∷ rs) = elim (are (nodes (read (r .0))) (wordsOf (read (r .0))) (r .1)) [ true ↦ check rs | false ↦ false ]
+check e [] = true
+check e (r ∷ rs) = elim (are (nodes (read e (r .0))) (wordsOf (read e (r .0))) (r .1)) [ true ↦ check e rs | false ↦ false ]
 
 abbrev placed : List (String × List (String × ℕ))
 placed =
@@ -97,16 +98,43 @@ placed =
     ∷ ("(a);\n # between\n (b)+c;", ("Variable", 1) ∷ ("Variable", 1) ∷ ("Variable", 4) ∷ ("Add", 0) ∷ [])
     ∷ []
 
-each-place : T (check placed)
+each-place : T (check one placed)
 unfolding check
 each-place = tt
+
+abbrev placed-two : List (String × List (String × ℕ))
+placed-two =
+    -- edition two: each power of a chain begins where its own left part's text does, parentheses included
+    ("a**b;", ("Variable", 0) ∷ ("Variable", 3) ∷ ("Pow", 0) ∷ [])
+    ∷ ("a**(b)**c;", ("Variable", 0) ∷ ("Variable", 4) ∷ ("Variable", 8) ∷ ("Pow", 3) ∷ ("Pow", 0) ∷ [])
+    ∷ ("((a))**((b))**c**d;", ("Variable", 2) ∷ ("Variable", 9) ∷ ("Variable", 14) ∷ ("Variable", 17) ∷ ("Pow", 14) ∷ ("Pow", 7) ∷ ("Pow", 0) ∷ [])
+    -- a sign vanishes, or negates, before the whole power
+    ∷ ("+a**b;", ("Variable", 1) ∷ ("Variable", 4) ∷ ("Pow", 1) ∷ [])
+    ∷ ("+a**b**c;", ("Variable", 1) ∷ ("Variable", 4) ∷ ("Variable", 7) ∷ ("Pow", 4) ∷ ("Pow", 1) ∷ [])
+    ∷ ("-2**2;", ("Constant", 1) ∷ ("Constant", 4) ∷ ("Pow", 1) ∷ ("UnaryMinus", 0) ∷ [])
+    ∷ ("-(2)**2;", ("Constant", 2) ∷ ("Constant", 6) ∷ ("Pow", 1) ∷ ("UnaryMinus", 0) ∷ [])
+    ∷ ("(2)**-(3)**2;", ("Constant", 1) ∷ ("Constant", 7) ∷ ("Constant", 11) ∷ ("Pow", 6) ∷ ("UnaryMinus", 5) ∷ ("Pow", 0) ∷ [])
+    ∷ ("2**-3;", ("Constant", 0) ∷ ("Constant", 3) ∷ ("Pow", 0) ∷ [])
+    ∷ ("2**+a**b+1;", ("Constant", 0) ∷ ("Variable", 4) ∷ ("Variable", 7) ∷ ("Pow", 4) ∷ ("Pow", 0) ∷ ("Constant", 9) ∷ ("Add", 0) ∷ [])
+    -- what stands outside the power begins at the sign
+    ∷ ("+2**2*3;", ("Constant", 1) ∷ ("Constant", 4) ∷ ("Pow", 1) ∷ ("Constant", 6) ∷ ("Multiply", 0) ∷ [])
+    ∷ ("-2**2*3;", ("Constant", 1) ∷ ("Constant", 4) ∷ ("Pow", 1) ∷ ("UnaryMinus", 0) ∷ ("Constant", 6) ∷ ("Multiply", 0) ∷ [])
+    -- each level of `and` and `or` begins where its own first operand does
+    ∷ ("a or (b) and c and d or e;", ("Variable", 0) ∷ ("Variable", 6) ∷ ("Variable", 13) ∷ ("And", 5) ∷ ("Variable", 19) ∷ ("And", 5) ∷ ("Or", 0) ∷ ("Variable", 24) ∷ ("Or", 0) ∷ [])
+    ∷ ("(a or b) and c or d;", ("Variable", 1) ∷ ("Variable", 6) ∷ ("Or", 1) ∷ ("Variable", 13) ∷ ("And", 0) ∷ ("Variable", 18) ∷ ("Or", 0) ∷ [])
+    ∷ ("x\n+= 1;", ("Variable", 0) ∷ ("Variable", 0) ∷ ("Constant", 5) ∷ ("Add", 0) ∷ ("Assign", 0) ∷ [])
+    ∷ []
+
+each-place-two : T (check two placed-two)
+unfolding check
+each-place-two = tt
 
 -- ---- the same tree by content
 
 -- what the statements of a script mean
 meant : String → List Tree
 unfolding computing read
-meant s = map (λ e. meaning (e .tree)) (read s)
+meant s = map (λ e. meaning (e .tree)) (read one s)
 
 -- the same words at other places, with parentheses and a plus more: the same meaning
 reflowed : meant "for v in a { y = Spot(\"A\")+Df(\"2024-02-29\",\"c\")**-1; } pays \"s\" in \"EUR\""

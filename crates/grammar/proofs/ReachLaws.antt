@@ -11,16 +11,16 @@ use Rattle.tokens.specs.Text.{if_then_else_, count}
 use Rattle.tokens.specs.Tokens.{Token, code, final, counts, endOf}
 use Rattle.tokens.proofs.Shapes.{Sorted}
 use Rattle.grammar.specs.Readers.{first, is, skip, lastOf, closes}
-use Rattle.grammar.specs.Grammar.{Words}
+use Rattle.grammar.specs.Grammar.{Language}
 use Rattle.grammar.specs.Script.{Entry, accepted, back, entryOf, from, turn, tokensOf}
-use Rattle.grammar.proofs.Laws.{Quiet, skip-clear}
+use Rattle.grammar.proofs.Laws.{Quiet, skip-clear, split-same}
 use Rattle.grammar.proofs.StatementLaws.{stops}
 use Rattle.grammar.proofs.EndingLaws.{last-append}
 use Rattle.grammar.proofs.ScriptLaws.{forth, skip-forth, from-forth, from-eq, prepend, Left, Run, none, more, from-run, Parts, map-parts, last-map, count-map, used-part, forth-back, quiet-nil, quiet-last, quiet-end, end-append, count-append}
 use Rattle.grammar.proofs.ClosingLaws.{statement-noEnd, NoEnd}
 use Rattle.grammar.proofs.SealLaws.{unsealed, Sealed, sealed-after, Keeps, statement-seals}
 use Rattle.grammar.proofs.Seams.{none-last}
-use Rattle.grammar.proofs.AmendLaws.{Apart, Kept, kept, Mid, mid, opens-of, end-apart, from-end, only-end, last-end, split-same, run-noEnd, None}
+use Rattle.grammar.proofs.AmendLaws.{Apart, Kept, kept, Mid, mid, opens-of, end-apart, from-end, only-end, last-end, run-noEnd, None}
 
 -- ---- places that ascend
 
@@ -90,7 +90,7 @@ pub record Reach (ts : List Token) (es : List Entry) (δ : ℕ) (r : List Token)
   pub shut : stops (first r) ≡ false → Shutting es head
   pub tokens : count counts head ≡ tokensOf es
 
-module _ (W : Words) where
+module _ (W : Language) where
   seal-more : (k : ℕ) {c : ℕ} {r : List Token} {es : List Entry} {δ : ℕ} {r′ : List Token} → Run W c r es δ r′ → (x y : List Token)
       → (stops (first r) ≡ false → Sealed x) → (stops (first r′) ≡ false → Shutting es y) → stops (first r′) ≡ false → Sealed (x ++ map (forth k) y)
   seal-more k none x y p q n d = ap (λ (l : List Token). unsealed (lastOf d (x ++ map (forth k) l))) (q n) ∙ ap (λ l. unsealed (lastOf d l)) (append-nil x) ∙ p n d
@@ -189,7 +189,7 @@ end-back s p p′ (t ∷ l) a h =
     go true = omega (arith, a .0)
     go false = h
 
-module _ (W : Words) where
+module _ (W : Language) where
   -- ---- the first statement
 
   -- behind Newlines it begins at u; w is its last token, and behind that there are Newlines, then two with the other statements

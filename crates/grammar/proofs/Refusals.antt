@@ -1,16 +1,17 @@
--- On which grounds a script is refused, and where: 1 to 15, of a reading with room 16 as well, and no further than the script's end.
+-- On which grounds a script is refused, and where: 1 to 15, of a reading with room 16 as well, and no further than the script's end; 26 before them all.
 -- Each form that readers are made of has its law, so that a reader's law follows the reader's own text.
 use mathlib.Core.Path.{_≡_, refl, subst}
 use mathlib.Core.Bool.{Bool, true, false, not}
+use mathlib.Core.Logic.{_⊎_, inl, inr, ⊎-elim}
 use mathlib.Core.List.{List, [], _∷_, _++_, map}
 use mathlib.Core.Option.{Option, none, some}
 use Prim.Native.Nat.{ℕ, zero, suc, _+_, _-_, _≤_}
 use Prim.Native.String.{String}
 use native.Mathlib.Nat.{zero-add}
 use native.Mathlib.Omega.{arith}
-use lib.Dec.{T, leb, ltb, leb→le}
+use lib.Dec.{T, eqb, leb, ltb, leb→le}
 use mir.Facts.{and-yes}
-use borrow.Author.Tests.{ltb-false}
+use borrow.Author.Tests.{eqb-true, ltb-false}
 use lib.ListN.{length}
 use Rattle.tokens.specs.Limits.{mostBytes, mostTokens, mostDepth}
 use Rattle.tokens.specs.Text.{if_then_else_, script, within, count}
@@ -18,10 +19,10 @@ use Rattle.tokens.specs.Names.{Lists, goodLists}
 use Rattle.tokens.specs.Tokens.{Token, Lexed, lexed, refused as faulty, scan, final, finished, tokens, counts}
 use Rattle.tokens.proofs.Shapes.{Sorted, scan-sorted, scan-refused}
 use Rattle.grammar.specs.Trees.{Tree, Trees}
-use Rattle.grammar.specs.Readers.{Out, ok, refused, Reader, bind, _>>=_, _>>_, Turn, again, done, follow, turns, loop, first, is, skip, give, fail, failAt, ask, peek, read, the}
+use Rattle.grammar.specs.Readers.{Out, ok, refused, Reader, bind, _>>=_, _>>_, Turn, again, done, follow, turns, loop, first, is, skip, give, fail, failAt, ask, look, peek, read, the}
 use Rattle.grammar.specs.Grammar as G
-use Rattle.grammar.specs.Grammar.{deeper, optional, grouped, sum, comparison, expression, items, arguments, method, postfixes, dateOf, aDate, df, rateIndex, Words, Inner, deep, nextKind, block, ifOver, ended}
-use Rattle.grammar.specs.Script.{Entry, Outcome, accepted, refused as wrong, front, back, entryOf, onward, turn, upTo, from, statements, words, ofTokens, readScript, fitting, reading, nodes}
+use Rattle.grammar.specs.Grammar.{deeper, optional, grouped, sum, comparison, expression, items, arguments, method, postfixes, dateOf, aDate, df, rateIndex, Edition, one, two, inEdition, Language, Inner, deep, block, ifOver, ended}
+use Rattle.grammar.specs.Script.{Entry, Outcome, accepted, refused as wrong, front, back, entryOf, onward, turn, upTo, from, statements, language, ofTokens, readScript, fitting, readingIn, reading, nodes}
 
 -- the number f is one of the grounds 1 to last, and the place p no further than the byte n
 pub record Ground (last n f p : ℕ) : Type 0 where
@@ -49,6 +50,15 @@ Right n P (refused f p) = Ground 15 n f p
 pub data Each {X : Type 0} (P : X → Type 0) : Option X → Type 0 where
   nothing : Each P none
   just : {x : X} → P x → Each P (some x)
+
+-- and so, in a statement, have its statements and its primaries
+pub record Both (P : Reader Tree → Type 0) (i : Inner) : Type 0 where
+  pub statement : P (i .statement)
+  pub primary : P (i .primary)
+
+pub each-deep : {P : Reader Tree → Type 0} (o : Option Inner) → Each (Both P) o → Each P (deep o)
+each-deep none nothing = nothing
+each-deep (some i) (just h) = just (h .primary)
 
 -- what a reader tells of tokens that are inside
 record Law {A : Type 0} (n : ℕ) (P : A → Type 0) (m : Reader A) : Type 0 where
@@ -120,6 +130,14 @@ module _ (n : ℕ) where
     unfolding ask
     ask-fair test hm hk = record { goes = λ ts i. if-law (test (first ts)) hm hk .goes ts i }
 
+    look-fair : (test : List Token → Bool) {m k : Reader A} → Fair m → Fair k → Fair (look test m k)
+    unfolding look
+    look-fair test hm hk = record { goes = λ ts i. if-law (test ts) hm hk .goes ts i }
+
+    edition-fair : (e : Edition) {m k : Reader A} → Fair m → Fair k → Fair (inEdition e m k)
+    edition-fair one hm hk = hm
+    edition-fair two hm hk = hk
+
   peek-placed : Placed peek
   unfolding peek
   peek-placed = record { goes = λ ts i. (first-inside n ts i, i) }
@@ -171,7 +189,7 @@ module _ (n : ℕ) where
     deeper-fair t none h nothing g = failAt-fair t 15 h tt
     deeper-fair t (some x) h (just l) g = g x l
 
-  ruleset laws = (then-placed, then-fair, next-fair, if-law, give-fair, fail-law, failAt-fair, ask-fair, peek-placed, read-placed, the-placed, read-fair, the-fair, loop-fair, deeper-fair)
+  ruleset laws = (then-placed, then-fair, next-fair, if-law, give-fair, fail-law, failAt-fair, ask-fair, look-fair, edition-fair, peek-placed, read-placed, the-placed, read-fair, the-fair, loop-fair, deeper-fair)
 
   -- ---- the readers of the grammar
 
@@ -188,41 +206,17 @@ module _ (n : ℕ) where
   unfolding grouped
   grouped-fair op operand h = then-placed peek-placed λ t k. then-fair h λ l. loop-fair (groupTurn-fair op operand h _) l
 
-  sum-fair : (p : Reader Tree) → Fair p → Fair (sum p)
-  unfolding sum
-  sum-fair p h = search grouped-fair
+  raiseTurn-fair : (operand : Reader Tree) → Fair operand → (c : G.Chain) → Fair (G.raiseTurn operand c)
+  unfolding G.raiseTurn
+  raiseTurn-fair operand h c = search laws depth 9
 
-  comparison-fair : (p : Reader Tree) → Fair p → Fair (comparison p)
-  unfolding comparison
-  comparison-fair p h = search (laws, sum-fair) depth 12
-
-  expression-fair : (p : Reader Tree) → Fair p → Fair (expression p)
-  unfolding expression
-  expression-fair p h = search (grouped-fair, comparison-fair)
-
-  itemTurn-fair : (s : String) (p : Reader Tree) → Fair p → (es : Trees) → Fair (G.itemTurn s p es)
-  unfolding G.itemTurn
-  itemTurn-fair s p h es = search (laws, expression-fair) depth 9
-
-  items-fair : (s : String) (p : Reader Tree) → Fair p → Fair (items s p)
-  unfolding items
-  items-fair s p h = loop-fair (itemTurn-fair s p h) _
-
-  arguments-fair : (o : Option (Reader Tree)) → Each Fair o → Fair (arguments o)
-  unfolding arguments
-  arguments-fair o h = search (laws, items-fair) depth 12
+  raised-fair : (operand : Reader Tree) → Fair operand → Fair (G.raised operand)
+  unfolding G.raised
+  raised-fair operand h = then-placed peek-placed λ t k. then-fair h λ l. loop-fair (raiseTurn-fair operand h) _
 
   method-fair : (b : ℕ) (x : Tree) (m : Token) (es : Trees) → m .from ≤ n → Fair (method b x m es)
   unfolding method
   method-fair b x m es h = search laws depth 12
-
-  postfixTurn-fair : (o : Option (Reader Tree)) → Each Fair o → (b : ℕ) (x : Tree) → Fair (G.postfixTurn o b x)
-  unfolding G.postfixTurn
-  postfixTurn-fair o h b x = search (laws, arguments-fair, method-fair, expression-fair) depth 12
-
-  postfixes-fair : (o : Option (Reader Tree)) → Each Fair o → (b : ℕ) (x : Tree) → Fair (postfixes o b x)
-  unfolding postfixes
-  postfixes-fair o h b x = loop-fair (postfixTurn-fair o h b) x
 
   dateOf-fair : (t : Token) → t .from ≤ n → Fair (dateOf t)
   unfolding dateOf
@@ -248,25 +242,57 @@ module _ (n : ℕ) where
   unfolding block
   block-fair s h = search (laws, blockTurn-fair) depth 9
 
-  record InnerFair (i : Inner) : Type 0 where
-    statement : Fair (i .statement)
-    primary : Fair (i .primary)
+  module _ (W : Language) where
+    power-fair : (p : Reader Tree) → Fair p → Fair (G.power W p)
+    unfolding G.power
+    power-fair p h = search (edition-fair, grouped-fair, raised-fair)
 
-  ifOver-fair : (i : Inner) → InnerFair i → Fair (ifOver i)
-  unfolding ifOver
-  ifOver-fair i h =
-      then-fair read-fair λ t. (then-fair (expression-fair (i .primary) (h .primary)) λ e. then-fair (block-fair (i .statement) (h .statement)) λ ss.
-      ask-fair (is "else") (next-fair read-fair (then-fair (block-fair (i .statement) (h .statement)) λ us. give-fair _)) (give-fair _))
+    signed-fair : (p : Reader Tree) → Fair p → Fair (G.signed W p)
+    unfolding G.signed
+    signed-fair p h = search (edition-fair, power-fair)
 
-  ended-fair : (p : Reader Tree) → Fair p → Fair (ended p)
-  unfolding ended
-  ended-fair p h = search (laws, expression-fair) depth 9
+    sum-fair : (p : Reader Tree) → Fair p → Fair (sum W p)
+    unfolding sum
+    sum-fair p h = search (grouped-fair, power-fair)
 
-  each-deep : (o : Option Inner) → Each InnerFair o → Each Fair (deep o)
-  each-deep none nothing = nothing
-  each-deep (some i) (just h) = just (h .primary)
+    comparison-fair : (p : Reader Tree) → Fair p → Fair (comparison W p)
+    unfolding comparison
+    comparison-fair p h = search (laws, sum-fair) depth 12
 
-  module _ (W : Words) where
+    expression-fair : (p : Reader Tree) → Fair p → Fair (expression W p)
+    unfolding expression
+    expression-fair p h = search (edition-fair, grouped-fair, comparison-fair)
+
+    itemTurn-fair : (s : String) (p : Reader Tree) → Fair p → (es : Trees) → Fair (G.itemTurn W s p es)
+    unfolding G.itemTurn
+    itemTurn-fair s p h es = search (laws, expression-fair) depth 9
+
+    items-fair : (s : String) (p : Reader Tree) → Fair p → Fair (items W s p)
+    unfolding items
+    items-fair s p h = loop-fair (itemTurn-fair s p h) _
+
+    arguments-fair : (o : Option (Reader Tree)) → Each Fair o → Fair (arguments W o)
+    unfolding arguments
+    arguments-fair o h = search (laws, items-fair) depth 12
+
+    postfixTurn-fair : (o : Option (Reader Tree)) → Each Fair o → (b : ℕ) (x : Tree) → Fair (G.postfixTurn W o b x)
+    unfolding G.postfixTurn
+    postfixTurn-fair o h b x = search (laws, arguments-fair, method-fair, expression-fair) depth 12
+
+    postfixes-fair : (o : Option (Reader Tree)) → Each Fair o → (b : ℕ) (x : Tree) → Fair (postfixes W o b x)
+    unfolding postfixes
+    postfixes-fair o h b x = loop-fair (postfixTurn-fair o h b) x
+
+    ifOver-fair : (i : Inner) → Both Fair i → Fair (ifOver W i)
+    unfolding ifOver
+    ifOver-fair i h =
+        then-fair read-fair λ t. (then-fair (expression-fair (i .primary) (h .primary)) λ e. then-fair (block-fair (i .statement) (h .statement)) λ ss.
+        ask-fair (is "else") (next-fair read-fair (then-fair (block-fair (i .statement) (h .statement)) λ us. give-fair _)) (give-fair _))
+
+    ended-fair : (p : Reader Tree) → Fair p → Fair (ended W p)
+    unfolding ended
+    ended-fair p h = search (laws, expression-fair) depth 9
+
     currencyOf-fair : (t : Token) → t .from ≤ n → Fair (G.currencyOf W t)
     unfolding G.currencyOf
     currencyOf-fair t h = search laws depth 6
@@ -317,11 +343,11 @@ module _ (n : ℕ) where
 
     minus-fair : (o : Option (Reader Tree)) → Each Fair o → (t : Token) → t .from ≤ n → Fair (G.minus W o t)
     unfolding G.minus
-    minus-fair o h t k = search laws depth 8
+    minus-fair o h t k = search (laws, signed-fair) depth 8
 
     primaryOver-fair : (o : Option (Reader Tree)) → Each Fair o → Fair (G.primaryOver W o)
     unfolding G.primaryOver
-    primaryOver-fair o h = search (laws, expression-fair, items-fair, postfixes-fair, minus-fair, pays-fair, name-fair) depth 24
+    primaryOver-fair o h = search (laws, expression-fair, signed-fair, items-fair, postfixes-fair, minus-fair, pays-fair, name-fair) depth 24
 
     primary-fair : (d : ℕ) → Fair (G.primary W d)
     unfolding G.primary
@@ -332,7 +358,7 @@ module _ (n : ℕ) where
     unfolding G.target
     target-fair = search (laws, named-fair) depth 9
 
-    forOver-fair : (i : Inner) → InnerFair i → Fair (G.forOver W i)
+    forOver-fair : (i : Inner) → Both Fair i → Fair (G.forOver W i)
     unfolding G.forOver
     forOver-fair i h =
         then-fair read-fair λ t. (then-placed (the-placed "name") λ v k. next-fair (named-fair v k) (next-fair (the-fair "in")
@@ -358,16 +384,16 @@ module _ (n : ℕ) where
     unfolding G.nameFirst
     nameFirst-fair p o h g k = search (if-law, assign-fair, compound-fair, assignPaid-fair, ended-fair)
 
-    plain-fair : (p : Reader Tree) (o : Option Inner) → Fair p → Each InnerFair o → Fair (G.plain W p o)
+    plain-fair : (p : Reader Tree) (o : Option Inner) → Fair p → Each (Both Fair) o → Fair (G.plain W p o)
     unfolding G.plain
     plain-fair p o h g =
         then-placed peek-placed λ t k.
         if-law (is "if" t) (deeper-fair t o k g ifOver-fair)
         (if-law (is "for" t) (deeper-fair t o k g forOver-fair) (if-law (is "pays" t) (paid-fair (deep o) (each-deep o g)) (ended-fair p h)))
 
-    statementOver-fair : (p : Reader Tree) (o : Option Inner) → Fair p → Each InnerFair o → Fair (G.statementOver W p o)
+    statementOver-fair : (p : Reader Tree) (o : Option Inner) → Fair p → Each (Both Fair) o → Fair (G.statementOver W p o)
     unfolding G.statementOver
-    statementOver-fair p o h g = record { goes = λ ts i. if-law (is "name" (first ts)) (nameFirst-fair p (deep o) h (each-deep o g) (nextKind ts)) (plain-fair p o h g) .goes ts i }
+    statementOver-fair p o h g = record { goes = λ ts i. if-law (is "name" (first ts)) (nameFirst-fair p (deep o) h (each-deep o g) (G.nextKind W ts)) (plain-fair p o h g) .goes ts i }
 
     statement-fair : (d : ℕ) → Fair (G.statement W d)
     unfolding G.statement
@@ -392,7 +418,7 @@ back-inside : (m s : ℕ) (ts : List Token) → Inside m ts → Inside (m - s) (
 back-inside m s [] i = tt
 back-inside m s (t ∷ ts) i = (omega (arith, i .0), back-inside m s ts (i .1))
 
-module _ (W : Words) (n : ℕ) where
+module _ (W : Language) (n : ℕ) where
   -- what reads on from the byte b, with tokens no further than the byte n of the script
   abbrev Goes : (ℕ → List Token → Outcome) → Type 0
   Goes k = (b m : ℕ) (ts : List Token) → Inside m ts → b + m ≤ n → Judged 15 n (k b ts)
@@ -425,27 +451,27 @@ sorted-inside : (i j : ℕ) (ts : List Token) → Sorted i j ts → (i ≤ j) ×
 sorted-inside i j [] s = (s, (omega arith, tt))
 sorted-inside i j (t ∷ ts) s = let r = sorted-inside (t .from) j ts (s .2) in (omega (arith, s .0, r .0), (r .0, r .1))
 
-ofTokens-judged : (l : Lists) (bs : List ℕ) → Judged 15 (length bs) (ofTokens l (length bs) (tokens bs))
+ofTokens-judged : (E : Edition) (l : Lists) (bs : List ℕ) → Judged 15 (length bs) (ofTokens E l (length bs) (tokens bs))
 unfolding tokens ofTokens statements from
-ofTokens-judged l bs = go (scan 0 0 bs) refl
+ofTokens-judged E l bs = go (scan 0 0 bs) refl
   where
-    counted : (b : Bool) (ts : List Token) → Inside (length bs) ts → Judged 15 (length bs) (if b then wrong 7 (length bs) else statements (words l) ts)
+    counted : (b : Bool) (ts : List Token) → Inside (length bs) ts → Judged 15 (length bs) (if b then wrong 7 (length bs) else statements (language E l) ts)
     counted true ts i = ground 7 tt (omega arith)
-    counted false ts i = upTo-goes (words l) (length bs) (suc (length ts)) 0 (length bs) ts i (omega arith)
+    counted false ts i = upTo-goes (language E l) (length bs) (suc (length ts)) 0 (length bs) ts i (omega arith)
 
-    go : (o : Lexed) → scan 0 0 bs ≡ o → Judged 15 (length bs) (ofTokens l (length bs) (finished (length bs) o))
+    go : (o : Lexed) → scan 0 0 bs ≡ o → Judged 15 (length bs) (ofTokens E l (length bs) (finished (length bs) o))
     go (lexed ts) e =
         let q : Sorted 0 (length bs) ts = subst (λ (j : ℕ). Sorted 0 j ts) (zero-add (length bs)) (scan-sorted 0 0 bs ts e) in
         counted (ltb mostTokens (count counts (ts ++ (final (length bs) ∷ [])) - 1)) (ts ++ (final (length bs) ∷ [])) (sorted-inside 0 (length bs) ts q .1)
     go (faulty f p) e = let r = scan-refused 0 0 bs e in record { least = omega (arith, r .0); most = omega (arith, r .1); inside = omega (arith, r .2) }
 
 -- grounds 1 and 2, and what is read of a script that is short enough
-pub by-order : (P : Outcome → Type 0) (l : Lists) (bs : List ℕ) → P (wrong 1 0) → P (wrong 2 0)
-    → (length (script bs) ≤ mostBytes → P (ofTokens l (length (script bs)) (tokens (script bs)))) → P (readScript l bs)
+pub by-order : (P : Outcome → Type 0) (E : Edition) (l : Lists) (bs : List ℕ) → P (wrong 1 0) → P (wrong 2 0)
+    → (length (script bs) ≤ mostBytes → P (ofTokens E l (length (script bs)) (tokens (script bs)))) → P (readScript E l bs)
 unfolding readScript
-by-order P l bs long lists short = go (ltb mostBytes (length (script bs))) refl (not (goodLists l))
+by-order P E l bs long lists short = go (ltb mostBytes (length (script bs))) refl (not (goodLists l))
   where
-    go : (t : Bool) → ltb mostBytes (length (script bs)) ≡ t → (u : Bool) → P (if t then wrong 1 0 else if u then wrong 2 0 else ofTokens l (length (script bs)) (tokens (script bs)))
+    go : (t : Bool) → ltb mostBytes (length (script bs)) ≡ t → (u : Bool) → P (if t then wrong 1 0 else if u then wrong 2 0 else ofTokens E l (length (script bs)) (tokens (script bs)))
     go true e u = long
     go false e true = lists
     go false e false = short (ltb-false mostBytes (length (script bs)) e)
@@ -464,34 +490,90 @@ fitting-judged n a b (accepted es) h k l = go (ltb a (nodes es)) (ltb b (length 
 fitting-judged n a b (wrong f p) h k l = record { least = h .least; most = omega (arith, h .most); inside = h .inside }
 
 -- n is a bound of a script that is short enough
-module _ (l : Lists) (bs : List ℕ) (n : ℕ) (bound : length (script bs) ≤ mostBytes → length (script bs) ≤ n) where
-  text-judged : length (script bs) ≤ mostBytes → Judged 15 n (ofTokens l (length (script bs)) (tokens (script bs)))
-  text-judged h = further (length (script bs)) n (bound h) (ofTokens l (length (script bs)) (tokens (script bs))) (ofTokens-judged l (script bs))
+module _ (E : Edition) (l : Lists) (bs : List ℕ) (n : ℕ) (bound : length (script bs) ≤ mostBytes → length (script bs) ≤ n) where
+  text-judged : length (script bs) ≤ mostBytes → Judged 15 n (ofTokens E l (length (script bs)) (tokens (script bs)))
+  text-judged h = further (length (script bs)) n (bound h) (ofTokens E l (length (script bs)) (tokens (script bs))) (ofTokens-judged E l (script bs))
 
-  read-judged : Judged 15 n (readScript l bs)
-  read-judged = by-order (Judged 15 n) l bs (ground 1 tt (omega arith)) (ground 2 tt (omega arith)) text-judged
+  read-judged : Judged 15 n (readScript E l bs)
+  read-judged = by-order (Judged 15 n) E l bs (ground 1 tt (omega arith)) (ground 2 tt (omega arith)) text-judged
 
-  reading-judged : (a b : ℕ) → Judged 16 n (reading l a b bs)
-  unfolding reading
+  reading-judged : (a b : ℕ) → Judged 16 n (readingIn E l a b bs)
+  unfolding readingIn
   reading-judged a b =
-      by-order (λ o. Judged 16 n (fitting (length (script bs)) a b o)) l bs (ground 1 tt (omega arith)) (ground 2 tt (omega arith)) λ h.
-      fitting-judged n a b (ofTokens l (length (script bs)) (tokens (script bs))) (text-judged h) (length (script bs)) (bound h)
+      by-order (λ o. Judged 16 n (fitting (length (script bs)) a b o)) E l bs (ground 1 tt (omega arith)) (ground 2 tt (omega arith)) λ h.
+      fitting-judged n a b (ofTokens E l (length (script bs)) (tokens (script bs))) (text-judged h) (length (script bs)) (bound h)
 
 -- ---- what a refusal is
 
-module _ (l : Lists) (bs : List ℕ) {f p : ℕ} where
+module _ (E : Edition) (l : Lists) (bs : List ℕ) {f p : ℕ} where
   -- of a script: its number is one of 1 to 15, so never 0, which says that the script is accepted; its byte is one of the script's, or its end
-  pub read-refused : readScript l bs ≡ wrong f p → Ground 15 (length (script bs)) f p
-  read-refused e = subst (Judged 15 (length (script bs))) e (read-judged l bs (length (script bs)) (λ h. omega arith))
+  pub read-refused : readScript E l bs ≡ wrong f p → Ground 15 (length (script bs)) f p
+  read-refused e = subst (Judged 15 (length (script bs))) e (read-judged E l bs (length (script bs)) (λ h. omega arith))
 
   -- however long the text is: 1 is at byte 0
-  pub read-small : readScript l bs ≡ wrong f p → p ≤ mostBytes
-  read-small e = subst (Judged 15 mostBytes) e (read-judged l bs mostBytes (λ h. h)) .inside
+  pub read-small : readScript E l bs ≡ wrong f p → p ≤ mostBytes
+  read-small e = subst (Judged 15 mostBytes) e (read-judged E l bs mostBytes (λ h. h)) .inside
 
   module _ (maxNodes maxEntries : ℕ) where
     -- of a script with room for so many records and statements: 16 as well
-    pub reading-refused : reading l maxNodes maxEntries bs ≡ wrong f p → Ground 16 (length (script bs)) f p
-    reading-refused e = subst (Judged 16 (length (script bs))) e (reading-judged l bs (length (script bs)) (λ h. omega arith) maxNodes maxEntries)
+    pub reading-refused : readingIn E l maxNodes maxEntries bs ≡ wrong f p → Ground 16 (length (script bs)) f p
+    reading-refused e = subst (Judged 16 (length (script bs))) e (reading-judged E l bs (length (script bs)) (λ h. omega arith) maxNodes maxEntries)
 
-    pub reading-small : reading l maxNodes maxEntries bs ≡ wrong f p → p ≤ mostBytes
-    reading-small e = subst (Judged 16 mostBytes) e (reading-judged l bs mostBytes (λ h. h) maxNodes maxEntries) .inside
+    pub reading-small : readingIn E l maxNodes maxEntries bs ≡ wrong f p → p ≤ mostBytes
+    reading-small e = subst (Judged 16 mostBytes) e (reading-judged E l bs mostBytes (λ h. h) maxNodes maxEntries) .inside
+
+-- ---- by the edition's number
+
+-- another edition number (26, at byte 0), or one of the grounds 1 to last
+abbrev pub Named : ℕ → ℕ → ℕ → ℕ → Type 0
+Named last n f p = ((f ≡ 26) × (p ≡ 0)) ⊎ Ground last n f p
+
+pub named-least : {last n f p : ℕ} → Named last n f p → 1 ≤ f
+named-least g = ⊎-elim (λ e. omega (arith, e .0)) (λ h. h .least) g
+
+pub named-inside : {last n f p : ℕ} → Named last n f p → p ≤ n
+named-inside g = ⊎-elim (λ e. omega (arith, e .1)) (λ h. h .inside) g
+
+abbrev JudgedBy : ℕ → Outcome → Type 0
+JudgedBy n (accepted es) = Unit {0}
+JudgedBy n (wrong f p) = Named 16 n f p
+
+judged-by : (n : ℕ) (o : Outcome) → Judged 16 n o → JudgedBy n o
+judged-by n (accepted es) h = tt
+judged-by n (wrong f p) h = inr h
+
+module _ (k : ℕ) (l : Lists) (bs : List ℕ) (maxNodes maxEntries : ℕ) where
+  -- 26 comes before all others: whatever the lists, the script and the room are
+  pub edition-first : eqb k 1 ≡ false → eqb k 2 ≡ false → reading k l maxNodes maxEntries bs ≡ wrong 26 0
+  unfolding reading
+  edition-first x y = rw (x, y)
+
+  numbered-judged : (n : ℕ) → (length (script bs) ≤ mostBytes → length (script bs) ≤ n) → JudgedBy n (reading k l maxNodes maxEntries bs)
+  unfolding reading
+  numbered-judged n bound = go (eqb k 1) (eqb k 2)
+    where
+      in-edition : (E : Edition) → JudgedBy n (readingIn E l maxNodes maxEntries bs)
+      in-edition E = judged-by n (readingIn E l maxNodes maxEntries bs) (reading-judged E l bs n bound maxNodes maxEntries)
+
+      go : (x y : Bool) → JudgedBy n (if x then readingIn one l maxNodes maxEntries bs else if y then readingIn two l maxNodes maxEntries bs else wrong 26 0)
+      go true y = in-edition one
+      go false true = in-edition two
+      go false false = inl (refl, refl)
+
+  -- what is accepted is of an edition
+  pub edition-known : {es : List Entry} → reading k l maxNodes maxEntries bs ≡ accepted es → (k ≡ 1) ⊎ (k ≡ 2)
+  unfolding reading
+  edition-known {es} e = go (eqb k 1) (eqb k 2) refl refl e
+    where
+      go : (x y : Bool) → eqb k 1 ≡ x → eqb k 2 ≡ y
+          → (if x then readingIn one l maxNodes maxEntries bs else if y then readingIn two l maxNodes maxEntries bs else wrong 26 0) ≡ accepted es → (k ≡ 1) ⊎ (k ≡ 2)
+      go true y p q h = inl (eqb-true k 1 p)
+      go false true p q h = inr (eqb-true k 2 q)
+      go false false p q h = absurd (let z : _≡_ {A = ℕ} 0 1 = cc in omega arith)
+
+  module _ {f p : ℕ} (e : reading k l maxNodes maxEntries bs ≡ wrong f p) where
+    pub numbered-refused : Named 16 (length (script bs)) f p
+    numbered-refused = subst (JudgedBy (length (script bs))) e (numbered-judged (length (script bs)) (λ h. omega arith))
+
+    pub numbered-small : p ≤ mostBytes
+    numbered-small = named-inside (subst (JudgedBy mostBytes) e (numbered-judged mostBytes (λ h. h)))

@@ -12,7 +12,7 @@ use Rattle.tokens.specs.Text.{if_then_else_, count}
 use Rattle.tokens.specs.Tokens.{Token, code, counts, endOf}
 use Rattle.grammar.specs.Trees.{Tree}
 use Rattle.grammar.specs.Readers.{Out, ok, refused as wrong, first, is, skip, lastOf}
-use Rattle.grammar.specs.Grammar.{Words, statement}
+use Rattle.grammar.specs.Grammar.{Language, statement}
 use Rattle.grammar.specs.Script.{Entry, Outcome, accepted, refused, front, back, entryOf, onward, turn, upTo, from, movedEntry}
 use Rattle.grammar.proofs.Laws.{Rel, Near, near-append, Reads, left-shorter, lead, lead-skip, skip-lead, skip-first, skip-clear, Quiet}
 use Rattle.grammar.proofs.StatementLaws.{Tail, near-tail, statement-tail}
@@ -149,7 +149,7 @@ map-parts f (a ∷ x) (c ∷ l) y e =
       right = R .right;
     }
 
-module _ (W : Words) where
+module _ (W : Language) where
   -- ---- the statements without their bound
 
   turn-same : (b : ℕ) (us : List Token) (k k′ : ℕ → List Token → Outcome)

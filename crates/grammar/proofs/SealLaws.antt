@@ -11,7 +11,7 @@ use Rattle.tokens.specs.Tokens.{Token, code}
 use Rattle.grammar.specs.Trees.{Tree}
 use Rattle.grammar.specs.Readers.{ok, Reader, _>>=_, _>>_, first, is, give, failAt, peek, the, lastOf, closes}
 use Rattle.grammar.specs.Grammar as G
-use Rattle.grammar.specs.Grammar.{deeper, optional, dateOf, aDate, Words, Inner, deep, nextKind}
+use Rattle.grammar.specs.Grammar.{deeper, optional, dateOf, aDate, Language, Inner, deep, nextKind}
 use Rattle.grammar.proofs.Laws.{loop-law}
 use Rattle.grammar.proofs.GrammarLaws.{Moves, InnerLaw, expression-law, blockTurn-law, named-law, payments-law, primary-law, target-law}
 use Rattle.grammar.proofs.StatementLaws.{stops, payments-stop, near-tail, statement-tail}
@@ -86,23 +86,12 @@ string-sealed : Ends Sealed (the "string")
 unfolding code
 string-sealed = the-sealed "string" refl refl
 
--- ---- statements but pays
-
-ended-sealed : (p : Reader Tree) → Moves p → Ends Sealed (G.ended p)
-unfolding G.ended _>>_
-ended-sealed p h = some-sealed (law-some (λ a. 1) (expression-law p h)) λ e. sealed-keeps semicolon-sealed λ t. keeps-give e
+-- ---- blocks
 
 block-sealed : (s : Reader Tree) → Moves s → Ends Sealed (G.block s)
 unfolding G.block _>>_
 block-sealed s h =
     some-sealed (the-some "{") λ t. some-sealed (law-some (λ a. 0) (loop-law (blockTurn-law s h) _)) λ ss. sealed-keeps brace-sealed λ u. keeps-give ss
-
-ifOver-sealed : (i : Inner) → InnerLaw i → Ends Sealed (G.ifOver i)
-unfolding G.ifOver _>>_
-ifOver-sealed i h =
-    some-sealed read-some λ t. some-sealed (law-some (λ a. 1) (expression-law (i .primary) (h .primary))) λ e.
-    sealed-keeps (block-sealed (i .statement) (h .statement)) λ ss.
-    ask-ends (is "else") (sealed-is-keeps (some-sealed read-some λ u. sealed-keeps (block-sealed (i .statement) (h .statement)) λ us. keeps-give _)) (keeps-give _)
 
 -- ---- pays: it stops where no statement begins, or has read a string
 
@@ -160,7 +149,7 @@ aDate-sealed : Ends Sealed aDate
 unfolding aDate
 aDate-sealed = sealed-keeps string-sealed dateOf-keeps
 
-module _ (W : Words) where
+module _ (W : Language) where
   currencyOf-keeps : (t : Token) → Ends Keeps (G.currencyOf W t)
   unfolding G.currencyOf
   currencyOf-keeps t = search (if-ends, failAt-ends, keeps-give)
@@ -183,11 +172,22 @@ module _ (W : Words) where
 
   -- ---- all statements
 
+  ended-sealed : (p : Reader Tree) → Moves p → Ends Sealed (G.ended W p)
+  unfolding G.ended _>>_
+  ended-sealed p h = some-sealed (law-some (λ a. 1) (expression-law W p h)) λ e. sealed-keeps semicolon-sealed λ t. keeps-give e
+
+  ifOver-sealed : (i : Inner) → InnerLaw i → Ends Sealed (G.ifOver W i)
+  unfolding G.ifOver _>>_
+  ifOver-sealed i h =
+      some-sealed read-some λ t. some-sealed (law-some (λ a. 1) (expression-law W (i .primary) (h .primary))) λ e.
+      sealed-keeps (block-sealed (i .statement) (h .statement)) λ ss.
+      ask-ends (is "else") (sealed-is-keeps (some-sealed read-some λ u. sealed-keeps (block-sealed (i .statement) (h .statement)) λ us. keeps-give _)) (keeps-give _)
+
   forOver-sealed : (i : Inner) → InnerLaw i → Ends Sealed (G.forOver W i)
   unfolding G.forOver _>>_
   forOver-sealed i h =
       some-sealed read-some λ t. some-sealed (the-some "name") λ v. some-sealed (law-some (λ a. 0) (named-law W v)) λ x. some-sealed (the-some "in") λ u.
-      some-sealed (law-some (λ a. 1) (expression-law (i .primary) (h .primary))) λ e. sealed-keeps (block-sealed (i .statement) (h .statement)) λ ss. keeps-give _
+      some-sealed (law-some (λ a. 1) (expression-law W (i .primary) (h .primary))) λ e. sealed-keeps (block-sealed (i .statement) (h .statement)) λ ss. keeps-give _
 
   assign-sealed : (p : Reader Tree) → Moves p → Ends Sealed (G.assign W p)
   unfolding G.assign _>>_
@@ -213,7 +213,7 @@ module _ (W : Words) where
 
   statementOver-seals : (p : Reader Tree) (o : Option Inner) → Moves p → EachInnerFirm o → Seals (G.statementOver W p o)
   unfolding G.statementOver
-  statementOver-seals p o h g ts a r e = if-seals (is "name" (first ts)) (nameFirst-seals p (deep o) h (firm-deep o g) (nextKind ts)) (plain-seals p o h g) ts a r e
+  statementOver-seals p o h g ts a r e = if-seals (is "name" (first ts)) (nameFirst-seals p (deep o) h (firm-deep o g) (nextKind W ts)) (plain-seals p o h g) ts a r e
 
   -- a statement ends in `;`, `}` or a string, unless pays stops at what stands behind it
   pub statement-seals : (d : ℕ) → Seals (G.statement W d)

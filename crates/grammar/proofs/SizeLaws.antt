@@ -2,7 +2,7 @@
 -- A reader holds k nodes of credit, each token that is read adds three, and what was read weighs w at most what is held.
 use mathlib.Core.Path.{_≡_, refl, subst}
 use mathlib.Core.Bool.{Bool, true, false, _&&_, _||_, not}
-use mathlib.Core.List.{List}
+use mathlib.Core.List.{List, [], _∷_}
 use mathlib.Core.Option.{Option, none, some}
 use Prim.Native.Nat.{ℕ, zero, suc, _+_, _*_, _≤_, _<_}
 use Prim.Native.String.{String}
@@ -14,9 +14,9 @@ use Rattle.tokens.specs.Names.{place, member}
 use Rattle.tokens.specs.Dates.{date}
 use Rattle.tokens.specs.Tokens.{Token, code}
 use Rattle.grammar.specs.Trees.{Tree, Trees, nil, snoc, parts, size, sizes}
-use Rattle.grammar.specs.Readers.{Out, ok, refused, Reader, bind, _>>=_, _>>_, Turn, again, done, follow, turns, loop, first, is, give, fail, failAt, ask, peek}
+use Rattle.grammar.specs.Readers.{Out, ok, refused, Reader, bind, _>>=_, _>>_, Turn, again, done, follow, turns, loop, first, is, give, fail, failAt, ask, look, peek}
 use Rattle.grammar.specs.Grammar as G
-use Rattle.grammar.specs.Grammar.{deeper, optional, grouped, sum, comparison, expression, items, arguments, method, postfixes, aDate, df, rateIndex, Words, Inner, block, ifOver, ended, deep, nextKind}
+use Rattle.grammar.specs.Grammar.{deeper, optional, grouped, sum, comparison, expression, items, arguments, method, postfixes, aDate, df, rateIndex, Language, Inner, block, ifOver, ended, deep, Edition, one, two, inEdition, nextKind}
 use Rattle.grammar.proofs.Laws.{left-shorter}
 use Rattle.grammar.proofs.GrammarLaws.{Stays, Moves, moving-stays, read-moves, the-moves, optional-law, dateOf-law, aDate-law, aCurrency-law, named-law}
 use Rattle.grammar.proofs.StatementLaws.{near-tail, statement-tail}
@@ -135,6 +135,10 @@ module _ {A : Type 0} {k : ℕ} {w : A → ℕ} where
   unfolding ask
   ask-pay test hm hn = record { bound = λ ts a r e. if-pay (test (first ts)) hm hn .bound ts a r e }
 
+  pub look-pay : (test : List Token → Bool) {m n : Reader A} → Pays k w m → Pays k w n → Pays k w (look test m n)
+  unfolding look
+  look-pay test hm hn = record { bound = λ ts a r e. if-pay (test ts) hm hn .bound ts a r e }
+
   -- with more credit, or less weight
   pub lend : {j : ℕ} {v : A → ℕ} {m : Reader A} → j ≤ k → ((a : A) → w a ≤ v a) → Pays j v m → Pays k w m
   lend h g hm = record { bound = λ ts a r e. omega (arith, h, g a, hm .bound ts a r e) }
@@ -213,50 +217,34 @@ unfolding grouped
 grouped-size op operand h =
     pays-sized (peek-pay λ t. tree-pay h λ l. lend (omega arith) (λ a. omega arith) (loop-pay (groupTurn-pay op operand h _) l))
 
-pub power-size : (p : Reader Tree) → Sized p → Sized (G.power p)
-power-size p h = grouped-size _ p h
+-- the operands of a chain, and a node for each but the last
+abbrev pub held : List (ℕ × Tree) → ℕ
+held [] = 0
+held (l ∷ ls) = suc (size (l .1)) + held ls
 
-pub product-size : (p : Reader Tree) → Sized p → Sized (G.product p)
-product-size p h = grouped-size _ (G.power p) (power-size p h)
+abbrev pub chainSize : G.Chain → ℕ
+chainSize c = size (c .1) + held (c .2)
 
-pub sum-size : (p : Reader Tree) → Sized p → Sized (sum p)
-unfolding sum
-sum-size p h = grouped-size _ (G.product p) (product-size p h)
+pub onto-size : (r : Tree) (ls : List (ℕ × Tree)) → size (G.onto r ls) ≡ size r + held ls
+unfolding size
+onto-size r [] = omega arith
+onto-size r (l ∷ ls) = omega (arith, onto-size (G.binary 12 (l .0) (l .1) r) ls)
 
-pub comparison-size : (p : Reader Tree) → Sized p → Sized (comparison p)
-unfolding comparison size
-comparison-size p h =
-    pays-sized (peek-pay λ s. tree-pay (sum-size p h) λ l.
-    ask-pay _ (move-pay read-moves λ t. tree-pay (sum-size p h) λ r. give-pay _ (omega arith)) (give-pay l (omega arith)))
+pub raiseTurn-pay : (operand : Reader Tree) → Sized operand → (c : G.Chain) → Pays (chainSize c) (turned chainSize size) (G.raiseTurn operand c)
+unfolding G.raiseTurn size
+raiseTurn-pay operand h c =
+    ask-pay (is "**") (move-next-pay read-moves (peek-pay λ t. tree-pay h λ r. give-pay _ (omega arith)))
+    (give-pay (done (G.onto (c .1) (c .2))) (omega (arith, onto-size (c .1) (c .2))))
 
-pub expression-size : (p : Reader Tree) → Sized p → Sized (expression p)
-unfolding expression
-expression-size p h = grouped-size _ (comparison p) (comparison-size p h)
+pub raised-size : (operand : Reader Tree) → Sized operand → Sized (G.raised operand)
+unfolding G.raised
+raised-size operand h =
+    pays-sized (peek-pay λ t. tree-pay h λ l. lend (omega arith) (λ a. omega arith) (loop-pay (raiseTurn-pay operand h) _))
 
--- ---- lists and arguments
-
-pub itemTurn-pay : (close : String) (p : Reader Tree) → Sized p → (es : Trees) → Pays (sizes es) (turned sizes sizes) (G.itemTurn close p es)
-unfolding G.itemTurn
-itemTurn-pay close p h es =
-    ask-pay (is close) (give-pay (done es) (omega arith)) (tree-pay (expression-size p h) λ e. peek-pay λ t.
-    if-pay (is "," t) (move-next-pay (the-moves ",") (give-pay (again (snoc es e)) (omega (arith, size-snoc es e))))
-    (if-pay (is close t) (give-pay (again (snoc es e)) (omega (arith, size-snoc es e))) (fail-pay 8)))
-
-pub items-size : (close : String) (p : Reader Tree) → Sized p → SizedAll (items close p)
-unfolding items size
-items-size close p h = pays-all (loop-pay (itemTurn-pay close p h) nil)
-
--- the signs pay for a node more
-pub arguments-spare : (o : Option (Reader Tree)) → EachSized o → Pays 0 (λ es. suc (sizes es)) (arguments o)
-unfolding arguments
-arguments-spare o h =
-    peek-pay λ t. if-pay (is "(" t) (deeper-pay t o h λ p m. move-next-pay read-moves
-    (trees-pay (items-size ")" p m) λ es. move-next-pay (the-moves ")") (give-pay es (omega arith)))) (fail-pay 8)
-
-pub arguments-size : (o : Option (Reader Tree)) → EachSized o → SizedAll (arguments o)
-arguments-size o h = pays-all (lend (omega arith) (λ a. omega arith) (arguments-spare o h))
-
--- ---- postfixes
+module _ {m n : Reader Tree} where
+  pub edition-size : (e : Edition) → Sized m → Sized n → Sized (inEdition e m n)
+  edition-size one hm hn = hm
+  edition-size two hm hn = hn
 
 pub method-size : (b : ℕ) (x : Tree) (m : Token) (es : Trees) → SizedUp (suc (size x + sizes es)) (method b x m es)
 unfolding method size
@@ -264,26 +252,6 @@ method-size b x m es =
     pays-up (if-pay (same (bytes "append") (m .text) && eqb (parts es) 1) (give-pay _ (omega arith))
     (if-pay (same (bytes "mean") (m .text) && eqb (parts es) 0) (give-pay _ (omega arith))
     (if-pay (same (bytes "std") (m .text) && eqb (parts es) 0) (give-pay _ (omega arith)) (failAt-pay m 10))))
-
-pub methodOf-pay : (o : Option (Reader Tree)) → EachSized o → (b : ℕ) (x : Tree) → Pays (size x) (turned size size) (G.methodOf o b x)
-methodOf-pay o h b x =
-    move-pay (the-moves "name") λ m. trees-pay (arguments-size o h) λ es.
-    pay-then (up-last (suc (size x + sizes es)) (omega arith) (method-size b x m es)) λ y. give-pay (again y) (omega arith)
-
-pub indexOf-pay : (p : Reader Tree) → Sized p → (b : ℕ) (x : Tree) → Pays (size x) (turned size size) (G.indexOf p b x)
-unfolding size
-indexOf-pay p h b x = tree-pay (expression-size p h) λ i. move-next-pay (the-moves "]") (give-pay (again (G.binary 28 b x i)) (omega arith))
-
-pub postfixTurn-pay : (o : Option (Reader Tree)) → EachSized o → (b : ℕ) (x : Tree) → Pays (size x) (turned size size) (G.postfixTurn o b x)
-unfolding G.postfixTurn
-postfixTurn-pay o h b x =
-    peek-pay λ t. if-pay (is "." t) (move-next-pay read-moves (lend (omega arith) (λ a. omega arith) (methodOf-pay o h b x)))
-    (if-pay (is "[" t) (deeper-pay t o h λ p m. move-next-pay read-moves (lend (omega arith) (λ a. omega arith) (indexOf-pay p m b x)))
-    (give-pay (done x) (omega arith)))
-
-pub postfixes-size : (o : Option (Reader Tree)) → EachSized o → (b : ℕ) (x : Tree) → SizedUp (size x) (postfixes o b x)
-unfolding postfixes
-postfixes-size o h b x = pays-up (loop-pay (postfixTurn-pay o h b) x)
 
 -- ---- calls
 
@@ -317,19 +285,89 @@ unfolding block
 block-size s h =
     pays-all (move-next-pay (the-moves "{") (trees-pay (blockLoop-size s h) λ ss. move-next-pay (the-moves "}") (give-pay ss (omega arith))))
 
-pub ifOver-size : (i : Inner) → Sized (i .statement) → Sized (i .primary) → Sized (ifOver i)
-unfolding ifOver size
-ifOver-size i hs hp =
-    pays-sized (move-pay read-moves λ t. tree-pay (expression-size (i .primary) hp) λ e. trees-pay (block-size (i .statement) hs) λ ss.
-    ask-pay (is "else")
-    (move-next-pay read-moves (trees-pay (block-size (i .statement) hs) λ us. give-pay _ (omega (arith, sizes-join ss us))))
-    (give-pay _ (omega arith)))
+module _ (W : Language) where
+  pub power-size : (p : Reader Tree) → Sized p → Sized (G.power W p)
+  unfolding G.power
+  power-size p h = search (edition-size, grouped-size, raised-size)
 
-pub ended-size : (p : Reader Tree) → Sized p → Sized (ended p)
-unfolding ended
-ended-size p h = pays-sized (tree-pay (expression-size p h) λ e. move-next-pay (the-moves ";") (give-pay e (omega arith)))
+  pub signed-size : (p : Reader Tree) → Sized p → Sized (G.signed W p)
+  unfolding G.signed
+  signed-size p h = search (edition-size, power-size)
 
-module _ (W : Words) where
+  pub product-size : (p : Reader Tree) → Sized p → Sized (G.product W p)
+  product-size p h = grouped-size _ (G.power W p) (power-size p h)
+
+  pub sum-size : (p : Reader Tree) → Sized p → Sized (sum W p)
+  unfolding sum
+  sum-size p h = grouped-size _ (G.product W p) (product-size p h)
+
+  pub comparison-size : (p : Reader Tree) → Sized p → Sized (comparison W p)
+  unfolding comparison size
+  comparison-size p h =
+      pays-sized (peek-pay λ s. tree-pay (sum-size p h) λ l.
+      ask-pay _ (move-pay read-moves λ t. tree-pay (sum-size p h) λ r. give-pay _ (omega arith)) (give-pay l (omega arith)))
+
+  pub expression-size : (p : Reader Tree) → Sized p → Sized (expression W p)
+  unfolding expression
+  expression-size p h = search (edition-size, grouped-size, comparison-size)
+
+  -- ---- lists and arguments
+
+  pub itemTurn-pay : (close : String) (p : Reader Tree) → Sized p → (es : Trees) → Pays (sizes es) (turned sizes sizes) (G.itemTurn W close p es)
+  unfolding G.itemTurn
+  itemTurn-pay close p h es =
+      ask-pay (is close) (give-pay (done es) (omega arith)) (tree-pay (expression-size p h) λ e. peek-pay λ t.
+      if-pay (is "," t) (move-next-pay (the-moves ",") (give-pay (again (snoc es e)) (omega (arith, size-snoc es e))))
+      (if-pay (is close t) (give-pay (again (snoc es e)) (omega (arith, size-snoc es e))) (fail-pay 8)))
+
+  pub items-size : (close : String) (p : Reader Tree) → Sized p → SizedAll (items W close p)
+  unfolding items size
+  items-size close p h = pays-all (loop-pay (itemTurn-pay close p h) nil)
+
+  -- the signs pay for a node more
+  pub arguments-spare : (o : Option (Reader Tree)) → EachSized o → Pays 0 (λ es. suc (sizes es)) (arguments W o)
+  unfolding arguments
+  arguments-spare o h =
+      peek-pay λ t. if-pay (is "(" t) (deeper-pay t o h λ p m. move-next-pay read-moves
+      (trees-pay (items-size ")" p m) λ es. move-next-pay (the-moves ")") (give-pay es (omega arith)))) (fail-pay 8)
+
+  pub arguments-size : (o : Option (Reader Tree)) → EachSized o → SizedAll (arguments W o)
+  arguments-size o h = pays-all (lend (omega arith) (λ a. omega arith) (arguments-spare o h))
+
+  -- ---- postfixes
+
+  pub methodOf-pay : (o : Option (Reader Tree)) → EachSized o → (b : ℕ) (x : Tree) → Pays (size x) (turned size size) (G.methodOf W o b x)
+  methodOf-pay o h b x =
+      move-pay (the-moves "name") λ m. trees-pay (arguments-size o h) λ es.
+      pay-then (up-last (suc (size x + sizes es)) (omega arith) (method-size b x m es)) λ y. give-pay (again y) (omega arith)
+
+  pub indexOf-pay : (p : Reader Tree) → Sized p → (b : ℕ) (x : Tree) → Pays (size x) (turned size size) (G.indexOf W p b x)
+  unfolding size
+  indexOf-pay p h b x = tree-pay (expression-size p h) λ i. move-next-pay (the-moves "]") (give-pay (again (G.binary 28 b x i)) (omega arith))
+
+  pub postfixTurn-pay : (o : Option (Reader Tree)) → EachSized o → (b : ℕ) (x : Tree) → Pays (size x) (turned size size) (G.postfixTurn W o b x)
+  unfolding G.postfixTurn
+  postfixTurn-pay o h b x =
+      peek-pay λ t. if-pay (is "." t) (move-next-pay read-moves (lend (omega arith) (λ a. omega arith) (methodOf-pay o h b x)))
+      (if-pay (is "[" t) (deeper-pay t o h λ p m. move-next-pay read-moves (lend (omega arith) (λ a. omega arith) (indexOf-pay p m b x)))
+      (give-pay (done x) (omega arith)))
+
+  pub postfixes-size : (o : Option (Reader Tree)) → EachSized o → (b : ℕ) (x : Tree) → SizedUp (size x) (postfixes W o b x)
+  unfolding postfixes
+  postfixes-size o h b x = pays-up (loop-pay (postfixTurn-pay o h b) x)
+
+  pub ifOver-size : (i : Inner) → Sized (i .statement) → Sized (i .primary) → Sized (ifOver W i)
+  unfolding ifOver size
+  ifOver-size i hs hp =
+      pays-sized (move-pay read-moves λ t. tree-pay (expression-size (i .primary) hp) λ e. trees-pay (block-size (i .statement) hs) λ ss.
+      ask-pay (is "else")
+      (move-next-pay read-moves (trees-pay (block-size (i .statement) hs) λ us. give-pay _ (omega (arith, sizes-join ss us))))
+      (give-pay _ (omega arith)))
+
+  pub ended-size : (p : Reader Tree) → Sized p → Sized (ended W p)
+  unfolding ended
+  ended-size p h = pays-sized (tree-pay (expression-size p h) λ e. move-next-pay (the-moves ";") (give-pay e (omega arith)))
+
   -- ---- calls
 
   pub equity-pay : (b : ℕ) (t : Token) → Pays 1 size (G.equity W b t)
@@ -412,13 +450,13 @@ module _ (W : Words) where
 
   pub negative-size : (b : ℕ) (p : Reader Tree) → Sized p → SizedUp 1 (G.negative W b p)
   unfolding size
-  negative-size b p h = pays-up (tree-pay h λ x. give-pay _ (omega arith))
+  negative-size b p h = pays-up (tree-pay (signed-size p h) λ x. give-pay _ (omega arith))
 
   pub minus-size : (o : Option (Reader Tree)) → EachSized o → (t : Token) → SizedUp 1 (G.minus W o t)
   unfolding G.minus G.constant size
   minus-size o h s =
-      pays-up (peek-pay λ t. if-pay (is "number" t) (move-next-pay (the-moves "number") (give-pay _ (omega arith)))
-      (deeper-pay s o h λ p m. up-last 1 (omega arith) (negative-size _ p m)))
+      pays-up (look-pay (G.lone W) (move-pay (the-moves "number") λ t. give-pay _ (omega arith))
+      (deeper-pay s o h λ p m. up-last 1 (omega arith) (negative-size (s .from) p m)))
 
   pub parenthesis-size : (p : Reader Tree) → Sized p → Sized (G.parenthesis W p)
   parenthesis-size p h = pays-sized (tree-pay (expression-size p h) λ e. move-next-pay (the-moves ")") (give-pay e (omega arith)))
@@ -432,7 +470,7 @@ module _ (W : Words) where
   primaryOver-size o h =
       pays-sized (peek-pay λ t.
       if-pay (is "(" t) (deeper-pay t o h λ p m. move-next-pay read-moves (sized-last (parenthesis-size p m)))
-      (if-pay (is "+" t) (deeper-pay t o h λ p m. move-next-pay read-moves (sized-last m))
+      (if-pay (is "+" t) (deeper-pay t o h λ p m. move-next-pay read-moves (sized-last (signed-size p m)))
       (if-pay (is "-" t) (move-next-pay read-moves (up-last 1 (omega arith) (minus-size o h t)))
       (if-pay (is "[" t) (pay-then {v = size} (deeper-pay t o h λ p m. move-next-pay read-moves (sized-last (listed-size (t .from) p m))) λ x. up-last (size x) (omega arith) (postfixes-size o h (t .from) x))
       (if-pay (is "number" t) (move-next-pay (the-moves "number") (give-pay _ (omega arith)))
@@ -503,8 +541,8 @@ module _ (W : Words) where
   pub statementOver-size : (p : Reader Tree) (o : Option Inner) → Sized p → EachInnerSized o → Sized (G.statementOver W p o)
   unfolding G.statementOver
   statementOver-size p o h g ts t r e =
-      let M : Pays 0 size (if is "name" (first ts) then G.nameFirst W p (deep o) (nextKind ts) else G.plain W p o) =
-      if-pay (is "name" (first ts)) (sized-last (nameFirst-size p (deep o) h (deep-sized o g) (nextKind ts))) (sized-last (plain-size p o h g)) in
+      let M : Pays 0 size (if is "name" (first ts) then G.nameFirst W p (deep o) (nextKind W ts) else G.plain W p o) =
+      if-pay (is "name" (first ts)) (sized-last (nameFirst-size p (deep o) h (deep-sized o g) (nextKind W ts))) (sized-last (plain-size p o h g)) in
       omega (arith, M .bound ts t r e)
 
   pub statement-size : (d : ℕ) → Sized (G.statement W d)
@@ -523,6 +561,6 @@ module _ {A : Type 0} {m : Reader A} where
   pub moves-less : Moves m → Less m
   moves-less h ts a r e = omega (arith, left-shorter (h ts a r e))
 
-module _ (W : Words) where
+module _ (W : Language) where
   pub statement-less : (d : ℕ) → Less (G.statement W d)
   statement-less d = moves-less (statement-tail W d near-tail)

@@ -1,9 +1,9 @@
 -- Statements: what may stand behind one, so that it is read the same.
 use mathlib.Core.Path.{_≡_, refl, sym, ap, _∙_, subst}
 use mathlib.Core.Bool.{Bool, true, false, _||_}
-use mathlib.Core.List.{List, [], _∷_, _++_}
+use mathlib.Core.List.{List, [], _∷_, _++_, append-assoc}
 use mathlib.Core.Option.{Option, none, some}
-use Prim.Native.Nat.{ℕ, zero, suc, _+_, _≤_, _<_}
+use Prim.Native.Nat.{ℕ, zero, suc, _+_, _-_, _≤_, _<_}
 use Prim.Native.String.{String}
 use native.Mathlib.Omega.{arith}
 use lib.Dec.{eqb}
@@ -12,11 +12,11 @@ use Rattle.tokens.specs.Text.{if_then_else_}
 use Rattle.tokens.specs.Names.{place}
 use Rattle.tokens.specs.Dates.{date}
 use Rattle.tokens.specs.Tokens.{Token}
-use Rattle.grammar.specs.Trees.{Tree, Trees, snoc}
-use Rattle.grammar.specs.Readers.{Out, ok, refused, Reader, bind, _>>=_, _>>_, Turn, again, done, follow, loop, first, is, give, ask}
+use Rattle.grammar.specs.Trees.{Tree, Trees, placeOf, snoc}
+use Rattle.grammar.specs.Readers.{Out, ok, refused, Reader, bind, _>>=_, _>>_, Turn, again, done, follow, loop, first, next, second, is, skip, give, ask, read}
 use Rattle.grammar.specs.Grammar as G
-use Rattle.grammar.specs.Grammar.{deeper, optional, expression, aDate, dateOf, content, Words, Inner, block, ifOver, ended, deep, nextKind}
-use Rattle.grammar.proofs.Laws.{Rel, Near, Follows, near-follows, near-append, Reads, Law, bind-law, bind-near, ask-law, the-law, give-law, failAt-law, if-law, weaken, peek-law, read-law, cost, loop-law, loop-eq, left-shorter}
+use Rattle.grammar.specs.Grammar.{deeper, optional, expression, aDate, dateOf, content, Language, Inner, block, ifOver, ended, deep, inEdition, nextKind}
+use Rattle.grammar.proofs.Laws.{Rel, Near, Follows, near-follows, near-append, Reads, Law, bind-law, bind-near, ask-law, the-law, give-law, failAt-law, if-law, weaken, peek-law, read-law, reads-clear, split-same, skip-clear, skip-same, cost, loop-law, loop-eq, left-shorter}
 use Rattle.grammar.proofs.GrammarLaws.{Moves, Each, nothing, just, InnerLaw, deeper-law, blockTurn-law, expression-law, named-law, payments-law, payTurn-law, primary-law, target-law}
 
 -- where pays stops
@@ -71,18 +71,12 @@ module _ {P : Rel} (F : Follows P) where
     pub stayed : Law P (λ a. 0) m → ((a : A) → Law P (λ b. 0) (f a)) → Law P (λ b. 0) (m >>= f)
     stayed hm hf = bind-law 0 (λ b. 0) (λ b. 0) (λ b. omega arith) F hm hf
 
-    pub moved₂ : Law P (λ a. 2) m → ((a : A) → Law P (λ b. 0) (f a)) → Law P (λ b. 2) (m >>= f)
-    moved₂ hm hf = bind-law 2 (λ b. 0) (λ b. 2) (λ b. omega arith) F hm hf
-
   module _ {A : Type 0} where
     pub given : (a : A) → Law P (λ b. 0) (give a)
     given a = give-law (λ b. 0) a (omega arith)
 
     pub idle : {m : Reader A} → Law P (λ a. 1) m → Law P (λ a. 0) m
     idle h = weaken (λ a. 0) (λ a. 1) (λ a. omega arith) h
-
-    pub idle₂ : {m : Reader A} → Law P (λ a. 2) m → Law P (λ a. 1) m
-    idle₂ h = weaken (λ a. 1) (λ a. 2) (λ a. omega arith) h
 
     pub optional-tail : (s : String) → ((r r′ : List Token) → P r r′ → is s (first r′) ≡ is s (first r))
         → (a : A) {m : Reader A} → Law P (λ b. 0) m → Law P (λ b. 0) (optional s a m)
@@ -94,9 +88,6 @@ module _ {P : Rel} {A B : Type 0} {m : Reader A} {f : A → Reader B} where
   pub then₁ : Law Near (λ a. 0) m → ((a : A) → Law P (λ b. 1) (f a)) → Law P (λ b. 1) (m >>= f)
   then₁ hm hf = bind-near 0 0 (λ b. 1) (λ b. omega arith) hm hf
 
-  pub then₂ : Law Near (λ a. 1) m → ((a : A) → Law P (λ b. 1) (f a)) → Law P (λ b. 2) (m >>= f)
-  then₂ hm hf = bind-near 1 0 (λ b. 2) (λ b. omega arith) hm hf
-
 module _ {P : Rel} (F : Follows P) where
   pub block-tail : (s : Reader Tree) → Moves s → Law P (λ b. 1) (block s)
   unfolding block _>>_
@@ -105,21 +96,21 @@ module _ {P : Rel} (F : Follows P) where
       then₁ (loop-law (blockTurn-law s h) _) λ ss.
       moved F (the-law F "}") λ u. given F ss
 
-  pub ended-tail : (p : Reader Tree) → Moves p → Law P (λ b. 2) (ended p)
-  unfolding ended _>>_
-  ended-tail p h = then₂ (expression-law p h) λ e. moved F (the-law F ";") λ t. given F e
+  module _ (W : Language) where
+    pub ended-tail : (p : Reader Tree) → Moves p → Law P (λ b. 1) (ended W p)
+    unfolding ended _>>_
+    ended-tail p h = then₁ (idle near-follows (expression-law W p h)) λ e. moved F (the-law F ";") λ t. given F e
 
-  pub ifOver-tail : ((r r′ : List Token) → P r r′ → is "else" (first r′) ≡ is "else" (first r)) → (i : Inner) → InnerLaw i → Law P (λ b. 1) (ifOver i)
-  unfolding ifOver _>>_
-  ifOver-tail noElse i h =
-      then₁ (idle near-follows (read-law near-follows)) λ t.
-      then₁ (idle near-follows (expression-law (i .primary) (h .primary))) λ e.
-      moved F (block-tail (i .statement) (h .statement)) λ ss.
-      ask-law (λ b. 0) (is "else") noElse
-      (idle F (then₁ (idle near-follows (read-law near-follows)) λ u. moved F (block-tail (i .statement) (h .statement)) λ us. given F _))
-      (given F _)
+    pub ifOver-tail : ((r r′ : List Token) → P r r′ → is "else" (first r′) ≡ is "else" (first r)) → (i : Inner) → InnerLaw i → Law P (λ b. 1) (ifOver W i)
+    unfolding ifOver _>>_
+    ifOver-tail noElse i h =
+        then₁ (idle near-follows (read-law near-follows)) λ t.
+        then₁ (idle near-follows (expression-law W (i .primary) (h .primary))) λ e.
+        moved F (block-tail (i .statement) (h .statement)) λ ss.
+        ask-law (λ b. 0) (is "else") noElse
+        (idle F (then₁ (idle near-follows (read-law near-follows)) λ u. moved F (block-tail (i .statement) (h .statement)) λ us. given F _))
+        (given F _)
 
-  module _ (W : Words) where
     pub forOver-tail : (i : Inner) → InnerLaw i → Law P (λ b. 1) (G.forOver W i)
     unfolding G.forOver _>>_
     forOver-tail i h =
@@ -127,18 +118,20 @@ module _ {P : Rel} (F : Follows P) where
         then₁ (idle near-follows (the-law near-follows "name")) λ v.
         then₁ (named-law W v) λ x.
         then₁ (idle near-follows (the-law near-follows "in")) λ u.
-        then₁ (idle near-follows (expression-law (i .primary) (h .primary))) λ e.
+        then₁ (idle near-follows (expression-law W (i .primary) (h .primary))) λ e.
         moved F (block-tail (i .statement) (h .statement)) λ ss. given F _
 
-    pub assign-tail : (p : Reader Tree) → Moves p → Law P (λ b. 2) (G.assign W p)
-    unfolding G.assign _>>_
-    assign-tail p h =
-        then₂ (target-law W) λ x. then₁ (idle near-follows (read-law near-follows)) λ t. idle₂ F (moved₂ F (ended-tail p h) λ e. given F _)
+    -- what stands behind the name, and a node made of it
+    pub behind-tail : (p : Reader Tree) → Moves p → (f : Token → Tree → Tree) → Law P (λ b. 1) (read >>= λ t. (ended W p >>= λ e. give (f t e)))
+    behind-tail p h f = then₁ (idle near-follows (read-law near-follows)) λ t. moved F (ended-tail p h) λ e. given F (f t e)
 
-    pub compound-tail : (p : Reader Tree) → Moves p → Law P (λ b. 2) (G.compound W p)
+    pub assign-tail : (p : Reader Tree) → Moves p → Law P (λ b. 1) (G.assign W p)
+    unfolding G.assign _>>_
+    assign-tail p h = then₁ (idle near-follows (target-law W)) λ x. behind-tail p h (λ t e. G.assigned W x e)
+
+    pub compound-tail : (p : Reader Tree) → Moves p → Law P (λ b. 1) (G.compound W p)
     unfolding G.compound
-    compound-tail p h =
-        then₂ (target-law W) λ x. then₁ (idle near-follows (read-law near-follows)) λ t. idle₂ F (moved₂ F (ended-tail p h) λ e. given F _)
+    compound-tail p h = then₁ (idle near-follows (target-law W)) λ x. behind-tail p h (λ t e. G.assigned W x (G.binary (t .kind - 20) (placeOf x) x e))
 
 -- ---- statements
 
@@ -150,7 +143,7 @@ pub each-deep : (o : Option Inner) → EachInner o → Each (deep o)
 each-deep none shallow = nothing
 each-deep (some i) (inside g) = just (g .primary)
 
-module _ (W : Words) where
+module _ (W : Language) where
   payments-done : (p : Reader Tree) (es : Trees) (ts : List Token) (a : Trees) (r : List Token)
       → G.payTurn W p es ts ≡ ok (done a) r → stops (first r) ≡ true
   unfolding G.payTurn ask give _>>=_
@@ -160,42 +153,99 @@ module _ (W : Words) where
       inner (ok x u) q = absurd (let z : _≡_ {A = ℕ} 0 1 = cc in omega arith)
       inner (refused n x) q = absurd (let z : _≡_ {A = ℕ} 0 1 = cc in omega arith)
 
-      go : (b : Bool) → stops (first ts) ≡ b → _≡_ {A = Out (Turn Trees Trees)} ((if b then give (done es) else (expression p >>= λ x. give (again (snoc es x)))) ts) (ok (done a) r)
+      go : (b : Bool) → stops (first ts) ≡ b → _≡_ {A = Out (Turn Trees Trees)} ((if b then give (done es) else (expression W p >>= λ x. give (again (snoc es x)))) ts) (ok (done a) r)
           → stops (first r) ≡ true
       go true h q = let z : ts ≡ r = cc in subst (λ (l : List Token). stops (first l) ≡ true) z h
-      go false h q = inner (expression p ts) q
+      go false h q = inner (expression W p ts) q
 
   pub payments-stop : (p : Reader Tree) → Moves p → (ts : List Token) (es : Trees) (r : List Token) → G.payments W p ts ≡ ok es r → stops (first r) ≡ true
   unfolding G.payments
   payments-stop p h ts es r e = loop-ends (payTurn-law W p h) (λ r. stops (first r) ≡ true) (payments-done p) _ ts es r e
 
-firsts : (x r r′ : List Token) → 2 ≤ length x → nextKind (x ++ r′) ≡ nextKind (x ++ r)
-firsts [] r r′ h = absurd (omega arith)
-firsts (t ∷ []) r r′ h = absurd (omega arith)
-firsts (t ∷ u ∷ x) r r′ h = refl
+-- ---- two tokens
+
+-- behind the first of these tokens there is one that is no Newline
+pub record Two (x : List Token) : Type 0 where
+  pub fore : List Token
+  pub token : Token
+  pub rest : List Token
+  pub split : x ≡ fore ++ (token ∷ rest)
+  pub some : 1 ≤ length fore
+  pub clear : is "Newline" token ≡ false
+
+-- a reader that reads such tokens
+abbrev pub Twice : {A : Type 0} → Reader A → Type 0
+Twice {A} m = (ts : List Token) (a : A) (r : List Token) → m ts ≡ ok a r → (used : List Token) × (ts ≡ used ++ r) × Two used
+
+-- the next token is then the same whatever stands behind, with newlines or without
+next-two : (x : List Token) (t : Token) (y z z′ : List Token) → 1 ≤ length x → next (x ++ (t ∷ y) ++ z′) ≡ next (x ++ (t ∷ y) ++ z)
+next-two [] t y z z′ h = absurd (omega arith)
+next-two (u ∷ []) t y z z′ h = refl
+next-two (u ∷ v ∷ x) t y z z′ h = refl
+
+second-two : (x : List Token) (t : Token) (y z z′ : List Token) → 1 ≤ length x → is "Newline" t ≡ false → second (x ++ (t ∷ y) ++ z′) ≡ second (x ++ (t ∷ y) ++ z)
+second-two [] t y z z′ h c = absurd (omega arith)
+second-two (u ∷ x) t y z z′ h c =
+    ap (λ l. first (skip l)) (append-assoc x (t ∷ y) z′)
+    ∙ skip-same x (t ∷ (y ++ z′)) (t ∷ (y ++ z)) (ap first (skip-clear (t ∷ (y ++ z′)) c) ∙ ap first (sym (skip-clear (t ∷ (y ++ z)) c)))
+    ∙ ap (λ l. first (skip l)) (sym (append-assoc x (t ∷ y) z))
+
+next-same : (W : Language) (x z z′ : List Token) → Two x → nextKind W (x ++ z′) ≡ nextKind W (x ++ z)
+next-same W x z z′ T =
+    ap (λ l. nextKind W (l ++ z′)) (T .split)
+    ∙ (λ i. inEdition (W .edition) (next-two (T .fore) (T .token) (T .rest) z z′ (T .some) i) (second-two (T .fore) (T .token) (T .rest) z z′ (T .some) (T .clear) i) .kind)
+    ∙ ap (λ l. nextKind W (l ++ z)) (sym (T .split))
+
+-- a part that reads, then another that does
+two-append : (x y r : List Token) → 1 ≤ length x → 1 ≤ length y → is "Newline" (first (y ++ r)) ≡ false → Two (x ++ y)
+two-append x [] r h g c = absurd (omega arith)
+two-append x (t ∷ y) r h g c = record { fore = x; token = t; rest = y; split = refl; some = h; clear = c }
+
+module _ {A B : Type 0} {m : Reader A} {f : A → Reader B} where
+  two-then : Moves m → ((a : A) → Moves (f a)) → Twice (m >>= f)
+  unfolding _>>=_
+  two-then hm hf ts b r e = go (m ts) refl e
+    where
+      go : (o : Out A) → m ts ≡ o → bind f o ≡ ok b r → (used : List Token) × (ts ≡ used ++ r) × Two used
+      go (ok a s) q w =
+          let M : Reads Near 1 m ts a s = hm ts a s q in
+          let F : Reads Near 1 (f a) s b r = hf a s b r w in (
+            M .used ++ F .used,
+            M .split ∙ ap (λ l. M .used ++ l) (F .split) ∙ sym (append-assoc (M .used) (F .used) r),
+            two-append (M .used) (F .used) r (M .enough) (F .enough) (ap (λ l. is "Newline" (first l)) (sym (F .split)) ∙ reads-clear M),
+          )
+      go (refused x p) q w = absurd (let z : _≡_ {A = ℕ} 0 1 = cc in omega arith)
+
+module _ {A : Type 0} where
+  if-twice : (b : Bool) {m n : Reader A} → Twice m → Twice n → Twice (if b then m else n)
+  if-twice true hm hn = hm
+  if-twice false hm hn = hn
 
 -- a statement is one that begins with a name or another, whatever may stand behind it
-module _ (W : Words) (p : Reader Tree) (o : Option Inner) where
+module _ (W : Language) (p : Reader Tree) (o : Option Inner) where
   abbrev both : Bool → ℕ → Reader Tree
   both b k = if b then G.nameFirst W p (deep o) k else G.plain W p o
 
-  pub over-reads : {P : Rel} (ts : List Token) (a : Tree) (r : List Token) → (both true (nextKind ts) ts ≡ ok a r → Reads P 2 (both true (nextKind ts)) ts a r) → (both false 0 ts ≡ ok a r → Reads P 1 (both false 0) ts a r)
+  pub over-reads : {P : Rel} (ts : List Token) (a : Tree) (r : List Token) → ((k : ℕ) → Twice (both true k))
+      → (both true (nextKind W ts) ts ≡ ok a r → Reads P 1 (both true (nextKind W ts)) ts a r) → (both false 0 ts ≡ ok a r → Reads P 1 (both false 0) ts a r)
       → G.statementOver W p o ts ≡ ok a r → Reads P 1 (G.statementOver W p o) ts a r
   unfolding G.statementOver
-  over-reads {P} ts a r named other e = go (is "name" (first ts)) refl e
+  over-reads {P} ts a r twice named other e = go (is "name" (first ts)) refl e
     where
-      go : (b : Bool) → is "name" (first ts) ≡ b → both b (nextKind ts) ts ≡ ok a r → Reads P 1 (G.statementOver W p o) ts a r
+      go : (b : Bool) → is "name" (first ts) ≡ b → both b (nextKind W ts) ts ≡ ok a r → Reads P 1 (G.statementOver W p o) ts a r
       go true t q =
-          let M : Reads P 2 (both true (nextKind ts)) ts a r = named q in
+          let M : Reads P 1 (both true (nextKind W ts)) ts a r = named q in
+          let U : (used : List Token) × (ts ≡ used ++ r) × Two used = twice (nextKind W ts) ts a r q in
+          let T : Two (M .used) = subst Two (split-same (U .0) r (M .used) r (sym (U .1) ∙ M .split) refl) (U .2) in
           record {
             used = M .used;
             split = M .split;
-            enough = omega (arith, M .enough);
+            enough = M .enough;
             goes = λ nl r″ n g x.
                 let r′ : List Token = nl ++ r″ in
-                ap (λ (l : Token). both (is "name" l) (nextKind (M .used ++ r′)) (M .used ++ r′)) (near-append (M .used) r r′ (omega (arith, M .enough)) ∙ ap first (sym (M .split)))
-                ∙ ap (λ (b : Bool). both b (nextKind (M .used ++ r′)) (M .used ++ r′)) t
-                ∙ ap (λ (k : ℕ). both true k (M .used ++ r′)) (firsts (M .used) r r′ (M .enough) ∙ ap nextKind (sym (M .split)))
+                ap (λ (l : Token). both (is "name" l) (nextKind W (M .used ++ r′)) (M .used ++ r′)) (near-append (M .used) r r′ (M .enough) ∙ ap first (sym (M .split)))
+                ∙ ap (λ (b : Bool). both b (nextKind W (M .used ++ r′)) (M .used ++ r′)) t
+                ∙ ap (λ (k : ℕ). both true k (M .used ++ r′)) (next-same W (M .used) r r′ T ∙ ap (nextKind W) (sym (M .split)))
                 ∙ M .goes nl r″ n g x;
           }
       go false t q =
@@ -206,12 +256,12 @@ module _ (W : Words) (p : Reader Tree) (o : Option Inner) where
             enough = M .enough;
             goes = λ nl r″ n g x.
                 let r′ : List Token = nl ++ r″ in
-                ap (λ (l : Token). both (is "name" l) (nextKind (M .used ++ r′)) (M .used ++ r′)) (near-append (M .used) r r′ (omega (arith, M .enough)) ∙ ap first (sym (M .split)))
-                ∙ ap (λ (b : Bool). both b (nextKind (M .used ++ r′)) (M .used ++ r′)) t
+                ap (λ (l : Token). both (is "name" l) (nextKind W (M .used ++ r′)) (M .used ++ r′)) (near-append (M .used) r r′ (M .enough) ∙ ap first (sym (M .split)))
+                ∙ ap (λ (b : Bool). both b (nextKind W (M .used ++ r′)) (M .used ++ r′)) t
                 ∙ M .goes nl r″ n g x;
           }
 
-module _ {P : Rel} (T : Tail P) (W : Words) where
+module _ {P : Rel} (T : Tail P) (W : Language) where
   payments-tail : (p : Reader Tree) → Moves p → Law P (λ b. 0) (G.payments W p)
   payments-tail p h ts es r e =
       let M : Reads Near 0 (G.payments W p) ts es r = payments-law W p h ts es r e in
@@ -252,28 +302,39 @@ module _ {P : Rel} (T : Tail P) (W : Words) where
   unfolding G.paid
   paid-tail o h = moved (T .follows) (pays-tail o h) λ e. optional-tail (T .follows) ";" (T .noEnd) e (given (T .follows) e)
 
-  assignPaid-tail : (o : Option (Reader Tree)) → Each o → Law P (λ b. 2) (G.assignPaid W o)
+  assignPaid-tail : (o : Option (Reader Tree)) → Each o → Law P (λ b. 1) (G.assignPaid W o)
   unfolding G.assignPaid
-  assignPaid-tail o g = then₂ (target-law W) λ x. moved (T .follows) (paid-tail o g) λ e. given (T .follows) _
+  assignPaid-tail o g = then₁ (idle near-follows (target-law W)) λ x. moved (T .follows) (paid-tail o g) λ e. given (T .follows) _
 
-  -- a statement that begins with a name has two tokens at least
-  nameFirst-tail : (p : Reader Tree) (o : Option (Reader Tree)) → Moves p → Each o → (k : ℕ) → Law P (λ b. 2) (G.nameFirst W p o k)
+  nameFirst-tail : (p : Reader Tree) (o : Option (Reader Tree)) → Moves p → Each o → (k : ℕ) → Law P (λ b. 1) (G.nameFirst W p o k)
   unfolding G.nameFirst
-  nameFirst-tail p o h g k = search (if-law, assign-tail (T .follows) W p h, compound-tail (T .follows) W p h, assignPaid-tail o g, ended-tail (T .follows) p h)
+  nameFirst-tail p o h g k = search (if-law, assign-tail (T .follows) W p h, compound-tail (T .follows) W p h, assignPaid-tail o g, ended-tail (T .follows) W p h)
 
+module _ (W : Language) where
+  -- a statement that begins with a name has a second token
+  pub nameFirst-two : (p : Reader Tree) (o : Option (Reader Tree)) → Moves p → Each o → (k : ℕ) → Twice (G.nameFirst W p o k)
+  unfolding G.nameFirst G.assign G.compound G.assignPaid ended _>>_
+  nameFirst-two p o h g k =
+      let assign-two : Twice (G.assign W p) = two-then (target-law W) λ x. behind-tail near-follows W p h (λ t e. G.assigned W x e) in
+      let compound-two : Twice (G.compound W p) = two-then (target-law W) λ x. behind-tail near-follows W p h (λ t e. G.assigned W x (G.binary (t .kind - 20) (placeOf x) x e)) in
+      let paid-two : Twice (G.assignPaid W o) = two-then (target-law W) λ x. moved near-follows (paid-tail near-tail W o g) λ e. given near-follows _ in
+      let ended-two : Twice (ended W p) = two-then (expression-law W p h) λ e. moved near-follows (the-law near-follows ";") λ t. given near-follows e in
+      search (if-twice, assign-two, compound-two, paid-two, ended-two)
+
+module _ {P : Rel} (T : Tail P) (W : Language) where
   -- the law of what is one deeper in a statement
   plain-tail : (p : Reader Tree) (o : Option Inner) → Moves p → EachInner o → Law P (λ b. 1) (G.plain W p o)
   unfolding G.plain deeper
-  plain-tail p none h shallow = then₁ peek-law λ t. search (if-law, failAt-law, paid-tail none nothing, idle₂ (T .follows) (ended-tail (T .follows) p h))
+  plain-tail p none h shallow = then₁ peek-law λ t. search (if-law, failAt-law, paid-tail T W none nothing, ended-tail (T .follows) W p h)
   plain-tail p (some i) h (inside g) =
       then₁ peek-law λ t.
-      search (if-law, ifOver-tail (T .follows) (T .noElse) i g, forOver-tail (T .follows) W i g, paid-tail (some (i .primary)) (just (g .primary)), idle₂ (T .follows) (ended-tail (T .follows) p h))
+      search (if-law, ifOver-tail (T .follows) W (T .noElse) i g, forOver-tail (T .follows) W i g, paid-tail T W (some (i .primary)) (just (g .primary)), ended-tail (T .follows) W p h)
 
   statementOver-tail : (p : Reader Tree) (o : Option Inner) → Moves p → EachInner o → Law P (λ b. 1) (G.statementOver W p o)
   statementOver-tail p o h g ts a r e =
-      over-reads W p o ts a r (λ q. nameFirst-tail p (deep o) h (each-deep o g) (nextKind ts) ts a r q) (λ q. plain-tail p o h g ts a r q) e
+      over-reads W p o ts a r (nameFirst-two W p (deep o) h (each-deep o g)) (λ q. nameFirst-tail T W p (deep o) h (each-deep o g) (nextKind W ts) ts a r q) (λ q. plain-tail p o h g ts a r q) e
 
-module _ (W : Words) where
+module _ (W : Language) where
   -- a statement leaves an end of its tokens, and reads the same whatever else may stand behind it
   pub statement-tail : (d : ℕ) {P : Rel} → Tail P → Law P (λ b. 1) (G.statement W d)
   unfolding G.statement

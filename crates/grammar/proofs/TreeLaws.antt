@@ -1,11 +1,16 @@
 -- Trees with one more part, with the parts of another, and without places: their nodes and their parts.
 use mathlib.Core.Path.{_≡_, refl, sym, ap, _∙_}
 use mathlib.Core.Bool.{Bool, true, false}
-use Prim.Native.Nat.{ℕ, suc, _+_}
+use Prim.Native.Nat.{ℕ, suc, _+_, _≤_}
 use native.Mathlib.Omega.{arith}
 use lib.Dec.{eqb}
 use Rattle.tokens.specs.Text.{if_then_else_}
 use Rattle.grammar.specs.Trees.{Fields, fields, none, Tree, Trees, node, nil, _▹_, snoc, join, parts, size, sizes, meant, meaning, meanings}
+
+-- a tree has a node
+pub size-some : (t : Tree) → 1 ≤ size t
+unfolding size
+size-some (node k p s f ts) = omega arith
 
 -- ---- one more part
 

@@ -1,4 +1,4 @@
--- The grammar, line by line as the paper has it under "Reading" and "Depth". Places are those of the tokens that are handed in.
+-- The grammar, line by line as the paper has it under "Reading" and "Depth", in both editions. Places are those of the tokens that are handed in.
 use mathlib.Core.Bool.{Bool, true, false, _&&_, _||_, not}
 use mathlib.Core.List.{List, [], _∷_}
 use mathlib.Core.Option.{Option, none, some}
@@ -13,7 +13,26 @@ use Rattle.tokens.specs.Numbers.{value, bitsOf}
 use Rattle.tokens.specs.Dates.{date}
 use Rattle.tokens.specs.Tokens.{Token, code}
 use Rattle.grammar.specs.Trees.{Tree, Trees, node, nil, _▹_, Fields, fields, none as unused, placeOf, snoc, join, parts}
-use Rattle.grammar.specs.Readers.{Reader, _>>=_, _>>_, Turn, again, done, loop, first, is, give, fail, failAt, ask, peek, read, the}
+use Rattle.grammar.specs.Readers.{Reader, _>>=_, _>>_, Turn, again, done, loop, first, next, second, is, give, fail, failAt, ask, look, peek, read, the}
+
+-- ---- the language
+
+-- the script language has two editions
+pub data Edition : Type 0 where
+  one : Edition
+  two : Edition
+
+-- what the one has, or the other
+abbrev pub inEdition : {A : Type 0} → Edition → A → A → A
+inEdition one a b = a
+inEdition two a b = b
+
+-- what a script is read by: its edition, and the names of the three lent lists
+pub record Language : Type 0 where
+  pub edition : Edition
+  pub reserved : List (List ℕ)
+  pub currencies : List (List ℕ)
+  pub counters : List (List ℕ)
 
 -- ---- nodes
 
@@ -67,80 +86,33 @@ groupTurn op operand b l = ask op (do t ← read; r ← operand; give (again (bi
 unfoldable pub grouped : (Token → Bool) → Reader Tree → Reader Tree
 grouped op operand = chain operand λ b l. loop (groupTurn op operand b) l
 
--- ---- expressions, over the reader of a primary
+-- What was read of a chain of `**` that groups right: its last operand and where that one's text begins, and the same of those before it, the nearest first
+abbrev pub Chain : Type 0
+Chain = ℕ × Tree × List (ℕ × Tree)
 
--- sums, products and `**` all group left
-abbrev pub power : Reader Tree → Reader Tree
-power primary = grouped (is "**") primary
+-- r is the right part of the nearest operand, and so on outwards. Each node begins where its left part's text does
+abbrev pub onto : Tree → List (ℕ × Tree) → Tree
+onto r [] = r
+onto r (l ∷ ls) = onto (binary 12 (l .0) (l .1) r) ls
 
-abbrev pub product : Reader Tree → Reader Tree
-product primary = grouped (λ t. is "*" t || is "/" t) (power primary)
+-- one operand more, as long as there is a `**`; then all are joined, from the right
+unfoldable pub raiseTurn : Reader Tree → Chain → Reader (Turn Chain Tree)
+raiseTurn operand c =
+    ask (is "**")
+    (do read; t ← peek; r ← operand; give (again (t .from, r, (c .0, c .1) ∷ c .2)))
+    (give (done (onto (c .1) (c .2))))
 
-unfoldable pub sum : Reader Tree → Reader Tree
-sum primary = grouped (λ t. is "+" t || is "-" t) (product primary)
+-- operands joined by `**`, right to left. The chain is a loop: it is not counted for depth
+unfoldable pub raised : Reader Tree → Reader Tree
+raised operand = chain operand λ b l. loop (raiseTurn operand) (b, l, [])
 
--- at most one comparator between sums: == != > < >= <= are 13 to 18
-unfoldable pub comparison : Reader Tree → Reader Tree
-comparison primary = chain (sum primary) λ b l.
-    ask (λ t. within 13 18 (t .kind)) (do t ← read; r ← sum primary; give (binary (t .kind) b l r)) (give l)
-
--- comparisons joined by `and` and `or`, one level, left to right
-unfoldable pub expression : Reader Tree → Reader Tree
-expression primary = grouped (λ t. is "and" t || is "or" t) (comparison primary)
-
--- ---- lists and arguments
-
--- expressions with commas between them, up to the closing sign; a comma may trail. One of them, and its comma
-unfoldable pub itemTurn : String → Reader Tree → Trees → Reader (Turn Trees Trees)
-itemTurn close primary es = ask (is close) (give (done es)) (do
-  e ← expression primary
-  t ← peek
-  if is "," t then (do the ","; give (again (snoc es e)))
-      else if is close t then give (again (snoc es e)) else fail 8)
-
--- all of them; the closing sign is not read
-unfoldable pub items : String → Reader Tree → Reader Trees
-items close primary = loop (itemTurn close primary) nil
-
--- all of them and the closing sign
-abbrev pub closed : String → Reader Tree → Reader Trees
-closed close primary = do es ← items close primary; the close; give es
-
--- an argument list: inner reads a primary one deeper
-unfoldable pub arguments : Option (Reader Tree) → Reader Trees
-arguments inner = do
-  t ← peek
-  if is "(" t then deeper t inner (λ p. read >> closed ")" p) else fail 8
-
--- ---- postfixes: .append(e), .mean(), .std(), [e]. Each node begins where what it stands behind begins, at b
-
--- arguments are read before method name and count
+-- a method m of x, which begins at b: arguments are read before method name and count
 unfoldable pub method : ℕ → Tree → Token → Trees → Reader Tree
 method b x m es =
     if same (bytes "append") (m .text) && eqb (parts es) 1 then give (node 29 b [] unused (x ▹ es))
     else if same (bytes "mean") (m .text) && eqb (parts es) 0 then give (node 30 b [] unused (x ▹ nil))
     else if same (bytes "std") (m .text) && eqb (parts es) 0 then give (node 31 b [] unused (x ▹ nil))
     else failAt m 10
-
--- a method of x, behind its `.`
-abbrev pub methodOf : Option (Reader Tree) → ℕ → Tree → Reader (Turn Tree Tree)
-methodOf inner b x = do m ← the "name"; es ← arguments inner; y ← method b x m es; give (again y)
-
--- an index of x, behind its `[`
-abbrev pub indexOf : Reader Tree → ℕ → Tree → Reader (Turn Tree Tree)
-indexOf primary b x = do i ← expression primary; the "]"; give (again (binary 28 b x i))
-
--- one postfix of x, if there is one
-unfoldable pub postfixTurn : Option (Reader Tree) → ℕ → Tree → Reader (Turn Tree Tree)
-postfixTurn inner b x = do
-  t ← peek
-  if is "." t then (read >> methodOf inner b x)
-      else if is "[" t then deeper t inner (λ p. read >> indexOf p b x)
-      else give (done x)
-
--- all of them
-unfoldable pub postfixes : Option (Reader Tree) → ℕ → Tree → Reader Tree
-postfixes inner b = loop (postfixTurn inner b)
 
 -- ---- calls
 
@@ -213,23 +185,10 @@ unfoldable pub callOf : List ℕ → List (String × (ℕ × ℕ × ℕ)) → �
 callOf n [] = (0, 0, 0)
 callOf n (c ∷ cs) = elim (same (bytes (c .0)) n) [ true ↦ c .1 | false ↦ callOf n cs ]
 
--- ---- what the lent lists decide
-
--- the names of the three lists
-pub record Words : Type 0 where
-  pub reserved : List (List ℕ)
-  pub currencies : List (List ℕ)
-  pub counters : List (List ℕ)
-
 -- what is one deeper in an `if` or a `for`: statements, and primaries
 pub record Inner : Type 0 where
   pub statement : Reader Tree
   pub primary : Reader Tree
-
--- the kind of the very next token, Newline included
-abbrev pub nextKind : List Token → ℕ
-nextKind [] = 0
-nextKind (t ∷ ts) = first ts .kind
 
 -- primaries alone
 abbrev pub deep : Option Inner → Option (Reader Tree)
@@ -247,21 +206,102 @@ block statement = do
   the "}"
   give ss
 
--- `if e { .. }` with optional `else { .. }`
-unfoldable pub ifOver : Inner → Reader Tree
-ifOver i = do
-  t ← read
-  e ← expression (i .primary)
-  ss ← block (i .statement)
-  ask (is "else")
-      (do read; us ← block (i .statement); give (node 38 (t .from) [] (fields (suc (parts ss)) 0 0 0) (e ▹ join ss us)))
-      (give (node 38 (t .from) [] unused (e ▹ ss)))
+module _ (W : Language) where
+  -- ---- expressions, over the reader of a primary
 
--- `e;`
-unfoldable pub ended : Reader Tree → Reader Tree
-ended primary = do e ← expression primary; the ";"; give e
+  -- sums, products and `**` all group left; in edition two `**` groups right
+  unfoldable pub power : Reader Tree → Reader Tree
+  power primary = inEdition (W .edition) (grouped (is "**") primary) (raised primary)
 
-module _ (W : Words) where
+  -- A sign takes in a primary. In edition two `**` binds tighter than unary minus: signs take in the `**` after them
+  unfoldable pub signed : Reader Tree → Reader Tree
+  signed primary = inEdition (W .edition) primary (power primary)
+
+  -- and a minus before a number t makes a negated constant; in edition two, before a number without `**` after it: u follows
+  abbrev pub loneBy : Token → Token → Bool
+  loneBy t u = is "number" t && inEdition (W .edition) true (not (is "**" u))
+
+  abbrev pub lone : List Token → Bool
+  lone ts = loneBy (first ts) (second ts)
+
+  abbrev pub product : Reader Tree → Reader Tree
+  product primary = grouped (λ t. is "*" t || is "/" t) (power primary)
+
+  unfoldable pub sum : Reader Tree → Reader Tree
+  sum primary = grouped (λ t. is "+" t || is "-" t) (product primary)
+
+  -- at most one comparator between sums: == != > < >= <= are 13 to 18
+  unfoldable pub comparison : Reader Tree → Reader Tree
+  comparison primary = chain (sum primary) λ b l.
+      ask (λ t. within 13 18 (t .kind)) (do t ← read; r ← sum primary; give (binary (t .kind) b l r)) (give l)
+
+  -- comparisons joined by `and` and `or`, one level, left to right; in edition two `and` binds tighter than `or`
+  unfoldable pub expression : Reader Tree → Reader Tree
+  expression primary =
+      inEdition (W .edition)
+      (grouped (λ t. is "and" t || is "or" t) (comparison primary))
+      (grouped (is "or") (grouped (is "and") (comparison primary)))
+
+  -- ---- lists and arguments
+
+  -- expressions with commas between them, up to the closing sign; a comma may trail. One of them, and its comma
+  unfoldable pub itemTurn : String → Reader Tree → Trees → Reader (Turn Trees Trees)
+  itemTurn close primary es = ask (is close) (give (done es)) (do
+    e ← expression primary
+    t ← peek
+    if is "," t then (do the ","; give (again (snoc es e)))
+        else if is close t then give (again (snoc es e)) else fail 8)
+
+  -- all of them; the closing sign is not read
+  unfoldable pub items : String → Reader Tree → Reader Trees
+  items close primary = loop (itemTurn close primary) nil
+
+  -- all of them and the closing sign
+  abbrev pub closed : String → Reader Tree → Reader Trees
+  closed close primary = do es ← items close primary; the close; give es
+
+  -- an argument list: inner reads a primary one deeper
+  unfoldable pub arguments : Option (Reader Tree) → Reader Trees
+  arguments inner = do
+    t ← peek
+    if is "(" t then deeper t inner (λ p. read >> closed ")" p) else fail 8
+
+  -- ---- postfixes: .append(e), .mean(), .std(), [e]. Each node begins where what it stands behind begins, at b
+
+  -- a method of x, behind its `.`
+  abbrev pub methodOf : Option (Reader Tree) → ℕ → Tree → Reader (Turn Tree Tree)
+  methodOf inner b x = do m ← the "name"; es ← arguments inner; y ← method b x m es; give (again y)
+
+  -- an index of x, behind its `[`
+  abbrev pub indexOf : Reader Tree → ℕ → Tree → Reader (Turn Tree Tree)
+  indexOf primary b x = do i ← expression primary; the "]"; give (again (binary 28 b x i))
+
+  -- one postfix of x, if there is one
+  unfoldable pub postfixTurn : Option (Reader Tree) → ℕ → Tree → Reader (Turn Tree Tree)
+  postfixTurn inner b x = do
+    t ← peek
+    if is "." t then (read >> methodOf inner b x)
+        else if is "[" t then deeper t inner (λ p. read >> indexOf p b x)
+        else give (done x)
+
+  -- all of them
+  unfoldable pub postfixes : Option (Reader Tree) → ℕ → Tree → Reader Tree
+  postfixes inner b = loop (postfixTurn inner b)
+
+  -- `if e { .. }` with optional `else { .. }`
+  unfoldable pub ifOver : Inner → Reader Tree
+  ifOver i = do
+    t ← read
+    e ← expression (i .primary)
+    ss ← block (i .statement)
+    ask (is "else")
+        (do read; us ← block (i .statement); give (node 38 (t .from) [] (fields (suc (parts ss)) 0 0 0) (e ▹ join ss us)))
+        (give (node 38 (t .from) [] unused (e ▹ ss)))
+
+  -- `e;`
+  unfoldable pub ended : Reader Tree → Reader Tree
+  ended primary = do e ← expression primary; the ";"; give e
+
   -- a string token's currency (12)
   unfoldable pub currencyOf : Token → Reader ℕ
   currencyOf t = let c = place (W .currencies) (content t) in if eqb c 0 then failAt t 12 else give c
@@ -347,16 +387,17 @@ module _ (W : Words) where
 
   -- ---- primaries
 
-  -- UnaryMinus of a primary: the minus is at b
+  -- UnaryMinus of what the minus takes in: it is at b
   abbrev pub negative : ℕ → Reader Tree → Reader Tree
-  negative b primary = do x ← primary; give (node 7 b [] unused (x ▹ nil))
+  negative b primary = do x ← signed primary; give (node 7 b [] unused (x ▹ nil))
 
-  -- unary `-`, s, is read: a negated constant if a number follows at once, else UnaryMinus of a primary
+  -- a number, negated: the minus is at b
+  abbrev pub negated : ℕ → Reader Tree
+  negated b = do t ← the "number"; give (constant b (neg (value (t .text))) t)
+
+  -- unary `-`, s, is read: a negated constant, else UnaryMinus of what it takes in
   unfoldable pub minus : Option (Reader Tree) → Token → Reader Tree
-  minus inner s = do
-    t ← peek
-    if is "number" t then (do the "number"; give (constant (s .from) (neg (value (t .text))) t))
-        else deeper s inner (negative (s .from))
+  minus inner s = look lone (negated (s .from)) (deeper s inner (negative (s .from)))
 
   -- an expression and its `)`
   abbrev pub parenthesis : Reader Tree → Reader Tree
@@ -371,7 +412,7 @@ module _ (W : Words) where
   primaryOver inner = do
     t ← peek
     if is "(" t then deeper t inner (λ p. read >> parenthesis p)
-        else if is "+" t then deeper t inner (λ p. read >> p)
+        else if is "+" t then deeper t inner (λ p. read >> signed p)
         else if is "-" t then (read >> minus inner t)
         else if is "[" t then (deeper t inner (λ p. read >> listed (t .from) p) >>= postfixes inner (t .from))
         else if is "number" t then (do the "number"; give (constant (t .from) (value (t .text)) t))
@@ -424,7 +465,11 @@ module _ (W : Words) where
   unfoldable pub assignPaid : Option (Reader Tree) → Reader Tree
   assignPaid inner = do x ← target; e ← paid inner; give (assigned x (binary 8 (placeOf x) x e))
 
-  -- a name that begins a statement is an assignment, compound assignment or `x pays` only if the very next token, of the kind k, is that sign
+  -- the kind of the very next token, Newline included; in edition two a line break after a name no longer matters
+  abbrev pub nextKind : List Token → ℕ
+  nextKind ts = inEdition (W .edition) (next ts) (second ts) .kind
+
+  -- a name that begins a statement is an assignment, compound assignment or `x pays` only if the next token, of the kind k, is that sign
   unfoldable pub nameFirst : Reader Tree → Option (Reader Tree) → ℕ → Reader Tree
   nameFirst primary inner k =
       if eqb k (code "=") then assign primary

@@ -61,6 +61,11 @@ abbrev pub first : List Token → Token
 first [] = record { kind = 0; from = 0; text = [] }
 first (t ∷ ts) = t
 
+-- the token behind it
+abbrev pub next : List Token → Token
+next [] = first []
+next (t ∷ ts) = first ts
+
 -- a sign, a keyword or one of the other kinds, by its name
 abbrev pub is : String → Token → Bool
 is s t = eqb (code s) (t .kind)
@@ -69,6 +74,11 @@ is s t = eqb (code s) (t .kind)
 unfoldable pub skip : List Token → List Token
 skip [] = []
 skip (t ∷ ts) = elim (is "Newline" t) [ true ↦ skip ts | false ↦ t ∷ ts ]
+
+-- the token behind the one that stands here, newlines aside
+abbrev pub second : List Token → Token
+second [] = first []
+second (t ∷ ts) = first (skip ts)
 
 -- the last token, Newlines aside; d where there is none
 unfoldable pub lastOf : Token → List Token → Token
@@ -97,6 +107,10 @@ module _ {A : Type 0} where
 -- one reader or another, by the token that stands here
 unfoldable pub ask : {A : Type 0} → (Token → Bool) → Reader A → Reader A → Reader A
 ask test m n = λ ts. (if test (first ts) then m else n) ts
+
+-- one reader or another, by more than the token that stands here
+unfoldable pub look : {A : Type 0} → (List Token → Bool) → Reader A → Reader A → Reader A
+look test m n = λ ts. (if test ts then m else n) ts
 
 -- the token that stands here
 unfoldable pub peek : Reader Token

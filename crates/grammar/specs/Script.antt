@@ -2,7 +2,7 @@
 use mathlib.Core.Bool.{Bool, not}
 use mathlib.Core.List.{List, [], _∷_, map}
 use Prim.Native.Nat.{ℕ, zero, suc, _+_, _-_}
-use lib.Dec.{ltb}
+use lib.Dec.{ltb, eqb}
 use lib.ListN.{length, take}
 use Rattle.tokens.specs.Limits.{mostBytes, mostTokens, mostDepth}
 use Rattle.tokens.specs.Text.{if_then_else_, script, every, other, count}
@@ -10,7 +10,7 @@ use Rattle.tokens.specs.Names.{Lists, goodLists, names}
 use Rattle.tokens.specs.Tokens.{Token, Lexed, lexed, refused as faulty, tokens, counts, endOf}
 use Rattle.grammar.specs.Trees.{Tree, size}
 use Rattle.grammar.specs.Readers.{Out, ok, refused as wrong, first, is, skip}
-use Rattle.grammar.specs.Grammar.{Words, statement}
+use Rattle.grammar.specs.Grammar.{Edition, one, two, Language, statement}
 
 -- a top-level statement: its first byte, the byte past its last token, its tree, how many tokens it has
 pub record Entry : Type 0 where
@@ -48,7 +48,7 @@ unfoldable pub onward : (ℕ → List Token → Outcome) → ℕ → List Token 
 onward k s ts (ok t r) = front (entryOf s ts t r) (k s r)
 onward k s ts (wrong n p) = refused n (s + p)
 
-module _ (W : Words) where
+module _ (W : Language) where
   -- one statement, and k on what is left. The tokens' places are from the byte b of the script, and no Newline comes first
   unfoldable pub turn : (ℕ → List Token → Outcome) → ℕ → List Token → Outcome
   turn k b ts =
@@ -69,22 +69,22 @@ module _ (W : Words) where
   unfoldable pub statements : List Token → Outcome
   statements ts = from 0 ts
 
--- the names of the lent lists
-abbrev pub words : Lists → Words
-words l = record { reserved = names (l .reserved); currencies = names (l .currencies); counters = names (l .counters) }
+-- the language of an edition and the lent lists
+abbrev pub language : Edition → Lists → Language
+language e l = record { edition = e; reserved = names (l .reserved); currencies = names (l .currencies); counters = names (l .counters) }
 
 -- too many tokens (7), End aside; n is the text's end
-unfoldable pub ofTokens : Lists → ℕ → Lexed → Outcome
-ofTokens l n (lexed ts) = if ltb mostTokens (count counts ts - 1) then refused 7 n else statements (words l) ts
-ofTokens l n (faulty f p) = refused f p
+unfoldable pub ofTokens : Edition → Lists → ℕ → Lexed → Outcome
+ofTokens e l n (lexed ts) = if ltb mostTokens (count counts ts - 1) then refused 7 n else statements (language e l) ts
+ofTokens e l n (faulty f p) = refused f p
 
 -- order of checks: 1, 2, first of 3 to 6 from the left, 7, first of 8 to 15 as reading meets it
-unfoldable pub readScript : Lists → List ℕ → Outcome
-readScript l bs =
+unfoldable pub readScript : Edition → Lists → List ℕ → Outcome
+readScript e l bs =
     let s = script bs in
     if ltb mostBytes (length s) then refused 1 0
     else if not (goodLists l) then refused 2 0
-    else ofTokens l (length s) (tokens s)
+    else ofTokens e l (length s) (tokens s)
 
 -- no zero byte: the whole text is then the script
 abbrev pub noZero : List ℕ → Bool
@@ -112,5 +112,19 @@ fitting n maxNodes maxEntries (accepted es) =
 fitting n maxNodes maxEntries (refused f p) = refused f p
 
 -- with room for so many records and statements: `recordRoom` and `statementRoom` of the lent slices
-unfoldable pub reading : Lists → ℕ → ℕ → List ℕ → Outcome
-reading l maxNodes maxEntries bs = fitting (length (script bs)) maxNodes maxEntries (readScript l bs)
+unfoldable pub readingIn : Edition → Lists → ℕ → ℕ → List ℕ → Outcome
+readingIn e l maxNodes maxEntries bs = fitting (length (script bs)) maxNodes maxEntries (readScript e l bs)
+
+-- ---- the edition by its number
+
+-- the caller names edition 1 or 2: what comes of the one of this number, or a where it is another number
+abbrev pub numbered : {A : Type 0} → ℕ → A → (Edition → A) → A
+numbered n a f = if eqb n 1 then f one else if eqb n 2 then f two else a
+
+abbrev pub numberOf : Edition → ℕ
+numberOf one = 1
+numberOf two = 2
+
+-- 26, at byte 0, for another edition number, before all others
+unfoldable pub reading : ℕ → Lists → ℕ → ℕ → List ℕ → Outcome
+reading n l maxNodes maxEntries bs = numbered n (refused 26 0) λ e. readingIn e l maxNodes maxEntries bs

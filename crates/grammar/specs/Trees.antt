@@ -27,7 +27,10 @@ infixr 67 _▹_
 abbrev pub none : Fields
 none = fields 0 0 0 0
 
--- a node's place
+-- a node's kind, and its place
+abbrev pub kindOf : Tree → ℕ
+kindOf (node k p s f ts) = k
+
 abbrev pub placeOf : Tree → ℕ
 placeOf (node k p s f ts) = p
 

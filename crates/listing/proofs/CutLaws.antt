@@ -14,7 +14,8 @@ use Rattle.tokens.specs.Tokens.{tokens}
 use Rattle.tokens.specs.Names.{goodLists}
 use Rattle.tokens.specs.Places.{line as lineAt, column as columnAt, since}
 use Rattle.grammar.specs.Sizes.{mostRecords, mostStatements}
-use Rattle.grammar.specs.Script.{Outcome, accepted, refused, fitting, ofTokens, readScript, reading}
+use Rattle.grammar.specs.Grammar.{one}
+use Rattle.grammar.specs.Script.{Outcome, accepted, refused, fitting, ofTokens, readScript, readingIn}
 use Rattle.grammar.proofs.Refusals.{reading-small}
 use Rattle.listing.specs.Listing.{ownLists, acceptedLines, answerLines, readingLines, listing}
 
@@ -30,17 +31,17 @@ script-cut (suc n) (b ∷ bs) = go (other 0 b) refl (script-cut n bs)
     go false e h = rw (script, leading, e)
 
 abbrev readingOf : List ℕ → Outcome
-readingOf bs = reading ownLists mostRecords mostStatements bs
+readingOf bs = readingIn one ownLists mostRecords mostStatements bs
 
 -- what is read is told by the script
 reading-same : (cs bs : List ℕ) → script cs ≡ script bs → readingOf cs ≡ readingOf bs
-unfolding reading readScript
+unfolding readingIn readScript
 reading-same cs bs e =
     ap (λ (s : List ℕ). fitting (length s) mostRecords mostStatements
-    (if ltb mostBytes (length s) then refused 1 0 else if not (goodLists ownLists) then refused 2 0 else ofTokens ownLists (length s) (tokens s))) e
+    (if ltb mostBytes (length s) then refused 1 0 else if not (goodLists ownLists) then refused 2 0 else ofTokens one ownLists (length s) (tokens s))) e
 
 reading-long : (bs : List ℕ) → mostBytes < length (script bs) → readingOf bs ≡ refused 1 0
-unfolding reading readScript
+unfolding readingIn readScript
 reading-long bs h = rw (lt-ltb mostBytes (length (script bs)) h)
 
 -- its lines are told by what was read, and by the bytes before a refusal
@@ -58,6 +59,7 @@ lines-same cs bs (refused k p) h = λ i.
       records = 0;
       tokens = 0;
       latest = 0;
+      edition = 0;
     }) []
 
 module _ (bs : List ℕ) where
@@ -77,5 +79,5 @@ module _ (bs : List ℕ) where
   unfolding listing
   listing-cut =
       lines-same (take 16385 bs) bs (readingOf (take 16385 bs))
-      (λ k p e. take-take p 16385 bs (omega (arith, reading-small ownLists (take 16385 bs) mostRecords mostStatements e)))
+      (λ k p e. take-take p 16385 bs (omega (arith, reading-small one ownLists (take 16385 bs) mostRecords mostStatements e)))
       ∙ ap (readingLines bs) reading-cut

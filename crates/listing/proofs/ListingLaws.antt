@@ -10,7 +10,8 @@ use lib.Seq.{take-append-le, drop-append-le}
 use borrow.Author.Tests.{eq-eqb, ne-eqb, ltb-false}
 use Rattle.tokens.specs.Text.{if_then_else_, script}
 use Rattle.grammar.specs.Sizes.{recordWidth, entryWidth, recordRoom, statementRoom, mostRecords, mostStatements}
-use Rattle.grammar.specs.Script.{Outcome, accepted, refused, fitting, readScript, reading, nodes}
+use Rattle.grammar.specs.Grammar.{one}
+use Rattle.grammar.specs.Script.{Outcome, accepted, refused, fitting, readScript, readingIn, reading, nodes}
 use Rattle.grammar.specs.Words.{wordsOf}
 use Rattle.reading.specs.Reading.{answerTo, leftBy, Leaves}
 use Rattle.reading.specs.declared.reading.Answer.{Answer}
@@ -29,40 +30,41 @@ records-front (suc n) ws rest h =
     ∙ ap (λ (u : List ℕ). line (take recordWidth ws) ++ u) (records-front n (drop recordWidth ws) rest (omega (arith, length-drop recordWidth ws)))
 
 module _ (bs : List ℕ) where
-  records-left : (o : List ℕ) (R : Outcome) → recordLines (answerTo bs R .records) (leftBy wordsOf o R) ≡ recordLines (answerTo bs R .records) (wordsRead R)
+  records-left : (o : List ℕ) (R : Outcome) → recordLines (answerTo 1 bs R .records) (leftBy wordsOf o R) ≡ recordLines (answerTo 1 bs R .records) (wordsRead R)
   unfolding recordLines
   records-left o (accepted es) = records-front (nodes es) (wordsOf es) (drop (length (wordsOf es)) o) (omega (arith, words-length es))
   records-left o (refused k p) = refl
 
-  lines-left : (o : List ℕ) (R : Outcome) → answerLines (answerTo bs R) (leftBy wordsOf o R) ≡ readingLines bs R
+  lines-left : (o : List ℕ) (R : Outcome) → answerLines (answerTo 1 bs R) (leftBy wordsOf o R) ≡ readingLines bs R
   unfolding acceptedLines
   lines-left o R = rw (records-left o R)
 
-  fitting-few : (n k m : ℕ) (R : Outcome) → answerTo bs (fitting n k m R) .records ≤ k
+  fitting-few : (n k m : ℕ) (R : Outcome) → answerTo 1 bs (fitting n k m R) .records ≤ k
   fitting-few n k m (accepted es) = go (ltb k (nodes es)) refl
     where
-      all : (b : Bool) → nodes es ≤ k → answerTo bs (if b then refused 16 n else accepted es) .records ≤ k
+      all : (b : Bool) → nodes es ≤ k → answerTo 1 bs (if b then refused 16 n else accepted es) .records ≤ k
       all true h = omega arith
       all false h = h
 
       go : (b : Bool) → ltb k (nodes es) ≡ b
-          → answerTo bs (if b then refused 16 n else if ltb m (length es) then refused 16 n else accepted es) .records ≤ k
+          → answerTo 1 bs (if b then refused 16 n else if ltb m (length es) then refused 16 n else accepted es) .records ≤ k
       go true e = omega arith
       go false e = all (ltb m (length es)) (ltb-false k (nodes es) e)
   fitting-few n k m (refused f p) = omega arith
 
-module _ (bs o d o′ d′ : List ℕ) (a : Answer) (records-lent : length o ≡ recordWidth * mostRecords) (directory-lent : length d ≡ entryWidth * mostStatements) (L : Leaves ownLists bs o d a o′ d′) where
-  room : reading ownLists (recordRoom (length o)) (statementRoom (length d)) bs ≡ reading ownLists mostRecords mostStatements bs
+module _ (bs o d o′ d′ : List ℕ) (a : Answer) (records-lent : length o ≡ recordWidth * mostRecords) (directory-lent : length d ≡ entryWidth * mostStatements) (L : Leaves 1 ownLists bs o d a o′ d′) where
+  room : reading 1 ownLists (recordRoom (length o)) (statementRoom (length d)) bs ≡ readingIn one ownLists mostRecords mostStatements bs
+  unfolding reading
   room = rw (records-lent, directory-lent)
 
   pub records-few : a .records ≤ mostRecords
-  unfolding reading room
+  unfolding readingIn room
   records-few =
-      rw (L .answer, room) (fitting-few bs (length (script bs)) mostRecords mostStatements (readScript ownLists bs))
+      rw (L .answer, room) (fitting-few bs (length (script bs)) mostRecords mostStatements (readScript one ownLists bs))
 
   listed : answerLines a o′ ≡ listing bs
   unfolding listing room
-  listed = rw (L .answer, L .records, room) (lines-left bs o (reading ownLists mostRecords mostStatements bs))
+  listed = rw (L .answer, L .records, room) (lines-left bs o (readingIn one ownLists mostRecords mostStatements bs))
 
   pub listed-accepted : a .number ≡ 0 → acceptedLines a o′ ≡ listing bs
   listed-accepted h = (simp (eq-eqb (a .number) 0 h)) ∙ listed

@@ -5,7 +5,8 @@ use lib.Dec.{eqb}
 use Rattle.tokens.specs.Text.{if_then_else_}
 use Rattle.tokens.specs.Names.{Lists}
 use Rattle.grammar.specs.Sizes.{mostRecords, mostStatements}
-use Rattle.grammar.specs.Script.{Outcome, accepted, refused, reading}
+use Rattle.grammar.specs.Grammar.{one}
+use Rattle.grammar.specs.Script.{Outcome, accepted, refused, readingIn, numberOf}
 use Rattle.grammar.specs.Words.{wordsOf}
 use Rattle.reading.specs.Judging.{listsIn}
 use Rattle.reading.specs.Reading.{answerTo}
@@ -33,13 +34,13 @@ abbrev pub wordsRead : Outcome → List ℕ
 wordsRead (accepted es) = wordsOf es
 wordsRead (refused k p) = []
 
--- of a reading of the bytes bs
+-- of a reading of the bytes bs, in the first edition
 abbrev pub readingLines : List ℕ → Outcome → List ℕ
-readingLines bs R = answerLines (answerTo bs R) (wordsRead R)
+readingLines bs R = answerLines (answerTo (numberOf one) bs R) (wordsRead R)
 
--- of a script, with room for all that the capacities allow
+-- of a script of the first edition, with room for all that the capacities allow
 unfoldable pub listing : List ℕ → List ℕ
-listing bs = readingLines bs (reading ownLists mostRecords mostStatements bs)
+listing bs = readingLines bs (readingIn one ownLists mostRecords mostStatements bs)
 
 -- how long a listing can be: the line of three words, and one for each record that there may be
 abbrev pub longest : ℕ

@@ -50,6 +50,7 @@ pub fn list(script: &[u8], out: &mut [u8]) -> usize
     let mut directory = [0u32; DIRECTORY_WORDS];
     let a = read(
         script,
+        1,
         b"",
         b"USD\nEUR\n",
         b"",

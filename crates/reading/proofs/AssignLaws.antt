@@ -1,6 +1,6 @@
 -- Statements of one expression, and the head of a loop: what each step of the code comes to in the definition.
 use mathlib.Core.Path.{_≡_, refl, sym, ap, _∙_}
-use mathlib.Core.Bool.{Bool, true, false, _&&_}
+use mathlib.Core.Bool.{Bool, true, false, _&&_, not}
 use mathlib.Core.List.{List, []}
 use mathlib.Core.Option.{Option}
 use Prim.Native.Nat.{ℕ, _+_, _-_, _≤_}
@@ -14,16 +14,16 @@ use Rattle.tokens.specs.Tokens.{Token, code}
 use Rattle.tokens.specs.declared.cursor.Cursor.{Cursor}
 use Rattle.grammar.specs.Trees.{Tree, placeOf, fields, none as unused, size, row}
 use Rattle.grammar.specs.Readers.{Out, ok, refused, Reader, bind, _>>=_, _>>_, is, give, failAt, the}
-use Rattle.grammar.specs.Grammar.{Words, binary, variable, optional, expression, pays, ended, named, paid, target, assign, compound, assignPaid, nameFirst, nextKind}
+use Rattle.grammar.specs.Grammar.{Language, binary, variable, optional, expression, pays, ended, named, paid, target, assign, compound, assignPaid, nameFirst, nextKind}
 use Rattle.reading.specs.Rows.{rows, putRow, putRows, nodeRow}
-use Rattle.reading.specs.Meets.{toksAt, tokenAt, Holds, Ready, Follows, Takes, Reads, Meets}
-use Rattle.reading.specs.Bodies.{ReadsTwice, MeetsTwice, loopHead}
+use Rattle.reading.specs.Meets.{languageIn, toksAt, tokenAt, Holds, Ready, Follows, Takes, Reads, Meets}
+use Rattle.reading.specs.Bodies.{signBehind, ReadsTwice, MeetsTwice, loopHead}
 use Rattle.reading.specs.declared.records.Node.{Node}
 use Rattle.reading.specs.declared.answers.Read.{Read}
 use Rattle.reading.specs.declared.answers.Read.the-variants.{Done, Refused}
 use Rattle.reading.specs.declared.answers.Took.the-variants as took
 use Rattle.grammar.proofs.SizeLaws.{Sized, EachSized, ended-size, paid-size}
-use Rattle.reading.proofs.HoldLaws.{start-in, end-in, ask-yes, ask-no, the-then, the-next, the-then-not, read-then, read-next}
+use Rattle.reading.proofs.HoldLaws.{start-in, end-in, second-is, ask-yes, ask-no, the-then, the-next, the-then-not, read-then, read-next}
 use Rattle.reading.proofs.RowLaws.{size-leaf, size-two, after-leaf, after-two, put-rows-same}
 use Rattle.reading.proofs.ChainLaws.{reads-within, binary-plain}
 use Rattle.reading.proofs.AtomLaws.{named-not}
@@ -32,7 +32,7 @@ use Rattle.reading.proofs.StepLaws.{bind-refused}
 
 -- ---- the head of a loop
 
-module _ (W : Words) (t : List ℕ) (c : Cursor) (h : Holds t c) where
+module _ (W : Language) (t : List ℕ) (c : Cursor) (h : Holds t c) where
   pub head-not : (c .code ≡ 1 → ⊥) → loopHead W (toksAt t (c .start)) ≡ refused 8 (c .start)
   unfolding code
   head-not z = the-then-not h "name" (λ e. z (sym e)) _
@@ -61,21 +61,21 @@ module _ (W : Words) (t : List ℕ) (c : Cursor) (h : Holds t c) where
 
 -- ---- `e;`
 
-module _ (p : Reader Tree) (t : List ℕ) (c : Cursor) (n : ℕ) (o : List ℕ) where
-  pub ended-refused : (k b : ℕ) → expression p (toksAt t (c .start)) ≡ refused k b → ended p (toksAt t (c .start)) ≡ refused k b
+module _ (W : Language) (p : Reader Tree) (t : List ℕ) (c : Cursor) (n : ℕ) (o : List ℕ) where
+  pub ended-refused : (k b : ℕ) → expression W p (toksAt t (c .start)) ≡ refused k b → ended W p (toksAt t (c .start)) ≡ refused k b
   unfolding ended
-  ended-refused k b e = bind-refused (expression p) _ (toksAt t (c .start)) k b e
+  ended-refused k b e = bind-refused (expression W p) _ (toksAt t (c .start)) k b e
 
-  module _ (d : Cursor) (m q : ℕ) (o′ : List ℕ) (r : Reads t (expression p (toksAt t (c .start))) n o d m q o′) where
-    ending : ended p (toksAt t (c .start)) ≡ (the ";" >> give (r .tree)) (toksAt t (d .start))
+  module _ (d : Cursor) (m q : ℕ) (o′ : List ℕ) (r : Reads t (expression W p (toksAt t (c .start))) n o d m q o′) where
+    ending : ended W p (toksAt t (c .start)) ≡ (the ";" >> give (r .tree)) (toksAt t (d .start))
     unfolding ended _>>=_
     ending = rw (r .is)
 
-    pub ended-open : (b : ℕ) → Takes t 48 d (took.Not b) → ended p (toksAt t (c .start)) ≡ refused 8 b
+    pub ended-open : (b : ℕ) → Takes t 48 d (took.Not b) → ended W p (toksAt t (c .start)) ≡ refused 8 b
     unfolding code _>>_ _>>=_ the
     ended-open b g = ending ∙ (rw g)
 
-    pub ended-closed : (e : Cursor) → Takes t 48 d (took.Next e) → Reads t (ended p (toksAt t (c .start))) n o e m q o′
+    pub ended-closed : (e : Cursor) → Takes t 48 d (took.Next e) → Reads t (ended W p (toksAt t (c .start))) n o e m q o′
     unfolding give code
     ended-closed e g =
         record {
@@ -90,7 +90,7 @@ module _ (p : Reader Tree) (t : List ℕ) (c : Cursor) (n : ℕ) (o : List ℕ) 
 
 -- ---- pays, and a `;` where there is one
 
-module _ (W : Words) (i : Option (Reader Tree)) (t : List ℕ) (c : Cursor) (n : ℕ) (o : List ℕ) where
+module _ (W : Language) (i : Option (Reader Tree)) (t : List ℕ) (c : Cursor) (n : ℕ) (o : List ℕ) where
   pub paid-refused : (k b : ℕ) → pays W i (toksAt t (c .start)) ≡ refused k b → paid W i (toksAt t (c .start)) ≡ refused k b
   unfolding paid
   paid-refused k b e = bind-refused (pays W i) _ (toksAt t (c .start)) k b e
@@ -130,7 +130,7 @@ module _ (W : Words) (i : Option (Reader Tree)) (t : List ℕ) (c : Cursor) (n :
 
 -- ---- the variable that a name is
 
-pub named-is : (W : Words) (u : Token) (ts : List Token) (x : Tree) (us : List Token) → named W u ts ≡ ok x us → (variable u ≡ x) × (ts ≡ us)
+pub named-is : (W : Language) (u : Token) (ts : List Token) (x : Tree) (us : List Token) → named W u ts ≡ ok x us → (variable u ≡ x) × (ts ≡ us)
 unfolding named failAt give
 named-is W u ts x us e = go (member (W .reserved) (u .text)) e
   where
@@ -138,7 +138,7 @@ named-is W u ts x us e = go (member (W .reserved) (u .text)) e
     go true q = absurd (let z : _≡_ {A = ℕ} 0 1 = cc in omega arith)
     go false q = (cc, cc)
 
-pub named-one : (W : Words) (u : Token) (ts : List Token) (x : Tree) (us : List Token) → named W u ts ≡ ok x us → size x ≡ 1
+pub named-one : (W : Language) (u : Token) (ts : List Token) (x : Tree) (us : List Token) → named W u ts ≡ ok x us → size x ≡ 1
 named-one W u ts x us e = ap size (sym (named-is W u ts x us e .0)) ∙ size-leaf 1 (u .from) (u .text) (fields (u .from) (length (u .text)) 0 0)
 
 -- ---- a variable that is written twice
@@ -157,7 +157,7 @@ module _ (t : List ℕ) (R : Out Tree) (n : ℕ) (o : List ℕ) (r : Read) (o₁
 token-length : {t : List ℕ} {c : Cursor} → Holds t c → length (tokenAt t c .text) ≡ c .end - c .start
 token-length {t} {c} h = omega (arith, length-take (c .end - c .start) (drop (c .start) t), length-drop (c .start) t, start-in h, end-in h)
 
-pub twice-reads : (W : Words) (t : List ℕ) (c d : Cursor) (n : ℕ) (o : List ℕ) → Holds t c → (e : Cursor) (m q : ℕ) (o₁ : List ℕ)
+pub twice-reads : (W : Language) (t : List ℕ) (c d : Cursor) (n : ℕ) (o : List ℕ) → Holds t c → (e : Cursor) (m q : ℕ) (o₁ : List ℕ)
     → Reads t (named W (tokenAt t c) (toksAt t (d .start))) n o e m q o₁
     → (x : Node) → x ≡ record { kind = 1; nodes = 1; parts = 0; f1 = c .start; f2 = c .end - c .start; f3 = 0; f4 = 0; place = c .start }
     → (o₂ : List ℕ) → o₂ ≡ putRow o₁ m (nodeRow x)
@@ -202,7 +202,7 @@ twice-assigned t R n o k l x e g m m₂ o₁ o₂ o₃ o₄ one p q p₂ q₂ q�
 -- ---- assignments
 
 -- L has the reserved names of W, and maybe not its other lists
-module _ (L W : Words) (same : (u : Token) → named L u ≡ named W u) (t : List ℕ) (c d : Cursor) (n : ℕ) (o : List ℕ) (ready : Ready t c n) (w : Follows t c d)
+module _ (L W : Language) (same : (u : Token) → named L u ≡ named W u) (t : List ℕ) (c d : Cursor) (n : ℕ) (o : List ℕ) (ready : Ready t c n) (w : Follows t c d)
     (name : c .code ≡ 1) where
   abbrev N : Out Tree
   N = named L (tokenAt t c) (toksAt t (d .start))
@@ -244,18 +244,18 @@ module _ (L W : Words) (same : (u : Token) → named L u ≡ named W u) (t : Lis
     pub assign-ready : Ready t f m
     assign-ready = (v .holds, omega (arith, ready .1, r .counts, one, w .fewer some-name, v .fewer some-sign))
 
-    assigning : assign W p (toksAt t (c .start)) ≡ (ended p >>= λ e. give (binary 37 (c .start) (r .tree) e)) (toksAt t (f .start))
+    assigning : assign W p (toksAt t (c .start)) ≡ (ended W p >>= λ e. give (binary 37 (c .start) (r .tree) e)) (toksAt t (f .start))
     unfolding assign
     assigning =
-        target-then _ (r .tree) (toksAt t (e₀ .start)) (r .is) ∙ read-next v some-sign (ended p >>= λ e. give (binary 37 (placeOf (r .tree)) (r .tree) e))
-        ∙ ap (λ (l : ℕ). (ended p >>= λ e. give (binary 37 l (r .tree) e)) (toksAt t (f .start))) (placed-at (r .tree) (toksAt t (e₀ .start)) (r .is))
+        target-then _ (r .tree) (toksAt t (e₀ .start)) (r .is) ∙ read-next v some-sign (ended W p >>= λ e. give (binary 37 (placeOf (r .tree)) (r .tree) e))
+        ∙ ap (λ (l : ℕ). (ended W p >>= λ e. give (binary 37 l (r .tree) e)) (toksAt t (f .start))) (placed-at (r .tree) (toksAt t (e₀ .start)) (r .is))
 
-    pub assign-wrong : (k b : ℕ) → ended p (toksAt t (f .start)) ≡ refused k b → assign W p (toksAt t (c .start)) ≡ refused k b
-    assign-wrong k b e = assigning ∙ bind-refused (ended p) _ (toksAt t (f .start)) k b e
+    pub assign-wrong : (k b : ℕ) → ended W p (toksAt t (f .start)) ≡ refused k b → assign W p (toksAt t (c .start)) ≡ refused k b
+    assign-wrong k b e = assigning ∙ bind-refused (ended W p) _ (toksAt t (f .start)) k b e
 
-    module _ (g : Cursor) (m₂ q₂ : ℕ) (o₂ : List ℕ) (r₂ : Reads t (ended p (toksAt t (f .start))) m o₁ g m₂ q₂ o₂) where
+    module _ (g : Cursor) (m₂ q₂ : ℕ) (o₂ : List ℕ) (r₂ : Reads t (ended W p (toksAt t (f .start))) m o₁ g m₂ q₂ o₂) where
       pub assign-numbers : (n ≤ m₂) × (m₂ ≤ 50000)
-      assign-numbers = omega (arith, reads-within t (ended p) (ended-size p short) f m o₁ g m₂ q₂ o₂ r₂ (assign-ready .1), assign-ready .1, r .counts, r₂ .counts)
+      assign-numbers = omega (arith, reads-within t (ended W p) (ended-size W p short) f m o₁ g m₂ q₂ o₂ r₂ (assign-ready .1), assign-ready .1, r .counts, r₂ .counts)
 
       pub assign-reads : (o₃ : List ℕ) → o₃ ≡ putRow o₂ m₂ (row 37 (m₂ - n + 1) 2 unused (c .start)) → Reads t (assign W p (toksAt t (c .start))) n o g (m₂ + 1) 0 o₃
       unfolding _>>=_ give
@@ -271,27 +271,27 @@ module _ (L W : Words) (same : (u : Token) → named L u ≡ named W u) (t : Lis
             quoted = b .1;
           }
 
-  module _ (e₀ : Cursor) (m : ℕ) (o₁ : List ℕ) (r : ReadsTwice t N n o e₀ m o₁) (some-sign : d .code ≡ 0 → ⊥) (f : Cursor) (v : Follows t d f) where
+  module _ (e₀ : Cursor) (m : ℕ) (o₁ : List ℕ) (r : ReadsTwice t N n o e₀ m o₁) where
     at-name : placeOf (r .tree) ≡ c .start
     at-name = placed-at (r .tree) (toksAt t (e₀ .start)) (r .is)
 
     -- `x += e;`
-    module _ (p : Reader Tree) (short : Sized p) where
+    module _ (some-sign : d .code ≡ 0 → ⊥) (f : Cursor) (v : Follows t d f) (p : Reader Tree) (short : Sized p) where
       pub compound-ready : Ready t f m
       compound-ready = (v .holds, omega (arith, ready .1, r .counts, w .fewer some-name, v .fewer some-sign))
 
-      compounding : compound W p (toksAt t (c .start)) ≡ (ended p >>= λ e. give (binary 37 (c .start) (r .tree) (binary (d .code - 20) (c .start) (r .tree) e))) (toksAt t (f .start))
+      compounding : compound W p (toksAt t (c .start)) ≡ (ended W p >>= λ e. give (binary 37 (c .start) (r .tree) (binary (d .code - 20) (c .start) (r .tree) e))) (toksAt t (f .start))
       unfolding compound
       compounding = target-then _ (r .tree) (toksAt t (e₀ .start)) (r .is)
-          ∙ read-then v some-sign (λ u. ended p >>= λ e. give (binary 37 (placeOf (r .tree)) (r .tree) (binary (u .kind - 20) (placeOf (r .tree)) (r .tree) e)))
-          ∙ ap (λ (l : ℕ). (ended p >>= λ e. give (binary 37 l (r .tree) (binary (d .code - 20) l (r .tree) e))) (toksAt t (f .start))) at-name
+          ∙ read-then v some-sign (λ u. ended W p >>= λ e. give (binary 37 (placeOf (r .tree)) (r .tree) (binary (u .kind - 20) (placeOf (r .tree)) (r .tree) e)))
+          ∙ ap (λ (l : ℕ). (ended W p >>= λ e. give (binary 37 l (r .tree) (binary (d .code - 20) l (r .tree) e))) (toksAt t (f .start))) at-name
 
-      pub compound-wrong : (k b : ℕ) → ended p (toksAt t (f .start)) ≡ refused k b → compound W p (toksAt t (c .start)) ≡ refused k b
-      compound-wrong k b e = compounding ∙ bind-refused (ended p) _ (toksAt t (f .start)) k b e
+      pub compound-wrong : (k b : ℕ) → ended W p (toksAt t (f .start)) ≡ refused k b → compound W p (toksAt t (c .start)) ≡ refused k b
+      compound-wrong k b e = compounding ∙ bind-refused (ended W p) _ (toksAt t (f .start)) k b e
 
-      module _ (g : Cursor) (m₂ q₂ : ℕ) (o₂ : List ℕ) (r₂ : Reads t (ended p (toksAt t (f .start))) m o₁ g m₂ q₂ o₂) where
+      module _ (g : Cursor) (m₂ q₂ : ℕ) (o₂ : List ℕ) (r₂ : Reads t (ended W p (toksAt t (f .start))) m o₁ g m₂ q₂ o₂) where
         pub compound-numbers : (n ≤ m₂) × (m₂ ≤ 50000)
-        compound-numbers = omega (arith, reads-within t (ended p) (ended-size p short) f m o₁ g m₂ q₂ o₂ r₂ (compound-ready .1), compound-ready .1, r .counts, r₂ .counts)
+        compound-numbers = omega (arith, reads-within t (ended W p) (ended-size W p short) f m o₁ g m₂ q₂ o₂ r₂ (compound-ready .1), compound-ready .1, r .counts, r₂ .counts)
 
         pub compound-reads : (o₃ o₄ : List ℕ) → o₃ ≡ putRow o₂ m₂ (row (d .code - 20) (m₂ - n) 2 unused (c .start)) → o₄ ≡ putRow o₃ (m₂ + 1) (row 37 (m₂ - n + 2) 2 unused (c .start))
             → Reads t (compound W p (toksAt t (c .start))) n o g (m₂ + 2) 0 o₄
@@ -325,40 +325,49 @@ module _ (L W : Words) (same : (u : Token) → named L u ≡ named W u) (t : Lis
             twice-assigned t (assignPaid W i (toksAt t (c .start))) n o 8 (c .start) (r .tree) (r₂ .tree) g m m₂ o₁ o₂ o₃ o₄ (r .one) (r .counts) (r .writes) (r₂ .counts) (r₂ .writes) y z
             (r₂ .holds) (paying-for ∙ (rw (r₂ .is)))
 
--- ---- what a name begins, by the very next token
+-- ---- what a name begins, by what stands behind it
 
-module _ (W : Words) (p : Reader Tree) (i : Option (Reader Tree)) (t : List ℕ) (c d : Cursor) (w : Follows t c d) (name : c .code ≡ 1) where
+-- what stands behind a token, by the cursor behind it: a line break matters in the first edition alone
+pub sign-is : (second : Bool) (r x y t : List ℕ) (c d : Cursor) → Follows t c d → (c .code ≡ 0 → ⊥) → nextKind (languageIn second r x y) (toksAt t (c .start)) ≡ signBehind second d
+sign-is false r x y t c d w z = w .next-is z
+sign-is true r x y t c d w z = second-is w z
+
+module _ (second : Bool) (r x y : List ℕ) (p : Reader Tree) (i : Option (Reader Tree)) (t : List ℕ) (c d : Cursor) (w : Follows t c d) (name : c .code ≡ 1) where
+  abbrev W : Language
+  W = languageIn second r x y
+
   abbrev F : ℕ → Out Tree
   F k = nameFirst W p i k (toksAt t (c .start))
 
-  kind-is : nextKind (toksAt t (c .start)) ≡ (if d .broken then 55 else d .code)
-  kind-is = w .next-is (λ z. omega (arith, z, name))
+  module _ (k : ℕ) (b : k ≡ signBehind second d) where
+    by-sign : F (nextKind W (toksAt t (c .start))) ≡ F k
+    by-sign = ap F (sign-is second r x y t c d w (λ z. omega (arith, z, name)) ∙ sym b)
 
-  pub first-broken : d .broken ≡ true → F (nextKind (toksAt t (c .start))) ≡ ended p (toksAt t (c .start))
-  unfolding nameFirst code
-  first-broken b = ap F (kind-is ∙ ap (λ (x : Bool). if x then 55 else d .code) b)
-
-  module _ (b : d .broken ≡ false) where
-    by-code : F (nextKind (toksAt t (c .start))) ≡ F (d .code)
-    by-code = ap F (kind-is ∙ ap (λ (x : Bool). if x then 55 else d .code) b)
-
-    pub first-assign : d .code ≡ 37 → F (nextKind (toksAt t (c .start))) ≡ assign W p (toksAt t (c .start))
-    unfolding nameFirst code
-    first-assign e = by-code ∙ ap F e
-
-    pub first-compound : 28 ≤ d .code → d .code ≤ 31 → F (nextKind (toksAt t (c .start))) ≡ compound W p (toksAt t (c .start))
-    unfolding nameFirst code
-    first-compound l h = by-code ∙ (rw (ne-eqb (d .code) 37 (λ z. omega (arith, z, h)), le-leb 28 (d .code) l, le-leb (d .code) 31 h))
-
-    pub first-paid : d .code ≡ 36 → F (nextKind (toksAt t (c .start))) ≡ assignPaid W i (toksAt t (c .start))
-    unfolding nameFirst code
-    first-paid e = by-code ∙ ap F e
-
-    pub first-ended : (d .code ≡ 37 → ⊥) → (28 ≤ d .code → d .code ≤ 31 → ⊥) → (d .code ≡ 36 → ⊥) → F (nextKind (toksAt t (c .start))) ≡ ended p (toksAt t (c .start))
-    unfolding nameFirst code
-    first-ended x y z = by-code ∙ (rw (ne-eqb (d .code) 37 x, out (leb 28 (d .code)) (leb (d .code) 31) refl refl, ne-eqb (d .code) 36 z))
+    -- a sign that decides stands at d
+    pub sign-at : (k ≡ 55 → ⊥) → d .code ≡ k
+    sign-at z = go (not second && d .broken) b
       where
-        out : (a b : Bool) → leb 28 (d .code) ≡ a → leb (d .code) 31 ≡ b → (leb 28 (d .code) && leb (d .code) 31) ≡ false
-        out true true f g = absurd (y (leb-true 28 (d .code) f) (leb-true (d .code) 31 g))
+        go : (e : Bool) → k ≡ (if e then 55 else d .code) → d .code ≡ k
+        go true e = absurd (z e)
+        go false e = sym e
+
+    pub first-assign : k ≡ 37 → F (nextKind W (toksAt t (c .start))) ≡ assign W p (toksAt t (c .start))
+    unfolding nameFirst code
+    first-assign e = by-sign ∙ ap F e
+
+    pub first-compound : 28 ≤ k → k ≤ 31 → F (nextKind W (toksAt t (c .start))) ≡ compound W p (toksAt t (c .start))
+    unfolding nameFirst code
+    first-compound l h = by-sign ∙ (rw (ne-eqb k 37 (λ z. omega (arith, z, h)), le-leb 28 k l, le-leb k 31 h))
+
+    pub first-paid : k ≡ 36 → F (nextKind W (toksAt t (c .start))) ≡ assignPaid W i (toksAt t (c .start))
+    unfolding nameFirst code
+    first-paid e = by-sign ∙ ap F e
+
+    pub first-ended : (k ≡ 37 → ⊥) → (28 ≤ k → k ≤ 31 → ⊥) → (k ≡ 36 → ⊥) → F (nextKind W (toksAt t (c .start))) ≡ ended W p (toksAt t (c .start))
+    unfolding nameFirst code
+    first-ended u v z = by-sign ∙ (rw (ne-eqb k 37 u, out (leb 28 k) (leb k 31) refl refl, ne-eqb k 36 z))
+      where
+        out : (a b : Bool) → leb 28 k ≡ a → leb k 31 ≡ b → (leb 28 k && leb k 31) ≡ false
+        out true true f g = absurd (v (leb-true 28 k f) (leb-true k 31 g))
         out true false f g = rw (f, g)
         out false b f g = rw f

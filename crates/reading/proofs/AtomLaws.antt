@@ -22,7 +22,7 @@ use Rattle.tokens.proofs.LexLaws.{front}
 use Rattle.tokens.proofs.ScanLaws.{Stands, over, token, faulty, stands}
 use Rattle.grammar.specs.Trees.{Tree, node, nil, Fields, fields, none, row}
 use Rattle.grammar.specs.Readers.{Out, ok, refused, Reader, _>>_, is, give, fail, failAt, the}
-use Rattle.grammar.specs.Grammar.{Words, leaf, content, string, constant, named}
+use Rattle.grammar.specs.Grammar.{Language, leaf, content, string, constant, named}
 use Rattle.reading.specs.Atoms.{atom, literal}
 use Rattle.reading.specs.Rows.{putRow}
 use Rattle.reading.specs.Meets.{toksAt, tokenAt, Holds, Follows, Quoted, Reads}
@@ -269,7 +269,7 @@ module _ {t : List ℕ} {c d : Cursor} (h : Holds t c) (w : Follows t c d) where
 
 -- ---- names
 
-module _ (W : Words) {t : List ℕ} {c : Cursor} (h : Holds t c) where
+module _ (W : Language) {t : List ℕ} {c : Cursor} (h : Holds t c) where
   pub named-not : (place (W .reserved) (tokenAt t c .text) ≡ 0 → ⊥) → (ts : List Token) → named W (tokenAt t c) ts ≡ refused 9 (c .start)
   unfolding named failAt
   named-not z ts = rw (le-leb 1 (place (W .reserved) (tokenAt t c .text)) (omega (arith, z)))

@@ -13,9 +13,9 @@ use Rattle.tokens.specs.Tokens.{Token, code}
 use Rattle.tokens.specs.declared.cursor.Cursor.{Cursor}
 use Rattle.grammar.specs.Trees.{Tree, Trees, node, nil, _▹_, fields, none as unused, snoc, join, parts, size, sizes, row}
 use Rattle.grammar.specs.Readers.{Out, ok, refused, Reader, bind, _>>=_, _>>_, again, follow, loop, is, give, failAt, ask, read, the}
-use Rattle.grammar.specs.Grammar.{Words, Inner, deep, deeper, expression, primary, nextKind, named, nameFirst, plain, paid, ended, statementOver, statement, block, blockTurn, ifOver, forOver}
+use Rattle.grammar.specs.Grammar.{Language, Inner, deep, deeper, expression, primary, nextKind, named, nameFirst, plain, paid, ended, statementOver, statement, block, blockTurn, ifOver, forOver}
 use Rattle.reading.specs.Rows.{rows, rowsOf, putRow, putRows}
-use Rattle.reading.specs.Meets.{wordsIn, toksAt, tokenAt, Holds, Room, Ready, Follows, Takes, Reads, Meets, Before}
+use Rattle.reading.specs.Meets.{wordsIn, languageIn, toksAt, tokenAt, Holds, Room, Ready, Follows, Takes, Reads, Meets, Before}
 use Rattle.reading.specs.Turns.{inner}
 use Rattle.reading.specs.Bodies.{bodies, conditionalIn, repetitionIn, loopHead, MeetsHead, numberRefusal, ReadsBlock, MeetsBlock, blockRefusal, blockRefused}
 use Rattle.reading.specs.declared.answers.Read.{Read}
@@ -64,47 +64,47 @@ module _ (t : List ℕ) (R : Out Token) (c : Cursor) (r : Number) where
 -- ---- depth
 
 -- what can be read with d left
-abbrev pub bodyAt : Words → ℕ → Inner
+abbrev pub bodyAt : Language → ℕ → Inner
 bodyAt W d = record { statement = statement W d; primary = primary W d }
 
-pub statement-is : (W : Words) (d : ℕ) → statement W d ≡ statementOver W (primary W d) (bodies W d)
+pub statement-is : (W : Language) (d : ℕ) → statement W d ≡ statementOver W (primary W d) (bodies W d)
 unfolding statement bodies
 statement-is W zero = refl
 statement-is W (suc d) = refl
 
-pub deep-bodies : (W : Words) (d : ℕ) → deep (bodies W d) ≡ inner W d
+pub deep-bodies : (W : Language) (d : ℕ) → deep (bodies W d) ≡ inner W d
 unfolding bodies inner
 deep-bodies W zero = refl
 deep-bodies W (suc d) = refl
 
-pub bodies-none : (W : Words) (d : ℕ) → d ≡ 0 → bodies W d ≡ none
+pub bodies-none : (W : Language) (d : ℕ) → d ≡ 0 → bodies W d ≡ none
 unfolding bodies
 bodies-none W d e = rw e
 
-pub bodies-some : (W : Words) (d : ℕ) → (d ≡ 0 → ⊥) → bodies W d ≡ some (bodyAt W (d - 1))
+pub bodies-some : (W : Language) (d : ℕ) → (d ≡ 0 → ⊥) → bodies W d ≡ some (bodyAt W (d - 1))
 unfolding bodies
 bodies-some W zero h = absurd (h refl)
 bodies-some W (suc d) h = let q : suc d - 1 ≡ d = omega arith in rw q
 
-pub body-none : (u : Token) (W : Words) (d : ℕ) (k : Inner → Reader Tree) (ts : List Token) → d ≡ 0 → deeper u (bodies W d) k ts ≡ refused 15 (u .from)
+pub body-none : (u : Token) (W : Language) (d : ℕ) (k : Inner → Reader Tree) (ts : List Token) → d ≡ 0 → deeper u (bodies W d) k ts ≡ refused 15 (u .from)
 unfolding deeper failAt
 body-none u W d k ts e = rw (bodies-none W d e)
 
-pub body-some : (u : Token) (W : Words) (d : ℕ) (k : Inner → Reader Tree) (ts : List Token) → (d ≡ 0 → ⊥) → deeper u (bodies W d) k ts ≡ k (bodyAt W (d - 1)) ts
+pub body-some : (u : Token) (W : Language) (d : ℕ) (k : Inner → Reader Tree) (ts : List Token) → (d ≡ 0 → ⊥) → deeper u (bodies W d) k ts ≡ k (bodyAt W (d - 1)) ts
 unfolding deeper
 body-some u W d k ts h = rw (bodies-some W d h)
 
-pub statement-law : (W : Words) (d : ℕ) → Moves (statement W d)
+pub statement-law : (W : Language) (d : ℕ) → Moves (statement W d)
 statement-law W d = statement-tail W d near-tail
 
 -- ---- a statement, by the code of its first token
 
-module _ (W : Words) (t : List ℕ) (c : Cursor) (h : Holds t c) (depth : ℕ) where
+module _ (W : Language) (t : List ℕ) (c : Cursor) (h : Holds t c) (depth : ℕ) where
   abbrev S : Out Tree
   S = statement W depth (toksAt t (c .start))
 
   abbrev either : Bool → Option (Reader Tree) → Reader Tree
-  either b i = if b then nameFirst W (primary W depth) i (nextKind (toksAt t (c .start))) else plain W (primary W depth) (bodies W depth)
+  either b i = if b then nameFirst W (primary W depth) i (nextKind W (toksAt t (c .start))) else plain W (primary W depth) (bodies W depth)
 
   over : S ≡ either (eqb 1 (c .code)) (inner W depth) (toksAt t (c .start))
   unfolding statementOver code
@@ -113,7 +113,7 @@ module _ (W : Words) (t : List ℕ) (c : Cursor) (h : Holds t c) (depth : ℕ) w
       ∙ (ap (λ (k : ℕ). either (eqb 1 k) (deep (bodies W depth)) (toksAt t (c .start))) (first-kind h)
       ∙ ap (λ (i : Option (Reader Tree)). either (eqb 1 (c .code)) i (toksAt t (c .start))) (deep-bodies W depth))
 
-  pub stat-name : c .code ≡ 1 → S ≡ nameFirst W (primary W depth) (inner W depth) (nextKind (toksAt t (c .start))) (toksAt t (c .start))
+  pub stat-name : c .code ≡ 1 → S ≡ nameFirst W (primary W depth) (inner W depth) (nextKind W (toksAt t (c .start))) (toksAt t (c .start))
   stat-name e = over ∙ ap (λ (b : Bool). either b (inner W depth) (toksAt t (c .start))) (ap (eqb 1) e)
 
   no-name : (c .code ≡ 1 → ⊥) → S ≡ plain W (primary W depth) (bodies W depth) (toksAt t (c .start))
@@ -131,7 +131,7 @@ module _ (W : Words) (t : List ℕ) (c : Cursor) (h : Holds t c) (depth : ℕ) w
   unfolding plain code
   stat-pays e = no-name (λ z. omega (arith, z, e)) ∙ (peek-is h _ ∙ (rw (ap (eqb 38) e, ap (eqb 39) e, ap (eqb 36) e, deep-bodies W depth)))
 
-  pub stat-ended : (c .code ≡ 1 → ⊥) → (c .code ≡ 38 → ⊥) → (c .code ≡ 39 → ⊥) → (c .code ≡ 36 → ⊥) → S ≡ ended (primary W depth) (toksAt t (c .start))
+  pub stat-ended : (c .code ≡ 1 → ⊥) → (c .code ≡ 38 → ⊥) → (c .code ≡ 39 → ⊥) → (c .code ≡ 36 → ⊥) → S ≡ ended W (primary W depth) (toksAt t (c .start))
   unfolding plain code
   stat-ended a b d e =
       no-name a
@@ -258,12 +258,12 @@ block-within t p h c n o d m k o′ r room =
 
 -- ---- an if
 
-module _ (W : Words) (depth : ℕ) (t : List ℕ) (c d : Cursor) (w : Follows t c d) (e : c .code ≡ 38) where
+module _ (W : Language) (depth : ℕ) (t : List ℕ) (c d : Cursor) (w : Follows t c d) (e : c .code ≡ 38) where
   abbrev C : Out Tree
   C = conditionalIn W depth (tokenAt t c) (toksAt t (c .start))
 
   pub if-0 : depth ≡ 0 → C ≡ refused 15 (c .start)
-  if-0 z = body-none (tokenAt t c) W depth ifOver (toksAt t (c .start)) z
+  if-0 z = body-none (tokenAt t c) W depth (ifOver W) (toksAt t (c .start)) z
 
   some-if : c .code ≡ 0 → ⊥
   some-if z = omega (arith, z, e)
@@ -282,16 +282,16 @@ module _ (W : Words) (depth : ℕ) (t : List ℕ) (c d : Cursor) (w : Follows t 
     branches x ss =
         ask (is "else") (read >> (B >>= λ us. give (node 38 (c .start) [] (fields (suc (parts ss)) 0 0 0) (x ▹ join ss us)))) (give (node 38 (c .start) [] unused (x ▹ ss)))
 
-    inside : C ≡ (expression P >>= λ x. B >>= branches x) (toksAt t (d .start))
+    inside : C ≡ (expression W P >>= λ x. B >>= branches x) (toksAt t (d .start))
     unfolding ifOver
-    inside = body-some (tokenAt t c) W depth ifOver (toksAt t (c .start)) left ∙ read-then w some-if _
+    inside = body-some (tokenAt t c) W depth (ifOver W) (toksAt t (c .start)) left ∙ read-then w some-if _
 
-    pub if-refused : (k b : ℕ) → expression P (toksAt t (d .start)) ≡ refused k b → C ≡ refused k b
-    if-refused k b q = inside ∙ bind-refused (expression P) _ (toksAt t (d .start)) k b q
+    pub if-refused : (k b : ℕ) → expression W P (toksAt t (d .start)) ≡ refused k b → C ≡ refused k b
+    if-refused k b q = inside ∙ bind-refused (expression W P) _ (toksAt t (d .start)) k b q
 
-    module _ (n : ℕ) (room : Room t c n) (o : List ℕ) (f : Cursor) (m q : ℕ) (o₁ : List ℕ) (r : Reads t (expression P (toksAt t (d .start))) n o f m q o₁) where
+    module _ (n : ℕ) (room : Room t c n) (o : List ℕ) (f : Cursor) (m q : ℕ) (o₁ : List ℕ) (r : Reads t (expression W P (toksAt t (d .start))) n o f m q o₁) where
       expression-within : m + 3 * length (toksAt t (f .start)) ≤ n + 3 * length (toksAt t (d .start))
-      expression-within = reads-within t (expression P) (expression-size P (primary-size W (depth - 1))) d n o f m q o₁ r (if-ready n room .1)
+      expression-within = reads-within t (expression W P) (expression-size W P (primary-size W (depth - 1))) d n o f m q o₁ r (if-ready n room .1)
 
       pub if-body-ready : Ready t f m
       if-body-ready = (r .holds, omega (arith, expression-within, room, w .fewer some-if))
@@ -375,7 +375,7 @@ module _ (W : Words) (depth : ℕ) (t : List ℕ) (c d : Cursor) (w : Follows t 
 -- ---- a for
 
 -- what stands behind a head may be read after the head
-module _ (W : Words) (F : Token → Reader Tree) where
+module _ (W : Language) (F : Token → Reader Tree) where
   behind-in : (v : Token) (o : Out Token) → bind (λ a. F v) o ≡ bind F (bind (λ a. give v) o)
   unfolding give
   behind-in v (ok a ts) = refl
@@ -395,17 +395,17 @@ module _ (W : Words) (F : Token → Reader Tree) where
   unfolding _>>=_
   head-first ts = behind-name (the "name" ts)
 
--- of the lists, the reserved names alone matter in a head
-pub head-words : (r c d : List ℕ) → loopHead (wordsIn r c d) ≡ loopHead (wordsIn r [] [])
+-- of the language, the reserved names alone matter in a head
+pub head-words : (s : Bool) (r c d : List ℕ) → loopHead (languageIn s r c d) ≡ loopHead (wordsIn r [] [])
 unfolding named
-head-words r c d = refl
+head-words s r c d = refl
 
-pub head-law : (W : Words) → Moves (loopHead W)
+pub head-law : (W : Language) → Moves (loopHead W)
 head-law W = move-then (the-moves "name") λ v. stay-next (named-law W v) (stay-next (the-stays "in") (give-stays v))
 
-module _ (a b y : List ℕ) (depth : ℕ) (t : List ℕ) (c d : Cursor) (w : Follows t c d) (e : c .code ≡ 39) where
-  abbrev W : Words
-  W = wordsIn a b y
+module _ (s₂ : Bool) (a b y : List ℕ) (depth : ℕ) (t : List ℕ) (c d : Cursor) (w : Follows t c d) (e : c .code ≡ 39) where
+  abbrev W : Language
+  W = languageIn s₂ a b y
 
   abbrev L : Out Tree
   L = repetitionIn W depth (tokenAt t c) (toksAt t (c .start))
@@ -430,14 +430,14 @@ module _ (a b y : List ℕ) (depth : ℕ) (t : List ℕ) (c d : Cursor) (w : Fol
     loopNode v x ss = node 39 (c .start) (v .text) (fields (v .from) (length (v .text)) 0 0) (x ▹ ss)
 
     abbrev rest : Token → Reader Tree
-    rest v = expression Pr >>= λ x. Bl >>= λ ss. give (loopNode v x ss)
+    rest v = expression W Pr >>= λ x. Bl >>= λ ss. give (loopNode v x ss)
 
     headed : L ≡ (loopHead (wordsIn a [] []) >>= rest) (toksAt t (d .start))
     unfolding forOver
     headed =
         body-some (tokenAt t c) W depth (forOver W) (toksAt t (c .start)) left
         ∙ (read-then w some-for _
-        ∙ (head-first W rest (toksAt t (d .start)) ∙ ap (λ (x : Reader Token). (x >>= rest) (toksAt t (d .start))) (head-words a b y)))
+        ∙ (head-first W rest (toksAt t (d .start)) ∙ ap (λ (x : Reader Token). (x >>= rest) (toksAt t (d .start))) (head-words s₂ a b y)))
 
     pub for-head-refused : (k j : ℕ) → H ≡ refused k j → L ≡ refused k j
     for-head-refused k j q = headed ∙ bind-refused (loopHead (wordsIn a [] [])) _ (toksAt t (d .start)) k j q
@@ -453,12 +453,12 @@ module _ (a b y : List ℕ) (depth : ℕ) (t : List ℕ) (c d : Cursor) (w : Fol
       pub for-ready : (n : ℕ) → Room t c n → Ready t f n
       for-ready n room = (h .0, omega (arith, room, w .fewer some-for, shorter))
 
-      pub for-refused : (k j : ℕ) → expression Pr (toksAt t (f .start)) ≡ refused k j → L ≡ refused k j
-      for-refused k j q = behind ∙ bind-refused (expression Pr) _ (toksAt t (f .start)) k j q
+      pub for-refused : (k j : ℕ) → expression W Pr (toksAt t (f .start)) ≡ refused k j → L ≡ refused k j
+      for-refused k j q = behind ∙ bind-refused (expression W Pr) _ (toksAt t (f .start)) k j q
 
-      module _ (n : ℕ) (room : Room t c n) (o : List ℕ) (g : Cursor) (m q : ℕ) (o₁ : List ℕ) (r : Reads t (expression Pr (toksAt t (f .start))) n o g m q o₁) where
+      module _ (n : ℕ) (room : Room t c n) (o : List ℕ) (g : Cursor) (m q : ℕ) (o₁ : List ℕ) (r : Reads t (expression W Pr (toksAt t (f .start))) n o g m q o₁) where
         source-within : m + 3 * length (toksAt t (g .start)) ≤ n + 3 * length (toksAt t (f .start))
-        source-within = reads-within t (expression Pr) (expression-size Pr (primary-size W (depth - 1))) f n o g m q o₁ r (for-ready n room .1)
+        source-within = reads-within t (expression W Pr) (expression-size W Pr (primary-size W (depth - 1))) f n o g m q o₁ r (for-ready n room .1)
 
         pub for-body-ready : Ready t g m
         for-body-ready = (r .holds, omega (arith, source-within, for-ready n room .1))

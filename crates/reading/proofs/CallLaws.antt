@@ -18,7 +18,7 @@ use Rattle.tokens.proofs.KeyLaws.{Bytes, small, smalls, key-same}
 use Rattle.tokens.proofs.NameLaws.{place-le}
 use Rattle.grammar.specs.Trees.{Tree, node, nil, fields}
 use Rattle.grammar.specs.Readers.{Out, ok, refused, Reader, bind, _>>=_, _>>_, give, failAt, the}
-use Rattle.grammar.specs.Grammar.{Words, content, optional, dateOf, aDate, currencyOf, aCurrency, curve, df, rateOf, rateIndex, equity, pair, spotOf, spot, callOf}
+use Rattle.grammar.specs.Grammar.{Language, content, optional, dateOf, aDate, currencyOf, aCurrency, curve, df, rateOf, rateIndex, equity, pair, spotOf, spot, callOf}
 use Rattle.reading.specs.Calls.{callKind, callBy, methodKind, optionalBy, ending}
 use Rattle.reading.specs.Meets.{toksAt, tokenAt, Holds, Follows, theBy, Takes, MeetsNumber, MeetsLeaf, LeafHolds, Leads, Few}
 use Rattle.reading.specs.declared.records.Node.{Node}
@@ -88,7 +88,7 @@ pub date-not : (t : List ℕ) (c : Cursor) {b : ℕ} → theBy 5 (toksAt t (c .s
 unfolding aDate the code
 date-not t c e = bind-refused (theBy 5) dateOf (toksAt t (c .start)) _ _ e
 
-pub currency-not : (t : List ℕ) (c : Cursor) {b : ℕ} (W : Words) → theBy 5 (toksAt t (c .start)) ≡ refused 8 b → aCurrency W (toksAt t (c .start)) ≡ refused 8 b
+pub currency-not : (t : List ℕ) (c : Cursor) {b : ℕ} (W : Language) → theBy 5 (toksAt t (c .start)) ≡ refused 8 b → aCurrency W (toksAt t (c .start)) ≡ refused 8 b
 unfolding aCurrency the code
 currency-not t c W e = bind-refused (theBy 5) (currencyOf W) (toksAt t (c .start)) _ _ e
 
@@ -104,7 +104,7 @@ module _ (u : Token) (x : ℕ) (e : x ≡ date (content u)) (ts : List Token) wh
       ap (λ (b : Bool). (if b then failAt u 11 else give (date (content u))) ts) (ne-eqb (date (content u)) 0 (λ p. z (e ∙ p)))
       ∙ ap (λ (y : ℕ). ok y ts) (sym e)
 
-module _ (W : Words) (u : Token) (x : ℕ) (e : x ≡ place (W .currencies) (content u)) (ts : List Token) where
+module _ (W : Language) (u : Token) (x : ℕ) (e : x ≡ place (W .currencies) (content u)) (ts : List Token) where
   pub money-bad : x ≡ 0 → currencyOf W u ts ≡ refused 12 (u .from)
   unfolding currencyOf failAt
   money-bad z = ap (λ (b : Bool). (if b then failAt u 12 else give (place (W .currencies) (content u))) ts) (eq-eqb (place (W .currencies) (content u)) 0 (sym e ∙ z))
@@ -141,7 +141,7 @@ module _ {t : List ℕ} {c : Cursor} (h : Holds t c) {r : Took} {d : Cursor} (q 
     unfolding aDate the code
     date-is z = then-ok (theBy 5) (toksAt t (c .start)) dateOf (given .2) ∙ day-is (tokenAt t c) x (e ∙ ap date inner-is) (toksAt t (d .start)) z
 
-  module _ (W : Words) (x : ℕ) (e : x ≡ place (W .currencies) Inner) where
+  module _ (W : Language) (x : ℕ) (e : x ≡ place (W .currencies) Inner) where
     pub currency-bad : x ≡ 0 → aCurrency W (toksAt t (c .start)) ≡ refused 12 (c .start)
     unfolding aCurrency the code
     currency-bad z =
@@ -164,15 +164,15 @@ place-fits l f x n e = omega (arith, place-le (names l) n)
 abbrev lateDate : Reader ℕ
 lateDate = optionalBy 46 0 aDate
 
-abbrev pairBehind : Words → ℕ → ℕ → Reader Tree
+abbrev pairBehind : Language → ℕ → ℕ → Reader Tree
 pairBehind W l a = aCurrency W >>= λ x. lateDate >>= λ y. give (node 32 l [] (fields a x y 0) nil)
 
-pub equity-no : (t : List ℕ) (W : Words) (l : ℕ) (u : Token) (ts : List Token) {r : Number} {k b : ℕ} → r ≡ number.Refused k b → MeetsNumber t (optionalBy 46 0 aDate ts) r → equity W l u ts ≡ refused k b
+pub equity-no : (t : List ℕ) (W : Language) (l : ℕ) (u : Token) (ts : List Token) {r : Number} {k b : ℕ} → r ≡ number.Refused k b → MeetsNumber t (optionalBy 46 0 aDate ts) r → equity W l u ts ≡ refused k b
 unfolding equity optional the code
 equity-no t W l u ts q y =
     bind-refused lateDate (λ d. give (node 33 l (content u) (fields (suc (u .from)) (length (content u)) d 0) nil)) ts _ _ (numbers-as t (lateDate ts) q y)
 
-pub equity-is : {t : List ℕ} {c : Cursor} (h : Holds t c) (s : c .code ≡ 5) (W : Words) (l : ℕ) (ts : List Token) {r : Number} {e : Cursor} {x : ℕ} → r ≡ number.Is e x → MeetsNumber t (optionalBy 46 0 aDate ts) r
+pub equity-is : {t : List ℕ} {c : Cursor} (h : Holds t c) (s : c .code ≡ 5) (W : Language) (l : ℕ) (ts : List Token) {r : Number} {e : Cursor} {x : ℕ} → r ≡ number.Is e x → MeetsNumber t (optionalBy 46 0 aDate ts) r
     → MeetsLeaf t (equity W l (tokenAt t c) ts) (leaf.Is e (record { kind = 33; nodes = 1; parts = 0; f1 = c .start + 1; f2 = c .end - c .start - 2; f3 = x; f4 = 0; place = l }))
 unfolding equity optional the code give
 equity-is {t} {c} h s W l ts {r} {e} {x} q y =
@@ -189,7 +189,7 @@ equity-is {t} {c} h s W l ts {r} {e} {x} q y =
       ),
     )
 
-module _ {t : List ℕ} {c : Cursor} (h : Holds t c) (W : Words) (l a : ℕ) where
+module _ {t : List ℕ} {c : Cursor} (h : Holds t c) (W : Language) (l a : ℕ) where
   pub pair-alone : (c .code ≡ 46 → ⊥) → (x : Node) → x ≡ record { kind = 32; nodes = 1; parts = 0; f1 = a; f2 = 1; f3 = 0; f4 = 0; place = l } → MeetsLeaf t (pair W l a (toksAt t (c .start))) (leaf.Is c x)
   unfolding pair optional the code
   pair-alone z x e = leaf-is 32 l [] a 1 0 0 x e (λ p. omega arith) h (optional-no h 46 (node 32 l [] (fields a 1 0 0) nil) (pairBehind W l a) z)
@@ -226,11 +226,11 @@ module _ {t : List ℕ} {c : Cursor} (h : Holds t c) (W : Words) (l a : ℕ) whe
           (pair-first ∙ then-ok lateDate (toksAt t (d .start)) (λ y. give (node 32 l [] (fields a x y 0) nil)) (m .1))
 
 -- the first string decides
-module _ {t : List ℕ} {c : Cursor} (h : Holds t c) (s : c .code ≡ 5) (W : Words) (l x : ℕ) (e : x ≡ place (W .currencies) (take (c .end - 1 - (c .start + 1)) (drop (c .start + 1) t))) (ts : List Token) where
+module _ {t : List ℕ} {c : Cursor} (h : Holds t c) (s : c .code ≡ 5) (W : Language) (l x : ℕ) (e : x ≡ place (W .currencies) (take (c .end - 1 - (c .start + 1)) (drop (c .start + 1) t))) (ts : List Token) where
   place-of : x ≡ place (W .currencies) (content (tokenAt t c))
   place-of = e ∙ ap (place (W .currencies)) (sym (content-is h s))
 
-  pub spot-equity : (X : Words) → x ≡ 0 → spotOf W l (tokenAt t c) ts ≡ equity X l (tokenAt t c) ts
+  pub spot-equity : (X : Language) → x ≡ 0 → spotOf W l (tokenAt t c) ts ≡ equity X l (tokenAt t c) ts
   unfolding equity
   spot-equity X z =
       ap (λ (b : Bool). (if b then equity W l (tokenAt t c) else pair W l (place (W .currencies) (content (tokenAt t c)))) ts)
@@ -275,7 +275,7 @@ module _ (t : List ℕ) {r : Leaf} {c : Cursor} {x : Node} (q : r ≡ leaf.Is c 
         ),
       )
 
-module _ (t : List ℕ) (W : Words) (l : ℕ) (c : Cursor) where
+module _ (t : List ℕ) (W : Language) (l : ℕ) (c : Cursor) where
   abbrev spotBehind : Reader Tree
   spotBehind = theBy 5 >>= λ u. spotOf W l u >>= ending
 

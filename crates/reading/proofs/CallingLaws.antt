@@ -15,10 +15,10 @@ use Rattle.tokens.specs.declared.cursor.Cursor.{Cursor}
 use Rattle.tokens.proofs.Shapes.{leading-le}
 use Rattle.grammar.specs.Trees.{Tree, Trees, node, nil, _▹_, fields, parts, row}
 use Rattle.grammar.specs.Readers.{Out, ok, refused, Reader, bind, _>>=_, _>>_, Turn, again, is, give, fail, the}
-use Rattle.grammar.specs.Grammar.{Words, isString, textOf, optional, aDate, aCurrency, named, payday}
+use Rattle.grammar.specs.Grammar.{Language, isString, textOf, optional, aDate, aCurrency, named, payday}
 use Rattle.reading.specs.Rows.{nodeRow, putRow}
 use Rattle.reading.specs.Calls.{rightCount, optionalBy}
-use Rattle.reading.specs.Meets.{wordsIn, toksAt, tokenAt, Holds, Follows, stringAt, Quoted, Reads, MeetsLeaf, Before}
+use Rattle.reading.specs.Meets.{wordsIn, languageIn, toksAt, tokenAt, Holds, Follows, stringAt, Quoted, Reads, MeetsLeaf, Before}
 use Rattle.reading.specs.Turns.{itemEnd, Shown, contentAt, cvgFault, callFault}
 use Rattle.reading.specs.declared.answers.Texts.{Texts}
 use Rattle.reading.specs.declared.records.Node.{Node}
@@ -170,7 +170,7 @@ leaf-written x h w =
 
 -- ---- the date and the currency of a pays
 
-module _ (t : List ℕ) (W : Words) (l : ℕ) (es : Trees) (p : ℕ) where
+module _ (t : List ℕ) (W : Language) (l : ℕ) (es : Trees) (p : ℕ) where
   abbrev Pays : Out Tree
   Pays = payday W l es (toksAt t p)
 
@@ -208,7 +208,7 @@ module _ (t : List ℕ) (W : Words) (l : ℕ) (es : Trees) (p : ℕ) where
 
 -- ---- the lent lists that a reader does not look at
 
-module _ (r c d : List ℕ) where
-  pub named-words : (t : Token) → named (wordsIn r [] []) t ≡ named (wordsIn r c d) t
+module _ (s : Bool) (r c d : List ℕ) where
+  pub named-words : (t : Token) → named (wordsIn r [] []) t ≡ named (languageIn s r c d) t
   unfolding named
   named-words t = refl

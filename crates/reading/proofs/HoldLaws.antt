@@ -22,8 +22,7 @@ use Rattle.tokens.proofs.Shapes.{Sound, sound}
 use Rattle.tokens.proofs.MarkLaws.{start-at, start-within, skip-at}
 use Rattle.tokens.proofs.ScanLaws.{Stands, over as past, token, faulty as bad, stands, scan-end, scan-fault, scan-token, token-within, newline-is}
 use Rattle.tokens.proofs.CursorLaws.{settle-here, settle-line}
-use Rattle.grammar.specs.Readers.{Out, ok, refused, Reader, bind, _>>=_, _>>_, first, is, skip, fail, ask, peek, read, the}
-use Rattle.grammar.specs.Grammar.{nextKind}
+use Rattle.grammar.specs.Readers.{Out, ok, refused, Reader, bind, _>>=_, _>>_, first, next, second, is, skip, fail, ask, peek, read, the}
 use Rattle.grammar.specs.Script.{back}
 use Rattle.reading.specs.Meets.{listed, toksAt, tokenAt, Holds, Follows, theBy, Takes}
 use Rattle.reading.specs.declared.answers.Took.{Took}
@@ -354,7 +353,7 @@ module _ {t : List ℕ} {c : Cursor} (h : Holds t c) (some : c .code ≡ 0 → �
   behind-follows = record {
     holds = behind-holds;
     reads = λ z. behind-reads;
-    next-is = λ z. ap nextKind toks-split ∙ S .first-kind refl;
+    next-is = λ z. ap (λ (x : List Token). next x .kind) toks-split ∙ S .first-kind refl;
     fewer = λ z. behind-fewer;
   }
 
@@ -463,6 +462,15 @@ module _ {t : List ℕ} {c d : Cursor} (w : Follows t c d) (some : c .code ≡ 0
   pub read-next : (m : Reader A) → (read >> m) (toksAt t (c .start)) ≡ m (toksAt t (d .start))
   unfolding _>>_ _>>=_
   read-next m = ap (bind (λ a. m)) (w .reads some)
+
+-- what stands behind a token, lines aside, is the next
+read-second : (ts : List Token) (u : Token) (r : List Token) → read ts ≡ ok u r → second ts ≡ first r
+unfolding read
+read-second [] u r e = absurd (let z : _≡_ {A = ℕ} 0 1 = cc in omega arith)
+read-second (v ∷ us) u r e = let q : skip us ≡ r = cc in ap first q
+
+pub second-is : {t : List ℕ} {c d : Cursor} → Follows t c d → (c .code ≡ 0 → ⊥) → second (toksAt t (c .start)) .kind ≡ d .code
+second-is {t} {c} {d} w some = ap (λ (u : Token). u .kind) (read-second (toksAt t (c .start)) (tokenAt t c) (toksAt t (d .start)) (w .reads some)) ∙ first-kind (w .holds)
 
 -- there is a token to read
 pub reads-some : (ts : List Token) (u : Token) (b : ℕ) → read (ts ++ (u ∷ [])) ≡ refused 8 b → ⊥

@@ -16,10 +16,10 @@ use Rattle.tokens.specs.declared.cursor.Cursor.{Cursor}
 use Rattle.grammar.specs.Trees.{Tree, Trees, node, nil, _▹_, fields, none as unused, snoc, parts, row}
 use Rattle.grammar.specs.Readers.{Out, ok, refused, Reader, bind, _>>=_, _>>_, Turn, again, follow, loop, is, give, fail, failAt, read, the}
 use Rattle.grammar.specs.Grammar as G
-use Rattle.grammar.specs.Grammar.{Words, expression, items, closed, arguments, deeper, primary, calls, callOf, cvg, call, payday, payments, payment, pays, listed, postfixes, currencyOf, aCurrency}
+use Rattle.grammar.specs.Grammar.{Language, expression, items, closed, arguments, deeper, primary, calls, callOf, cvg, call, payday, payments, payment, pays, listed, postfixes, currencyOf, aCurrency}
 use Rattle.reading.specs.Calls.{callKind, rightCount}
 use Rattle.reading.specs.Rows.{putRow}
-use Rattle.reading.specs.Meets.{wordsIn, toksAt, tokenAt, Holds, Room, Ready, Follows, stringAt, Quoted, Reads, Meets, Before}
+use Rattle.reading.specs.Meets.{wordsIn, languageIn, toksAt, tokenAt, Holds, Room, Ready, Follows, stringAt, Quoted, Reads, Meets, Before}
 use Rattle.reading.specs.Turns.{inner, listPostfixed, paysStop, Closing, itemEnd, itemTurnBy, itemsBy, FollowsItem, stringOf, AllQuoted, Shown, shownBy, ReadsItems, MeetsItems, Closed, refusalOf, itemsRefusal, callFault, Tops}
 use Rattle.reading.specs.declared.answers.Read.{Read}
 use Rattle.reading.specs.declared.answers.Read.the-variants as answer
@@ -56,25 +56,25 @@ unfolding code entry
 pays-code = refl
 
 -- the number of the closing sign in place of the sign
-pub items-by-paren : (p : Reader Tree) → itemsBy 41 p ≡ items ")" p
+pub items-by-paren : (W : Language) (p : Reader Tree) → itemsBy W 41 p ≡ items W ")" p
 unfolding itemsBy items G.itemTurn code entry
-items-by-paren p = refl
+items-by-paren W p = refl
 
-pub items-by-bracket : (p : Reader Tree) → itemsBy 45 p ≡ items "]" p
+pub items-by-bracket : (W : Language) (p : Reader Tree) → itemsBy W 45 p ≡ items W "]" p
 unfolding itemsBy items G.itemTurn code entry
-items-by-bracket p = refl
+items-by-bracket W p = refl
 
 -- ---- turns
 
 pub itemEnd-stays : (k : ℕ) (es : Trees) → Stays (itemEnd k es)
 itemEnd-stays k es = search laws depth 9
 
-pub itemTurnBy-law : (k : ℕ) (p : Reader Tree) → Moves p → (es : Trees) → Steps (itemTurnBy k p es)
-itemTurnBy-law k p h es = search (laws, expression-law, itemEnd-stays) depth 9
+pub itemTurnBy-law : (W : Language) (k : ℕ) (p : Reader Tree) → Moves p → (es : Trees) → Steps (itemTurnBy W k p es)
+itemTurnBy-law W k p h es = search (laws, expression-law, itemEnd-stays) depth 9
 
-pub itemsBy-size : (k : ℕ) → Closing k → (p : Reader Tree) → Sized p → SizedAll (itemsBy k p)
-itemsBy-size k (inl e) p h = rw (e, items-by-paren p) (items-size ")" p h)
-itemsBy-size k (inr e) p h = rw (e, items-by-bracket p) (items-size "]" p h)
+pub itemsBy-size : (W : Language) (k : ℕ) → Closing k → (p : Reader Tree) → Sized p → SizedAll (itemsBy W k p)
+itemsBy-size W k (inl e) p h = rw (e, items-by-paren W p) (items-size W ")" p h)
+itemsBy-size W k (inr e) p h = rw (e, items-by-bracket W p) (items-size W "]" p h)
 
 -- ---- strings of parts
 
@@ -189,25 +189,25 @@ item-wrong t k c b h w es = go (eqb (code ",") (c .code)) (eqb k (c .code)) refl
 -- ---- the loop of `items`
 
 -- the trees so far, and that the loop from here gives the whole reading R
-pub record ItemChain (k : ℕ) (p : Reader Tree) (t : List ℕ) (R : Out Trees) (n : ℕ) (o : List ℕ) (c : Cursor) (m count : ℕ) (x : Texts) (o′ : List ℕ) : Type 0 where
+pub record ItemChain (W : Language) (k : ℕ) (p : Reader Tree) (t : List ℕ) (R : Out Trees) (n : ℕ) (o : List ℕ) (c : Cursor) (m count : ℕ) (x : Texts) (o′ : List ℕ) : Type 0 where
   pub trees : Trees
-  pub is : R ≡ loop (itemTurnBy k p) trees (toksAt t (c .start))
+  pub is : R ≡ loop (itemTurnBy W k p) trees (toksAt t (c .start))
   pub before : Before n o trees m o′
   pub many : count ≡ parts trees
   pub room : Room t c m
   pub holds : Holds t c
   pub shown : Shown t trees x
 
-module _ (k : ℕ) (p : Reader Tree) (moves : Moves p) (short : Sized p) (t : List ℕ) where
+module _ (W : Language) (k : ℕ) (p : Reader Tree) (moves : Moves p) (short : Sized p) (t : List ℕ) where
   pub items-start : (n : ℕ) (o : List ℕ) (c : Cursor) → Ready t c n
-      → ItemChain k p t (itemsBy k p (toksAt t (c .start))) n o c n 0 (record { first = 0; second = 0; third = 0 }) o
+      → ItemChain W k p t (itemsBy W k p (toksAt t (c .start))) n o c n 0 (record { first = 0; second = 0; third = 0 }) o
   unfolding itemsBy
   items-start n o c ready =
       record { trees = nil; is = refl; before = before-none n o; many = refl; room = ready .1; holds = ready .0; shown = shown-none t }
 
-  module _ (R : Out Trees) (n : ℕ) (o : List ℕ) (c : Cursor) (m count : ℕ) (x : Texts) (o′ : List ℕ) (ch : ItemChain k p t R n o c m count x o′) where
-    turn : R ≡ follow (loop (itemTurnBy k p)) (itemTurnBy k p (ch .trees) (toksAt t (c .start)))
-    turn = ch .is ∙ loop-eq (itemTurnBy-law k p moves) (ch .trees) (toksAt t (c .start))
+  module _ (R : Out Trees) (n : ℕ) (o : List ℕ) (c : Cursor) (m count : ℕ) (x : Texts) (o′ : List ℕ) (ch : ItemChain W k p t R n o c m count x o′) where
+    turn : R ≡ follow (loop (itemTurnBy W k p)) (itemTurnBy W k p (ch .trees) (toksAt t (c .start)))
+    turn = ch .is ∙ loop-eq (itemTurnBy-law W k p moves) (ch .trees) (toksAt t (c .start))
 
     pub items-ready : Ready t c m
     items-ready = (ch .holds, ch .room)
@@ -227,22 +227,22 @@ module _ (k : ℕ) (p : Reader Tree) (moves : Moves p) (short : Sized p) (t : Li
         }
 
     module _ (z : c .code ≡ k → ⊥) where
-      turn-is : itemTurnBy k p (ch .trees) (toksAt t (c .start)) ≡ (expression p >>= λ e. itemEnd k (snoc (ch .trees) e)) (toksAt t (c .start))
+      turn-is : itemTurnBy W k p (ch .trees) (toksAt t (c .start)) ≡ (expression W p >>= λ e. itemEnd k (snoc (ch .trees) e)) (toksAt t (c .start))
       turn-is = ask-no (ch .holds) (λ u. eqb k (u .kind)) _ _ (ne-eqb k (c .code) (λ e. z (sym e)))
 
-      pub items-refused : (j b : ℕ) → expression p (toksAt t (c .start)) ≡ refused j b → R ≡ refused j b
+      pub items-refused : (j b : ℕ) → expression W p (toksAt t (c .start)) ≡ refused j b → R ≡ refused j b
       unfolding _>>=_
       items-refused j b e = turn ∙ (rw (turn-is, e))
 
-      module _ (c₁ : Cursor) (m₁ q : ℕ) (o₁ : List ℕ) (r : Reads t (expression p (toksAt t (c .start))) m o′ c₁ m₁ q o₁) where
+      module _ (c₁ : Cursor) (m₁ q : ℕ) (o₁ : List ℕ) (r : Reads t (expression W p (toksAt t (c .start))) m o′ c₁ m₁ q o₁) where
         read-within : m₁ + 3 * length (toksAt t (c₁ .start)) ≤ m + 3 * length (toksAt t (c .start))
-        read-within = reads-within t (expression p) (expression-size p short) c m o′ c₁ m₁ q o₁ r (ch .room)
+        read-within = reads-within t (expression W p) (expression-size W p short) c m o′ c₁ m₁ q o₁ r (ch .room)
 
         -- the numbers that the code computes
         pub items-numbers : (n ≤ m) × (m ≤ m₁) × (m₁ ≤ 50000) × (count < 50000)
         items-numbers = omega (arith, read-within, ch .room, ch .before .counts, r .counts, size-some (r .tree), ch .many, parts-few (ch .trees))
 
-        on-is : itemTurnBy k p (ch .trees) (toksAt t (c .start)) ≡ itemEnd k (snoc (ch .trees) (r .tree)) (toksAt t (c₁ .start))
+        on-is : itemTurnBy W k p (ch .trees) (toksAt t (c .start)) ≡ itemEnd k (snoc (ch .trees) (r .tree)) (toksAt t (c₁ .start))
         unfolding _>>=_
         on-is = turn-is ∙ (rw (r .is))
 
@@ -255,9 +255,9 @@ module _ (k : ℕ) (p : Reader Tree) (moves : Moves p) (short : Sized p) (t : Li
           no-more = omega (arith, left-shorter (itemEnd-stays k nil (toksAt t (c₁ .start)) (again nil) (toksAt t (d .start)) (w .1 nil)))
 
           pub items-less : length (toksAt t (d .start)) < length (toksAt t (c .start))
-          items-less = omega (arith, no-more, moves-less (expression-law p moves) (toksAt t (c .start)) (r .tree) (toksAt t (c₁ .start)) (r .is))
+          items-less = omega (arith, no-more, moves-less (expression-law W p moves) (toksAt t (c .start)) (r .tree) (toksAt t (c₁ .start)) (r .is))
 
-          pub items-next : (x′ : Texts) → x′ ≡ shownBy x count q → ItemChain k p t R n o d m₁ (count + 1) x′ o₁
+          pub items-next : (x′ : Texts) → x′ ≡ shownBy x count q → ItemChain W k p t R n o d m₁ (count + 1) x′ o₁
           items-next x′ e =
               record {
                 trees = snoc (ch .trees) (r .tree);
@@ -279,21 +279,21 @@ items-within t p h c n o d m k x o′ r room =
 
 -- ---- an argument list
 
-module _ (W : Words) (depth : ℕ) (t : List ℕ) (c : Cursor) (h : Holds t c) where
+module _ (W : Language) (depth : ℕ) (t : List ℕ) (c : Cursor) (h : Holds t c) where
   -- no `(`
-  pub arguments-no : (c .code ≡ 40 → ⊥) → arguments (inner W depth) (toksAt t (c .start)) ≡ refused 8 (c .start)
+  pub arguments-no : (c .code ≡ 40 → ⊥) → arguments W (inner W depth) (toksAt t (c .start)) ≡ refused 8 (c .start)
   unfolding arguments
   arguments-no z =
       let q : eqb (code "(") (c .code) ≡ false = rw open-code (ne-eqb 40 (c .code) (λ e. z (sym e))) in
       peek-is h _ ∙ ((rw q) ∙ fail-is h 8)
 
-  arguments-yes : c .code ≡ 40 → arguments (inner W depth) (toksAt t (c .start)) ≡ deeper (tokenAt t c) (inner W depth) (λ p. read >> closed ")" p) (toksAt t (c .start))
+  arguments-yes : c .code ≡ 40 → arguments W (inner W depth) (toksAt t (c .start)) ≡ deeper (tokenAt t c) (inner W depth) (λ p. read >> closed W ")" p) (toksAt t (c .start))
   unfolding arguments
   arguments-yes e =
       let q : eqb (code "(") (c .code) ≡ true = rw open-code (eq-eqb 40 (c .code) (sym e)) in
       peek-is h _ ∙ (rw q)
 
-  pub arguments-0 : c .code ≡ 40 → depth ≡ 0 → arguments (inner W depth) (toksAt t (c .start)) ≡ refused 15 (c .start)
+  pub arguments-0 : c .code ≡ 40 → depth ≡ 0 → arguments W (inner W depth) (toksAt t (c .start)) ≡ refused 15 (c .start)
   arguments-0 e z = arguments-yes e ∙ deeper-none (tokenAt t c) W depth _ (toksAt t (c .start)) z
 
   module _ (e : c .code ≡ 40) (z : depth ≡ 0 → ⊥) (d : Cursor) (w : Follows t c d) where
@@ -303,20 +303,20 @@ module _ (W : Words) (depth : ℕ) (t : List ℕ) (c : Cursor) (h : Holds t c) w
     pub arguments-ready : (n : ℕ) → Room t c n → Ready t d n
     arguments-ready n room = (w .holds, omega (arith, room, w .fewer opens))
 
-    arguments-are : arguments (inner W depth) (toksAt t (c .start)) ≡ closed ")" (primary W (depth - 1)) (toksAt t (d .start))
+    arguments-are : arguments W (inner W depth) (toksAt t (c .start)) ≡ closed W ")" (primary W (depth - 1)) (toksAt t (d .start))
     arguments-are = arguments-yes e ∙ (deeper-some (tokenAt t c) W depth _ (toksAt t (c .start)) z ∙ read-next w opens _)
 
-    pub arguments-refused : (j b : ℕ) → itemsBy 41 (primary W (depth - 1)) (toksAt t (d .start)) ≡ refused j b → arguments (inner W depth) (toksAt t (c .start)) ≡ refused j b
+    pub arguments-refused : (j b : ℕ) → itemsBy W 41 (primary W (depth - 1)) (toksAt t (d .start)) ≡ refused j b → arguments W (inner W depth) (toksAt t (c .start)) ≡ refused j b
     unfolding _>>=_
-    arguments-refused j b q = arguments-are ∙ (rw (← items-by-paren (primary W (depth - 1)), q))
+    arguments-refused j b q = arguments-are ∙ (rw (← items-by-paren W (primary W (depth - 1)), q))
 
-    pub arguments-done : (n : ℕ) (o : List ℕ) (f : Cursor) (m k : ℕ) (x : Texts) (o′ : List ℕ) → ReadsItems t (itemsBy 41 (primary W (depth - 1)) (toksAt t (d .start))) n o f m k x o′
-        → f .code ≡ 41 → (g : Cursor) → Follows t f g → ReadsItems t (arguments (inner W depth) (toksAt t (c .start))) n o g m k x o′
+    pub arguments-done : (n : ℕ) (o : List ℕ) (f : Cursor) (m k : ℕ) (x : Texts) (o′ : List ℕ) → ReadsItems t (itemsBy W 41 (primary W (depth - 1)) (toksAt t (d .start))) n o f m k x o′
+        → f .code ≡ 41 → (g : Cursor) → Follows t f g → ReadsItems t (arguments W (inner W depth) (toksAt t (c .start))) n o g m k x o′
     unfolding _>>=_ give
     arguments-done n o f m k x o′ r q g u =
         record {
           items = r .items;
-          is = arguments-are ∙ ((rw (← items-by-paren (primary W (depth - 1)), r .is)) ∙ the-next (r .holds) u (λ z. omega (arith, q)) ")" (close-code ∙ sym q) (give (r .items)));
+          is = arguments-are ∙ ((rw (← items-by-paren W (primary W (depth - 1)), r .is)) ∙ the-next (r .holds) u (λ z. omega (arith, q)) ")" (close-code ∙ sym q) (give (r .items)));
           counts = r .counts;
           parts-are = r .parts-are;
           writes = r .writes;
@@ -326,10 +326,10 @@ module _ (W : Words) (depth : ℕ) (t : List ℕ) (c : Cursor) (h : Holds t c) w
 
 -- ---- a list
 
-module _ (W : Words) (depth : ℕ) (t : List ℕ) (c d : Cursor) (w : Follows t c d) (e : c .code ≡ 44) where
+module _ (W : Language) (depth : ℕ) (t : List ℕ) (c d : Cursor) (w : Follows t c d) (e : c .code ≡ 44) where
   pub list-0 : depth ≡ 0 → listPostfixed W depth (tokenAt t c) (toksAt t (c .start)) ≡ refused 15 (c .start)
   unfolding _>>=_
-  list-0 z = ap (bind (postfixes (inner W depth) (c .start))) (deeper-none (tokenAt t c) W depth _ (toksAt t (c .start)) z)
+  list-0 z = ap (bind (postfixes W (inner W depth) (c .start))) (deeper-none (tokenAt t c) W depth _ (toksAt t (c .start)) z)
 
   module _ (z : depth ≡ 0 → ⊥) where
     some-list : c .code ≡ 0 → ⊥
@@ -338,23 +338,23 @@ module _ (W : Words) (depth : ℕ) (t : List ℕ) (c d : Cursor) (w : Follows t 
     pub list-ready : (n : ℕ) → Room t c n → Ready t d n
     list-ready n room = (w .holds, omega (arith, room, w .fewer some-list))
 
-    list-is : listPostfixed W depth (tokenAt t c) (toksAt t (c .start)) ≡ (listed W (c .start) (primary W (depth - 1)) >>= postfixes (inner W depth) (c .start)) (toksAt t (d .start))
+    list-is : listPostfixed W depth (tokenAt t c) (toksAt t (c .start)) ≡ (listed W (c .start) (primary W (depth - 1)) >>= postfixes W (inner W depth) (c .start)) (toksAt t (d .start))
     unfolding _>>=_
-    list-is = ap (bind (postfixes (inner W depth) (c .start))) (deeper-some (tokenAt t c) W depth _ (toksAt t (c .start)) z ∙ read-next w some-list _)
+    list-is = ap (bind (postfixes W (inner W depth) (c .start))) (deeper-some (tokenAt t c) W depth _ (toksAt t (c .start)) z ∙ read-next w some-list _)
 
-    pub list-refused : (j b : ℕ) → itemsBy 45 (primary W (depth - 1)) (toksAt t (d .start)) ≡ refused j b
+    pub list-refused : (j b : ℕ) → itemsBy W 45 (primary W (depth - 1)) (toksAt t (d .start)) ≡ refused j b
         → listPostfixed W depth (tokenAt t c) (toksAt t (c .start)) ≡ refused j b
     unfolding _>>=_
-    list-refused j b q = list-is ∙ (rw (← items-by-bracket (primary W (depth - 1)), q))
+    list-refused j b q = list-is ∙ (rw (← items-by-bracket W (primary W (depth - 1)), q))
 
     module _ (n : ℕ) (room : Room t c n) (o : List ℕ) (f : Cursor) (m k : ℕ) (x : Texts) (o′ : List ℕ)
-        (r : ReadsItems t (itemsBy 45 (primary W (depth - 1)) (toksAt t (d .start))) n o f m k x o′) where
+        (r : ReadsItems t (itemsBy W 45 (primary W (depth - 1)) (toksAt t (d .start))) n o f m k x o′) where
       -- the numbers that the code computes
       pub list-numbers : (n ≤ m) × (k ≤ m) × (m < 50000) × (m + 3 + 3 * length (toksAt t (f .start)) ≤ 50000)
       list-numbers =
           omega (
             arith,
-            items-within t (itemsBy 45 (primary W (depth - 1))) (itemsBy-size 45 (inr refl) (primary W (depth - 1)) (primary-size W (depth - 1))) d n o f m k x o′ r (list-ready n room .1),
+            items-within t (itemsBy W 45 (primary W (depth - 1))) (itemsBy-size W 45 (inr refl) (primary W (depth - 1)) (primary-size W (depth - 1))) d n o f m k x o′ r (list-ready n room .1),
             room,
             w .fewer some-list,
           )
@@ -363,11 +363,11 @@ module _ (W : Words) (depth : ℕ) (t : List ℕ) (c d : Cursor) (w : Follows t 
         pub list-after : Ready t g (m + 1)
         list-after = (u .holds, omega (arith, list-numbers, u .fewer (λ y. omega (arith, q))))
 
-        pub list-done : listPostfixed W depth (tokenAt t c) (toksAt t (c .start)) ≡ postfixes (inner W depth) (c .start) (node 6 (c .start) [] unused (r .items)) (toksAt t (g .start))
+        pub list-done : listPostfixed W depth (tokenAt t c) (toksAt t (c .start)) ≡ postfixes W (inner W depth) (c .start) (node 6 (c .start) [] unused (r .items)) (toksAt t (g .start))
         unfolding _>>=_ give
         list-done =
-            list-is ∙ ((rw (← items-by-bracket (primary W (depth - 1)), r .is))
-            ∙ ap (bind (postfixes (inner W depth) (c .start))) (the-next (r .holds) u (λ y. omega (arith, q)) "]" (bracket-code ∙ sym q) (give (node 6 (c .start) [] unused (r .items)))))
+            list-is ∙ ((rw (← items-by-bracket W (primary W (depth - 1)), r .is))
+            ∙ ap (bind (postfixes W (inner W depth) (c .start))) (the-next (r .holds) u (λ y. omega (arith, q)) "]" (bracket-code ∙ sym q) (give (node 6 (c .start) [] unused (r .items)))))
 
       pub list-tops : (o₂ : List ℕ) → o₂ ≡ putRow o′ m (row 6 (m - n + 1) k unused (c .start)) → Tops n o (node 6 (c .start) [] unused (r .items)) (m + 1) o₂
       list-tops o₂ v =
@@ -432,13 +432,13 @@ kind-low w k e l u = go (leb 1 (callOf w calls .0)) e
     go false q = absurd (other (same (bytes "Spot") w) (same (bytes "Df") w) (same (bytes "RateIndex") w) q)
 
 -- what was read behind a name, with what is left, is no more than there was
-pub arguments-within : (W : Words) (depth : ℕ) (t : List ℕ) (c : Cursor) (n : ℕ) (o : List ℕ) (d : Cursor) (m k : ℕ) (x : Texts) (o′ : List ℕ)
-    → ReadsItems t (arguments (inner W depth) (toksAt t (c .start))) n o d m k x o′ → Room t c n
+pub arguments-within : (W : Language) (depth : ℕ) (t : List ℕ) (c : Cursor) (n : ℕ) (o : List ℕ) (d : Cursor) (m k : ℕ) (x : Texts) (o′ : List ℕ)
+    → ReadsItems t (arguments W (inner W depth) (toksAt t (c .start))) n o d m k x o′ → Room t c n
     → (n ≤ m) × (k ≤ m) × (m ≤ 50000) × (m + 3 * length (toksAt t (d .start)) ≤ n + 3 * length (toksAt t (c .start)))
 arguments-within W depth t c n o d m k x o′ r room =
-    items-within t (arguments (inner W depth)) (arguments-size (inner W depth) (inner-sized W depth)) c n o d m k x o′ r room
+    items-within t (arguments W (inner W depth)) (arguments-size W (inner W depth) (inner-sized W depth)) c n o d m k x o′ r room
 
-module _ (W : Words) (depth : ℕ) (tok : Token) (k : ℕ) (e : k ≡ callKind (tok .text)) (l : 1 ≤ k) (u : k < 32) where
+module _ (W : Language) (depth : ℕ) (tok : Token) (k : ℕ) (e : k ≡ callKind (tok .text)) (l : 1 ≤ k) (u : k < 32) where
   abbrev Row : ℕ × ℕ × ℕ
   Row = callOf (tok .text) calls
 
@@ -478,12 +478,12 @@ module _ (W : Words) (depth : ℕ) (tok : Token) (k : ℕ) (e : k ≡ callKind (
         ∙ shape (rightCount k (parts es)) (eqb k 25) (G.strings es) (eqb (date (G.text es 0)) 0 || eqb (date (G.text es 1)) 0) (member (W .counters) (G.text es 2)) (λ q. eqb-true k 25 q))
 
   module _ (t : List ℕ) (c : Cursor) where
-    pub call-refused : (j b : ℕ) → arguments (inner W depth) (toksAt t (c .start)) ≡ refused j b → call W (inner W depth) tok (callOf (tok .text) calls) (toksAt t (c .start)) ≡ refused j b
+    pub call-refused : (j b : ℕ) → arguments W (inner W depth) (toksAt t (c .start)) ≡ refused j b → call W (inner W depth) tok (callOf (tok .text) calls) (toksAt t (c .start)) ≡ refused j b
     unfolding call _>>=_
     call-refused j b q = rw q
 
     module _ (n : ℕ) (o : List ℕ) (d : Cursor) (m cnt : ℕ) (x : Texts) (o′ : List ℕ)
-        (r : ReadsItems t (arguments (inner W depth) (toksAt t (c .start))) n o d m cnt x o′) (f : ℕ)
+        (r : ReadsItems t (arguments W (inner W depth) (toksAt t (c .start))) n o d m cnt x o′) (f : ℕ)
         (fault : (es : Trees) → Shown t es x → cnt ≡ parts es → f ≡ callFault (W .counters) k es) where
       call-is : call W (inner W depth) tok (callOf (tok .text) calls) (toksAt t (c .start)) ≡ judged (r .items) (toksAt t (d .start)) f
       unfolding call _>>=_
@@ -508,7 +508,7 @@ module _ (W : Words) (depth : ℕ) (tok : Token) (k : ℕ) (e : k ≡ callKind (
 -- ---- pays
 
 -- the trees so far, and that the loop from here gives the whole reading R
-pub record PayChain (W : Words) (p : Reader Tree) (t : List ℕ) (R : Out Trees) (n : ℕ) (o : List ℕ) (c : Cursor) (m count : ℕ) (o′ : List ℕ) : Type 0 where
+pub record PayChain (W : Language) (p : Reader Tree) (t : List ℕ) (R : Out Trees) (n : ℕ) (o : List ℕ) (c : Cursor) (m count : ℕ) (o′ : List ℕ) : Type 0 where
   pub trees : Trees
   pub is : R ≡ loop (G.payTurn W p) trees (toksAt t (c .start))
   pub before : Before n o trees m o′
@@ -523,7 +523,7 @@ stops-are : (u : Token) → stopping u ≡ paysStop (u .kind)
 unfolding code entry
 stops-are u = refl
 
-module _ (W : Words) (p : Reader Tree) (moves : Moves p) (short : Sized p) (t : List ℕ) where
+module _ (W : Language) (p : Reader Tree) (moves : Moves p) (short : Sized p) (t : List ℕ) where
   pub pay-start : (n : ℕ) (o : List ℕ) (c : Cursor) → Ready t c n → PayChain W p t (payments W p (toksAt t (c .start))) n o c n 0 o
   unfolding payments
   pay-start n o c ready = record { trees = nil; is = refl; before = before-none n o; many = refl; room = ready .1; holds = ready .0 }
@@ -540,23 +540,23 @@ module _ (W : Words) (p : Reader Tree) (moves : Moves p) (short : Sized p) (t : 
     pay-exit z = pay-turn ∙ (rw (ask-yes (ch .holds) stopping _ _ (stops-are (tokenAt t c) ∙ z)))
 
     module _ (z : paysStop (c .code) ≡ false) where
-      pay-turn-is : G.payTurn W p (ch .trees) (toksAt t (c .start)) ≡ (expression p >>= λ e. give (again (snoc (ch .trees) e))) (toksAt t (c .start))
+      pay-turn-is : G.payTurn W p (ch .trees) (toksAt t (c .start)) ≡ (expression W p >>= λ e. give (again (snoc (ch .trees) e))) (toksAt t (c .start))
       unfolding G.payTurn
       pay-turn-is = ask-no (ch .holds) stopping _ _ (stops-are (tokenAt t c) ∙ z)
 
-      pub pay-refused : (j b : ℕ) → expression p (toksAt t (c .start)) ≡ refused j b → R ≡ refused j b
+      pub pay-refused : (j b : ℕ) → expression W p (toksAt t (c .start)) ≡ refused j b → R ≡ refused j b
       unfolding _>>=_
       pay-refused j b e = pay-turn ∙ (rw (pay-turn-is, e))
 
-      module _ (d : Cursor) (m₁ q : ℕ) (o₁ : List ℕ) (r : Reads t (expression p (toksAt t (c .start))) m o′ d m₁ q o₁) where
+      module _ (d : Cursor) (m₁ q : ℕ) (o₁ : List ℕ) (r : Reads t (expression W p (toksAt t (c .start))) m o′ d m₁ q o₁) where
         pay-within : m₁ + 3 * length (toksAt t (d .start)) ≤ m + 3 * length (toksAt t (c .start))
-        pay-within = reads-within t (expression p) (expression-size p short) c m o′ d m₁ q o₁ r (ch .room)
+        pay-within = reads-within t (expression W p) (expression-size W p short) c m o′ d m₁ q o₁ r (ch .room)
 
         pub pay-numbers : (n ≤ m) × (m ≤ m₁) × (m₁ ≤ 50000) × (count < 50000)
         pay-numbers = omega (arith, pay-within, ch .room, ch .before .counts, r .counts, size-some (r .tree), ch .many, parts-few (ch .trees))
 
         pub pay-less : length (toksAt t (d .start)) < length (toksAt t (c .start))
-        pay-less = moves-less (expression-law p moves) (toksAt t (c .start)) (r .tree) (toksAt t (d .start)) (r .is)
+        pay-less = moves-less (expression-law W p moves) (toksAt t (c .start)) (r .tree) (toksAt t (d .start)) (r .is)
 
         pub pay-next : PayChain W p t R n o d m₁ (count + 1) o₁
         unfolding _>>=_ give
@@ -570,12 +570,12 @@ module _ (W : Words) (p : Reader Tree) (moves : Moves p) (short : Sized p) (t : 
               holds = r .holds;
             }
 
--- of the lists, the currencies alone matter behind the parts
-pub payday-same : (a b cu : List ℕ) (l : ℕ) (es : Trees) → payday (wordsIn a cu b) l es ≡ payday (wordsIn [] cu []) l es
+-- of the language, the currencies alone matter behind the parts
+pub payday-same : (s : Bool) (a b cu : List ℕ) (l : ℕ) (es : Trees) → payday (languageIn s a cu b) l es ≡ payday (wordsIn [] cu []) l es
 unfolding aCurrency currencyOf
-payday-same a b cu l es = refl
+payday-same s a b cu l es = refl
 
-module _ (W : Words) (depth : ℕ) (t : List ℕ) (c d : Cursor) (h : Holds t c) (w : Follows t c d) (e : c .code ≡ 36) where
+module _ (W : Language) (depth : ℕ) (t : List ℕ) (c d : Cursor) (h : Holds t c) (w : Follows t c d) (e : c .code ≡ 36) where
   pub pays-0 : depth ≡ 0 → pays W (inner W depth) (toksAt t (c .start)) ≡ refused 15 (c .start)
   unfolding pays
   pays-0 z = peek-is h _ ∙ deeper-none (tokenAt t c) W depth _ (toksAt t (c .start)) z
@@ -601,14 +601,14 @@ module _ (W : Words) (depth : ℕ) (t : List ℕ) (c d : Cursor) (h : Holds t c)
     pays-payday es f q = pays-are ∙ (rw q)
 
 -- the answer behind the parts of a pays
-pub pays-done : (a b cu : List ℕ) (depth : ℕ) (t : List ℕ) (c d : Cursor) → Holds t c → Follows t c d → c .code ≡ 36 → (depth ≡ 0 → ⊥)
+pub pays-done : (s₂ : Bool) (a b cu : List ℕ) (depth : ℕ) (t : List ℕ) (c d : Cursor) → Holds t c → Follows t c d → c .code ≡ 36 → (depth ≡ 0 → ⊥)
     → (n : ℕ) (o : List ℕ) (f : Cursor) (m count : ℕ) (o′ : List ℕ)
-    → PayChain (wordsIn a cu b) (primary (wordsIn a cu b) (depth - 1)) t (payments (wordsIn a cu b) (primary (wordsIn a cu b) (depth - 1)) (toksAt t (d .start))) n o f m count o′
+    → PayChain (languageIn s₂ a cu b) (primary (languageIn s₂ a cu b) (depth - 1)) t (payments (languageIn s₂ a cu b) (primary (languageIn s₂ a cu b) (depth - 1)) (toksAt t (d .start))) n o f m count o′
     → paysStop (f .code) ≡ true → (r : Read) (o₂ : List ℕ)
     → ((es : Trees) (x : List ℕ) → Before n x es m o′ → count ≡ parts es → Meets t (payday (wordsIn [] cu []) (c .start) es (toksAt t (f .start))) n x r o₂)
-    → Meets t (pays (wordsIn a cu b) (inner (wordsIn a cu b) depth) (toksAt t (c .start))) n o r o₂
-pays-done a b cu depth t c d h w e z n o f m count o′ ch s r o₂ g =
-    let W = wordsIn a cu b in
+    → Meets t (pays (languageIn s₂ a cu b) (inner (languageIn s₂ a cu b) depth) (toksAt t (c .start))) n o r o₂
+pays-done s₂ a b cu depth t c d h w e z n o f m count o′ ch s r o₂ g =
+    let W = languageIn s₂ a cu b in
     let q = pay-exit W (primary W (depth - 1)) (primary-law W (depth - 1)) (primary-size W (depth - 1)) t _ n o f m count o′ ch s in
-    meets-as t _ _ n o r o₂ (pays-payday W depth t c d h w e z (ch .trees) f q ∙ ap (λ (y : Reader Tree). y (toksAt t (f .start))) (payday-same a b cu (c .start) (ch .trees)))
+    meets-as t _ _ n o r o₂ (pays-payday W depth t c d h w e z (ch .trees) f q ∙ ap (λ (y : Reader Tree). y (toksAt t (f .start))) (payday-same s₂ a b cu (c .start) (ch .trees)))
     (g (ch .trees) o (ch .before) (ch .many))

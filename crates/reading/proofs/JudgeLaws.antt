@@ -20,7 +20,8 @@ use Rattle.tokens.specs.declared.scanning.Scanned.the-variants as scanned
 use Rattle.tokens.proofs.Shapes.{leading-le}
 use Rattle.tokens.proofs.TextLaws.{script-length}
 use Rattle.tokens.proofs.NameLaws.{good-few}
-use Rattle.grammar.specs.Script.{Outcome, refused, noZero, ofTokens, readScript, statements, from, words, tokensOf}
+use Rattle.grammar.specs.Grammar.{Edition}
+use Rattle.grammar.specs.Script.{Outcome, refused, noZero, ofTokens, readScript, statements, from, language, tokensOf}
 use Rattle.reading.specs.Meets.{listed, toksAt, Few}
 use Rattle.reading.specs.Scripts.{Clean, ReadsAll, MeetsAll}
 use Rattle.reading.specs.declared.answers.All.{All}
@@ -53,24 +54,24 @@ module _ (bs : List ℕ) where
   pub end-short : {n : ℕ} → scriptEnd bs ≡ ends.At n → (n ≤ 16384) × (n ≤ length bs)
   end-short e = let F = end-found e in (omega (arith, ltb-false mostBytes (length (script bs)) (F .1), F .0), omega (arith, F .0, script-in))
 
-  module _ (l : Lists) where
-    pub judge-long : {k p : ℕ} → scriptEnd bs ≡ ends.Refused k p → judgement l bs ≡ judged.Refused k p
+  module _ (E : Edition) (l : Lists) where
+    pub judge-long : {k p : ℕ} → scriptEnd bs ≡ ends.Refused k p → judgement E l bs ≡ judged.Refused k p
     unfolding scriptEnd judgement readScript
     judge-long {k} {p} e = go (ltb mostBytes (length (script bs))) refl e
       where
         go : (b : Bool) → ltb mostBytes (length (script bs)) ≡ b → _≡_ {A = ScriptEnd} (if b then ends.Refused 1 0 else ends.At (length (script bs))) (ends.Refused k p)
-            → judgedOf (length (script bs)) (lastEnd (script bs)) (readScript l bs) ≡ judged.Refused k p
+            → judgedOf (length (script bs)) (lastEnd (script bs)) (readScript E l bs) ≡ judged.Refused k p
         go true t q =
             let x : _≡_ {A = ℕ} 1 k = cc in
             let y : _≡_ {A = ℕ} 0 p = cc in
             rw t (λ i. judged.Refused (x i) (y i))
         go false t q = absurd (let z : _≡_ {A = ℕ} 0 1 = cc in omega arith)
 
-    pub judge-lists : {n : ℕ} → scriptEnd bs ≡ ends.At n → goodLists l ≡ false → judgement l bs ≡ judged.Refused 2 0
+    pub judge-lists : {n : ℕ} → scriptEnd bs ≡ ends.At n → goodLists l ≡ false → judgement E l bs ≡ judged.Refused 2 0
     unfolding judgement readScript
     judge-lists e g = rw (end-found e .1, g)
 
-    pub judge-rest : {n : ℕ} → scriptEnd bs ≡ ends.At n → goodLists l ≡ true → judgement l bs ≡ textJudgement l (take n bs)
+    pub judge-rest : {n : ℕ} → scriptEnd bs ≡ ends.At n → goodLists l ≡ true → judgement E l bs ≡ textJudgement E l (take n bs)
     unfolding judgement readScript textJudgement
     judge-rest {n} e g =
         let p : take n bs ≡ script bs = ap (λ (i : ℕ). take i bs) (end-found e .0) ∙ script-take in
@@ -135,21 +136,21 @@ end-counted : (ts : List Token) (n : ℕ) → count counts (ts ++ (final n ∷ [
 unfolding count code
 end-counted ts n = omega (arith, count-append ts (final n ∷ []))
 
-module _ (l : Lists) (s : List ℕ) where
-  pub text-refused : {k p : ℕ} → scanOf s ≡ scanned.Refused k p → textJudgement l s ≡ judged.Refused k p
+module _ (E : Edition) (l : Lists) (s : List ℕ) where
+  pub text-refused : {k p : ℕ} → scanOf s ≡ scanned.Refused k p → textJudgement E l s ≡ judged.Refused k p
   unfolding scanOf textJudgement tokens ofTokens
   text-refused {k} {p} h = go (scan 0 0 s) refl h
     where
       go₁ : (ts : List Token) → scan 0 0 s ≡ lexed ts → (b : Bool) → ltb mostTokens (count counts ts) ≡ b
           → _≡_ {A = Scanned} (if b then scanned.Refused 7 (length s) else scanned.Counted (count counts ts) (endOf 0 ts)) (scanned.Refused k p)
-          → judgedOf (length s) (lastEnd s) (ofTokens l (length s) (tokens s)) ≡ judged.Refused k p
+          → judgedOf (length s) (lastEnd s) (ofTokens E l (length s) (tokens s)) ≡ judged.Refused k p
       go₁ ts q true r h =
           let x : _≡_ {A = ℕ} 7 k = cc in
           let y : length s ≡ p = cc in
           rw (q, end-counted ts (length s), r) (λ i. judged.Refused (x i) (y i))
       go₁ ts q false r h = absurd (let z : _≡_ {A = ℕ} 0 1 = cc in omega arith)
 
-      go : (x : Lexed) → scan 0 0 s ≡ x → summary 0 0 (length s) x ≡ scanned.Refused k p → judgedOf (length s) (lastEnd s) (ofTokens l (length s) (tokens s)) ≡ judged.Refused k p
+      go : (x : Lexed) → scan 0 0 s ≡ x → summary 0 0 (length s) x ≡ scanned.Refused k p → judgedOf (length s) (lastEnd s) (ofTokens E l (length s) (tokens s)) ≡ judged.Refused k p
       go (lexed ts) q h = go₁ ts q (ltb mostTokens (count counts ts)) refl (rw zero-add at h)
       go (faulty f b) q h =
           let x : f ≡ k = cc in
@@ -160,20 +161,20 @@ module _ (l : Lists) (s : List ℕ) where
     pub text-clean : length s ≤ mostBytes → Clean s
     text-clean h = record { short = h; tokens = P .toks; scanned = P .scanned }
 
-    passed-is : ofTokens l (length s) (tokens s) ≡ statements (words l) (toksAt s 0)
+    passed-is : ofTokens E l (length s) (tokens s) ≡ statements (language E l) (toksAt s 0)
     unfolding tokens ofTokens
     passed-is = rw (P .scanned, toks-all s (P .scanned), end-counted (P .toks) (length s), P .few)
 
-    pub text-not : {k p : ℕ} → statements (words l) (toksAt s 0) ≡ refused k p → textJudgement l s ≡ judged.Refused k p
+    pub text-not : {k p : ℕ} → statements (language E l) (toksAt s 0) ≡ refused k p → textJudgement E l s ≡ judged.Refused k p
     unfolding textJudgement
     text-not h = ap (judgedOf (length s) (lastEnd s)) (passed-is ∙ h)
 
-    pub text-good : {o d o′ d′ : List ℕ} {k n x : ℕ} → ReadsAll (statements (words l) (toksAt s 0)) o d k n x o′ d′
-        → textJudgement l s ≡ judged.Good (record { bytes = length s; statements = k; records = n; tokens = c; last = e })
+    pub text-good : {o d o′ d′ : List ℕ} {k n x : ℕ} → ReadsAll (statements (language E l) (toksAt s 0)) o d k n x o′ d′
+        → textJudgement E l s ≡ judged.Good (record { bytes = length s; statements = k; records = n; tokens = c; last = e })
     unfolding textJudgement statements
     text-good {k = k} {n = n} R =
-        let X : Text (words l) s (R .entries) = record { toks = P .toks; scanned = P .scanned; reads = ap (from (words l) 0) (sym (toks-all s (P .scanned))) ∙ R .is } in
-        let v : tokensOf (R .entries) ≡ c = sym (text-tokens (words l) X) ∙ sym (P .count-is) in
+        let X : Text (language E l) s (R .entries) = record { toks = P .toks; scanned = P .scanned; reads = ap (from (language E l) 0) (sym (toks-all s (P .scanned))) ∙ R .is } in
+        let v : tokensOf (R .entries) ≡ c = sym (text-tokens (language E l) X) ∙ sym (P .count-is) in
         let w : lastEnd s ≡ e = ap (λ (x : Lexed). endOf 0 (listed x)) (P .scanned) ∙ sym (P .end-is) in
         ap (judgedOf (length s) (lastEnd s)) (passed-is ∙ R .is)
         ∙ (λ i. judged.Good (record { bytes = length s; statements = sym (R .statements-are) i; records = sym (R .records-are) i; tokens = v i; last = w i }))

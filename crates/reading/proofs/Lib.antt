@@ -3,6 +3,8 @@ pub mod HoldLaws
 pub mod SignLaws
 pub mod RowLaws
 pub mod ChainLaws
+pub mod RaiseLaws
+pub mod PowerLaws
 pub mod StepLaws
 pub mod CallLaws
 pub mod AtomLaws

@@ -6,12 +6,13 @@ use Prim.Native.Nat.{ℕ, _*_, _/_, _≤_, _<_}
 use native.Mathlib.Omega.{arith}
 use lib.Dec.{ltb}
 use lib.ListN.{length, length-map, take}
-use borrow.Author.Tests.{lt-ltb, le-ltb, ltb-true, ltb-false}
+use borrow.Author.Tests.{ne-eqb, lt-ltb, le-ltb, ltb-true, ltb-false}
 use Rattle.tokens.specs.Text.{if_then_else_, script}
 use Rattle.tokens.specs.Names.{Lists}
 use Rattle.tokens.proofs.Outcomes.{one-outcome}
 use Rattle.grammar.specs.Sizes.{recordWidth, entryWidth, mostRecords, mostStatements, recordRoom, statementRoom}
-use Rattle.grammar.specs.Script.{Entry, Outcome, accepted, refused, fitting, readScript, reading, statements, words, nodes, tokensOf}
+use Rattle.grammar.specs.Grammar.{Edition, one, two}
+use Rattle.grammar.specs.Script.{Entry, Outcome, accepted, refused, fitting, readScript, readingIn, numberOf, reading, statements, language, nodes, tokensOf}
 use Rattle.grammar.specs.Words.{wordsOf, rowOf, rowWords, directoryOf, latestOf}
 use Rattle.reading.specs.Rows.{rows, putRows, putEntries}
 use Rattle.reading.specs.Meets.{toksAt, Few}
@@ -22,7 +23,8 @@ use Rattle.reading.specs.declared.judging.Counts.{Counts}
 use Rattle.reading.specs.declared.judging.Judged.the-variants as judged
 use Rattle.reading.specs.declared.reading.Answer.{Answer}
 use Rattle.reading.specs.Judging.{judgedOf, lastEnd, judgement}
-use Rattle.reading.specs.Reading.{acceptedWith, refusedAt, answerOf, answerTo, latestRead, over, leftBy, readInto, Leaves}
+use Rattle.reading.specs.Reading.{acceptedWith, refusedAt, answerOf, answerTo, latestRead, over, leftBy, LeavesBy, LeavesIn, Leaves}
+use Rattle.grammar.proofs.Refusals.{edition-first}
 use Rattle.grammar.proofs.AmendBytes.{Accepted, read-accepted, script-noZero, read-script}
 use Rattle.grammar.proofs.WordLaws.{words-length, directory-length}
 use Rattle.reading.proofs.RowLaws.{flat, flat-append, rows-flat, rows-wide, Wide, none, more, wide-append, put-first}
@@ -31,7 +33,7 @@ use Rattle.reading.proofs.JudgeLaws.{script-in, script-take, toks-all, 
 
 -- ---- two outcomes of one call coincide
 
-pub leaves-same : {l : Lists} {bs o d : List ℕ} {r₁ r₂ : Answer} {o₁ o₂ d₁ d₂ : List ℕ} → Leaves l bs o d r₁ o₁ d₁ → Leaves l bs o d r₂ o₂ d₂
+pub leaves-same : {e : ℕ} {x : Outcome} {bs o d : List ℕ} {r₁ r₂ : Answer} {o₁ o₂ d₁ d₂ : List ℕ} → LeavesBy e x bs o d r₁ o₁ d₁ → LeavesBy e x bs o d r₂ o₂ d₂
     → (r₁ ≡ r₂) × (o₁ ≡ o₂) × (d₁ ≡ d₂)
 leaves-same x y = (one-outcome (x .answer) (y .answer), one-outcome (x .records) (y .records), one-outcome (x .directory) (y .directory))
 
@@ -96,14 +98,14 @@ all-wrote o d (all.Done k n x) es e h X =
     )
 all-wrote o d (all.Refused k b) es e h X = absurd (let z : _≡_ {A = ℕ} 0 1 = cc in omega arith)
 
-module _ (l : Lists) (bs : List ℕ) where
+module _ (E : Edition) (l : Lists) (bs : List ℕ) where
   -- ---- what a judgement says of the script
 
-  pub judged-not : {k p : ℕ} → judgement l bs ≡ judged.Refused k p → readScript l bs ≡ refused k p
+  pub judged-not : {k p : ℕ} → judgement E l bs ≡ judged.Refused k p → readScript E l bs ≡ refused k p
   unfolding judgement
-  judged-not {k} {p} h = go (readScript l bs) refl h
+  judged-not {k} {p} h = go (readScript E l bs) refl h
     where
-      go : (x : Outcome) → readScript l bs ≡ x → judgedOf (length (script bs)) (lastEnd (script bs)) x ≡ judged.Refused k p → readScript l bs ≡ refused k p
+      go : (x : Outcome) → readScript E l bs ≡ x → judgedOf (length (script bs)) (lastEnd (script bs)) x ≡ judged.Refused k p → readScript E l bs ≡ refused k p
       go (accepted es) e h = absurd (let z : _≡_ {A = ℕ} 0 1 = cc in omega arith)
       go (refused j q) e h =
           let x : j ≡ k = cc in
@@ -112,7 +114,7 @@ module _ (l : Lists) (bs : List ℕ) where
 
   pub record Good (c : Counts) : Type 0 where
     pub entries : List Entry
-    pub reads : readScript l bs ≡ accepted entries
+    pub reads : readScript E l bs ≡ accepted entries
     pub counts-are : judged.Good c ≡ judgedOf (length (script bs)) (lastEnd (script bs)) (accepted entries)
     pub bytes-are : c .bytes ≡ length (script bs)
     pub statements-are : c .statements ≡ length entries
@@ -120,17 +122,17 @@ module _ (l : Lists) (bs : List ℕ) where
     pub tokens-are : c .tokens ≡ tokensOf entries
     pub last-are : c .last ≡ lastEnd (script bs)
 
-  pub judged-good : {c : Counts} → judgement l bs ≡ judged.Good c → Good c
+  pub judged-good : {c : Counts} → judgement E l bs ≡ judged.Good c → Good c
   unfolding judgement
-  judged-good {c} h = go (readScript l bs) refl h
+  judged-good {c} h = go (readScript E l bs) refl h
     where
-      go : (x : Outcome) → readScript l bs ≡ x → judgedOf (length (script bs)) (lastEnd (script bs)) x ≡ judged.Good c → Good c
+      go : (x : Outcome) → readScript E l bs ≡ x → judgedOf (length (script bs)) (lastEnd (script bs)) x ≡ judged.Good c → Good c
       go (accepted es) e h = record { entries = es; reads = e; counts-are = sym h; bytes-are = cc; statements-are = cc; records-are = cc; tokens-are = cc; last-are = cc }
       go (refused j q) e h = absurd (let z : _≡_ {A = ℕ} 0 1 = cc in omega arith)
 
   module _ {c : Counts} (G : Good c) where
-    admits : Accepted l (script bs) (G .entries)
-    admits = read-accepted l (script bs) (G .entries) (script-noZero bs) (read-script l bs ∙ G .reads)
+    admits : Accepted E l (script bs) (G .entries)
+    admits = read-accepted E l (script bs) (G .entries) (script-noZero bs) (read-script E l bs ∙ G .reads)
 
     pub text-is : take (c .bytes) bs ≡ script bs
     text-is = ap (λ (n : ℕ). take n bs) (G .bytes-are) ∙ script-take bs
@@ -144,55 +146,76 @@ module _ (l : Lists) (bs : List ℕ) where
       lists-few l (admits .lists),
     )
 
-    reads-are : statements (words l) (toksAt (take (c .bytes) bs) 0) ≡ accepted (G .entries)
+    reads-are : statements (language E l) (toksAt (take (c .bytes) bs) 0) ≡ accepted (G .entries)
     unfolding statements
-    reads-are = ap (λ (s : List ℕ). statements (words l) (toksAt s 0)) text-is ∙ ap (statements (words l)) (toks-all (script bs) (admits .text .scanned)) ∙ admits .text .reads
+    reads-are = ap (λ (s : List ℕ). statements (language E l) (toksAt s 0)) text-is ∙ ap (statements (language E l)) (toks-all (script bs) (admits .text .scanned)) ∙ admits .text .reads
 
   module _ (o d : List ℕ) where
-    leaves-refused : {r : Answer} {k p : ℕ} → r ≡ refusedAt bs k p → readInto l bs o d ≡ refused k p → Leaves l bs o d r o d
+    leaves-refused : {r : Answer} {k p : ℕ} → r ≡ refusedAt bs k p → readingIn E l (recordRoom (length o)) (statementRoom (length d)) bs ≡ refused k p → LeavesIn E l bs o d r o d
     leaves-refused e h = record {
-      answer = e ∙ sym (ap (answerTo bs) h);
+      answer = e ∙ sym (ap (answerTo (numberOf E) bs) h);
       records = sym (ap (leftBy wordsOf o) h);
       directory = sym (ap (leftBy directoryOf d) h);
     }
 
     -- 1 to 15
-    pub leaves-not : {r : Answer} {k p : ℕ} → r ≡ refusedAt bs k p → judgement l bs ≡ judged.Refused k p → Leaves l bs o d r o d
-    unfolding reading
+    pub leaves-not : {r : Answer} {k p : ℕ} → r ≡ refusedAt bs k p → judgement E l bs ≡ judged.Refused k p → LeavesIn E l bs o d r o d
+    unfolding readingIn
     leaves-not e h = leaves-refused e (ap (fitting (length (script bs)) (recordRoom (length o)) (statementRoom (length d))) (judged-not h))
 
     module _ {c : Counts} (G : Good c) where
-      into : readInto l bs o d ≡ fitting (c .bytes) (recordRoom (length o)) (statementRoom (length d)) (accepted (G .entries))
-      unfolding reading
+      into : readingIn E l (recordRoom (length o)) (statementRoom (length d)) bs ≡ fitting (c .bytes) (recordRoom (length o)) (statementRoom (length d)) (accepted (G .entries))
+      unfolding readingIn
       into = rw (G .reads, G .bytes-are)
 
       -- 16
-      pub leaves-wide : {r : Answer} {m : ℕ} → r ≡ refusedAt bs 16 (c .bytes) → m ≡ recordRoom (length o) → m < c .records → Leaves l bs o d r o d
+      pub leaves-wide : {r : Answer} {m : ℕ} → r ≡ refusedAt bs 16 (c .bytes) → m ≡ recordRoom (length o) → m < c .records → LeavesIn E l bs o d r o d
       leaves-wide e p h =
           let full : ltb (recordRoom (length o)) (nodes (G .entries)) ≡ true = lt-ltb (recordRoom (length o)) (nodes (G .entries)) (omega (arith, p, h, G .records-are)) in
           leaves-refused e (into ∙ rw full)
 
       pub leaves-many : {r : Answer} {m n : ℕ} → r ≡ refusedAt bs 16 (c .bytes) → m ≡ recordRoom (length o) → c .records ≤ m → n ≡ statementRoom (length d) → n < c .statements
-          → Leaves l bs o d r o d
+          → LeavesIn E l bs o d r o d
       leaves-many e p h q g =
           let fits : ltb (recordRoom (length o)) (nodes (G .entries)) ≡ false = le-ltb (recordRoom (length o)) (nodes (G .entries)) (omega (arith, p, h, G .records-are)) in
           let full : ltb (statementRoom (length d)) (length (G .entries)) ≡ true = lt-ltb (statementRoom (length d)) (length (G .entries)) (omega (arith, q, g, G .statements-are)) in
           leaves-refused e (into ∙ rw (fits, full))
 
       -- accepted
-      pub leaves-read : {r : Answer} {m n x : ℕ} → r ≡ acceptedWith c x → m ≡ recordRoom (length o) → c .records ≤ m → n ≡ statementRoom (length d) → c .statements ≤ n
-          → (a : All) {o′ d′ : List ℕ} → x ≡ latestRead a → MeetsAll (statements (words l) (toksAt (take (c .bytes) bs) 0)) o d a o′ d′ → Leaves l bs o d r o′ d′
+      pub leaves-read : {r : Answer} {m n x : ℕ} → r ≡ acceptedWith (numberOf E) c x → m ≡ recordRoom (length o) → c .records ≤ m → n ≡ statementRoom (length d) → c .statements ≤ n
+          → (a : All) {o′ d′ : List ℕ} → x ≡ latestRead a → MeetsAll (statements (language E l) (toksAt (take (c .bytes) bs) 0)) o d a o′ d′ → LeavesIn E l bs o d r o′ d′
       leaves-read e p h q g a y M =
           let fits : ltb (recordRoom (length o)) (nodes (G .entries)) ≡ false = le-ltb (recordRoom (length o)) (nodes (G .entries)) (omega (arith, p, h, G .records-are)) in
           let few : ltb (statementRoom (length d)) (length (G .entries)) ≡ false = le-ltb (statementRoom (length d)) (length (G .entries)) (omega (arith, q, g, G .statements-are)) in
-          let is : readInto l bs o d ≡ accepted (G .entries) = into ∙ rw (fits, few) in
+          let is : readingIn E l (recordRoom (length o)) (statementRoom (length d)) bs ≡ accepted (G .entries) = into ∙ rw (fits, few) in
           let record-fits : recordWidth * nodes (G .entries) ≤ length o = omega (arith, room-in mostRecords (length o / recordWidth), p, h, G .records-are) in
           let W = all-wrote o d a (G .entries) (reads-are G) record-fits M in
           let entry-fits : entryWidth * length (G .entries) ≤ length d = omega (arith, room-in mostStatements (length d / entryWidth), q, g, G .statements-are) in
           record {
             answer =
-                e ∙ ap (acceptedWith c) (y ∙ W .2) ∙ ap (answerOf bs (latestOf (map rowOf (G .entries)))) (G .counts-are)
-                ∙ sym (ap (answerTo bs) is);
+                e ∙ ap (acceptedWith (numberOf E) c) (y ∙ W .2) ∙ ap (answerOf (numberOf E) bs (latestOf (map rowOf (G .entries)))) (G .counts-are)
+                ∙ sym (ap (answerTo (numberOf E) bs) is);
             records = W .0 ∙ put-records o (G .entries) record-fits ∙ sym (ap (leftBy wordsOf o) is);
             directory = W .1 ∙ put-directory d (G .entries) entry-fits ∙ sym (ap (leftBy directoryOf d) is);
           }
+
+-- ---- by the edition's number
+
+module _ (l : Lists) (bs o d : List ℕ) {e : ℕ} {r : Answer} {o′ d′ : List ℕ} where
+  pub leaves-one : e ≡ 1 → LeavesIn one l bs o d r o′ d′ → Leaves e l bs o d r o′ d′
+  unfolding reading
+  leaves-one z X = rw z X
+
+  pub leaves-two : e ≡ 2 → LeavesIn two l bs o d r o′ d′ → Leaves e l bs o d r o′ d′
+  unfolding reading
+  leaves-two z X = rw z X
+
+-- 26
+pub leaves-other : (l : Lists) (bs o d : List ℕ) {e : ℕ} {r : Answer} → (e ≡ 1 → ⊥) → (e ≡ 2 → ⊥) → r ≡ refusedAt bs 26 0 → Leaves e l bs o d r o d
+leaves-other l bs o d {e} {r} x y z =
+    let h = edition-first e l bs (recordRoom (length o)) (statementRoom (length d)) (ne-eqb e 1 x) (ne-eqb e 2 y) in
+    record {
+      answer = z ∙ sym (ap (answerTo e bs) h);
+      records = sym (ap (leftBy wordsOf o) h);
+      directory = sym (ap (leftBy directoryOf d) h);
+    }

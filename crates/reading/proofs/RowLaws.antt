@@ -256,7 +256,7 @@ putWords-sets o i [] = refl
 putWords-sets o i (w ∷ ws) = putWords-sets (set o i w) (i + 1) ws ∙ rw add-one
 
 -- one that does not fit
-put-not : (w : ℕ) (o : List ℕ) (n : ℕ) (r : List ℕ) → length o / w ≤ n → putAt w o n r ≡ o
+pub put-not : (w : ℕ) (o : List ℕ) (n : ℕ) (r : List ℕ) → length o / w ≤ n → putAt w o n r ≡ o
 unfolding putAt
 put-not w o n r h = rw (le-ltb n (length o / w) h)
 

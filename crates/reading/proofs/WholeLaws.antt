@@ -17,7 +17,7 @@ use Rattle.tokens.specs.declared.cursor.Cursor.{Cursor}
 use Rattle.grammar.specs.Sizes.{recordWidth, entryWidth}
 use Rattle.grammar.specs.Trees.{Tree, size, records}
 use Rattle.grammar.specs.Readers.{Out, refused as wrong, first, is, skip}
-use Rattle.grammar.specs.Grammar.{Words, statement}
+use Rattle.grammar.specs.Grammar.{Language, statement}
 use Rattle.grammar.specs.Script.{Entry, Outcome, accepted, refused, front, back, entryOf, onward, turn, from, statements, nodes}
 use Rattle.grammar.specs.Latest.{latestIn}
 use Rattle.grammar.specs.Words.{rowOf, rowWords, latestOf}
@@ -46,7 +46,7 @@ module _ {t : List ℕ} {c : Cursor} (h : Holds t c) where
   unfolding code
   skip-held = skip-clear (toksAt t (c .start)) (is-not "Newline" (first (toksAt t (c .start))) (c .code) (first-kind h) (h .no-line))
 
-  module _ (W : Words) (b : ℕ) where
+  module _ (W : Language) (b : ℕ) where
     pub from-end : c .code ≡ 0 → from W b (toksAt t (c .start)) ≡ accepted []
     unfolding turn code
     from-end z = from-eq W b (toksAt t (c .start)) ∙ ap (turn W (from W) b) (skip-held ∙ at-end h z .1)
@@ -89,7 +89,7 @@ putEntries-snoc d k es e =
 -- ---- the loop
 
 -- the statements read so far make n records and k entries, and the cursor stands behind them; x is their latest date, where the records have room
-pub record Chain (W : Words) (t o d : List ℕ) (b : ℕ) (c : Cursor) (n k x : ℕ) (o₁ d₁ : List ℕ) : Type 0 where
+pub record Chain (W : Language) (t o d : List ℕ) (b : ℕ) (c : Cursor) (n k x : ℕ) (o₁ d₁ : List ℕ) : Type 0 where
   pub entries : List Entry
   pub goes : statements W (toksAt t 0) ≡ prepend entries (from W b (toksAt (drop b t) (c .start)))
   pub short : length t ≤ mostBytes
@@ -103,7 +103,7 @@ pub record Chain (W : Words) (t o d : List ℕ) (b : ℕ) (c : Cursor) (n k x : 
   pub directory : recordWidth * n ≤ length o → d₁ ≡ putEntries d 0 (entriesIn entries)
   pub latest : recordWidth * n ≤ length o → x ≡ latestOf (map rowOf entries)
 
-module _ (W : Words) (t o d : List ℕ) where
+module _ (W : Language) (t o d : List ℕ) where
   pub chain-start : Clean t → (c : Cursor) → c ≡ cursorAt (take mostBytes t) 0 0 0 → Chain W t o d 0 c 0 0 0 o d
   unfolding statements putAll latestOf
   chain-start C c e =

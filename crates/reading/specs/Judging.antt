@@ -6,6 +6,7 @@ use Rattle.tokens.specs.Text.{script}
 use Rattle.tokens.specs.Names.{Lists}
 use Rattle.tokens.specs.Tokens.{scan, tokens, endOf}
 use Rattle.reading.specs.Meets.{listed}
+use Rattle.grammar.specs.Grammar.{Edition}
 use Rattle.grammar.specs.Script.{Outcome, accepted, refused, ofTokens, readScript, nodes, tokensOf}
 use Rattle.reading.specs.declared.judging.Judged.{Judged}
 use Rattle.reading.specs.declared.judging.Judged.the-variants as judged
@@ -24,9 +25,9 @@ abbrev pub lastEnd : List ℕ → ℕ
 lastEnd s = endOf 0 (listed (scan 0 0 s))
 
 -- of a script: 1 to 15
-unfoldable pub judgement : Lists → List ℕ → Judged
-judgement l bs = judgedOf (length (script bs)) (lastEnd (script bs)) (readScript l bs)
+unfoldable pub judgement : Edition → Lists → List ℕ → Judged
+judgement E l bs = judgedOf (length (script bs)) (lastEnd (script bs)) (readScript E l bs)
 
 -- of a text that is no longer than a script, with lists that are well formed: 3 to 15
-unfoldable pub textJudgement : Lists → List ℕ → Judged
-textJudgement l s = judgedOf (length s) (lastEnd s) (ofTokens l (length s) (tokens s))
+unfoldable pub textJudgement : Edition → Lists → List ℕ → Judged
+textJudgement E l s = judgedOf (length s) (lastEnd s) (ofTokens E l (length s) (tokens s))

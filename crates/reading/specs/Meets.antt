@@ -1,5 +1,6 @@
 -- What the readers of the code answer, in terms of the definition's readers.
 use mathlib.Core.Path.{_≡_}
+use mathlib.Core.Bool.{Bool, true, false}
 use mathlib.Core.List.{List, [], _∷_, _++_}
 use Prim.Native.Nat.{ℕ, suc, _+_, _-_, _*_, _≤_}
 use lib.Dec.{eqb}
@@ -11,8 +12,8 @@ use Rattle.tokens.specs.Tokens.{Token, Lexed, lexed, refused as faulty, scan, f
 use Rattle.tokens.specs.Lexing.{markAt}
 use Rattle.tokens.specs.declared.cursor.Cursor.{Cursor}
 use Rattle.grammar.specs.Trees.{Tree, Trees, node, nil, fields, size, sizes}
-use Rattle.grammar.specs.Readers.{Out, ok, refused, Reader, _>>=_, _>>_, fail, peek, read}
-use Rattle.grammar.specs.Grammar.{Words, nextKind}
+use Rattle.grammar.specs.Readers.{Out, ok, refused, Reader, _>>=_, _>>_, next, fail, peek, read}
+use Rattle.grammar.specs.Grammar.{Edition, one, two, Language, lone}
 use Rattle.reading.specs.Rows.{rows, rowsOf, putRows}
 use Rattle.reading.specs.declared.answers.Read.{Read}
 use Rattle.reading.specs.declared.answers.Read.the-variants.{Done, Refused}
@@ -23,10 +24,19 @@ use Rattle.reading.specs.declared.answers.Leaf.the-variants as leaf
 use Rattle.reading.specs.declared.answers.Number.{Number}
 use Rattle.reading.specs.declared.answers.Number.the-variants as number
 
--- what the three lent lists decide
-abbrev pub wordsIn : List ℕ → List ℕ → List ℕ → Words
-wordsIn reserved currencies counters =
-    record { reserved = names reserved; currencies = names currencies; counters = names counters }
+-- the edition, by whether it is the second
+abbrev pub editionBy : Bool → Edition
+editionBy false = one
+editionBy true = two
+
+-- the edition, and what the three lent lists decide
+abbrev pub languageIn : Bool → List ℕ → List ℕ → List ℕ → Language
+languageIn second reserved currencies counters =
+    record { edition = editionBy second; reserved = names reserved; currencies = names currencies; counters = names counters }
+
+-- for what is the same in both editions: the lists alone
+abbrev pub wordsIn : List ℕ → List ℕ → List ℕ → Language
+wordsIn reserved currencies counters = languageIn false reserved currencies counters
 
 -- ---- cursors
 
@@ -69,7 +79,7 @@ Ready t c n = Holds t c × Room t c n
 pub record Follows (t : List ℕ) (c d : Cursor) : Type 0 where
   pub holds : Holds t d
   pub reads : (c .code ≡ 0 → ⊥) → read (toksAt t (c .start)) ≡ ok (tokenAt t c) (toksAt t (d .start))
-  pub next-is : (c .code ≡ 0 → ⊥) → nextKind (toksAt t (c .start)) ≡ (if d .broken then 55 else d .code)
+  pub next-is : (c .code ≡ 0 → ⊥) → next (toksAt t (c .start)) .kind ≡ (if d .broken then 55 else d .code)
   pub fewer : (c .code ≡ 0 → ⊥) → suc (length (toksAt t (d .start))) ≤ length (toksAt t (c .start))
 
 -- the token of this kind and no other
@@ -79,6 +89,11 @@ theBy k = peek >>= λ t. if eqb k (t .kind) then read else fail 8
 abbrev pub Takes : List ℕ → ℕ → Cursor → Took → Type 0
 Takes t k c (took.Next d) = Follows t c d × (c .code ≡ k) × (theBy k (toksAt t (c .start)) ≡ ok (tokenAt t c) (toksAt t (d .start)))
 Takes t k c (took.Not b) = theBy k (toksAt t (c .start)) ≡ refused 8 b
+
+-- a number that is all that a minus before it takes in, and the cursor behind it
+abbrev pub Lone : List ℕ → Language → Cursor → Took → Type 0
+Lone t W c (took.Next d) = Follows t c d × (c .code ≡ 2) × (lone W (toksAt t (c .start)) ≡ true)
+Lone t W c (took.Not b) = lone W (toksAt t (c .start)) ≡ false
 
 -- ---- what was read
 

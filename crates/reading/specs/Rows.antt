@@ -40,6 +40,10 @@ unfoldable pub putAll : ℕ → List ℕ → ℕ → List (List ℕ) → List �
 putAll w o n [] = o
 putAll w o n (r ∷ rs) = putAll w (putAt w o n r) (n + 1) rs
 
+-- how many records fit whole
+abbrev pub room : List ℕ → ℕ
+room o = length o / recordWidth
+
 -- records
 abbrev pub putRow : List ℕ → ℕ → List ℕ → List ℕ
 putRow o n r = putAt recordWidth o n r

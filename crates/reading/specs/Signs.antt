@@ -1,25 +1,35 @@
 -- Which signs a level of the grammar takes, by the numbers of their kinds.
-use mathlib.Core.Bool.{Bool, _||_}
+use mathlib.Core.Bool.{Bool, _&&_, _||_, not}
 use Prim.Native.Nat.{ℕ}
 use lib.Dec.{eqb}
 use Rattle.tokens.specs.Text.{within}
 
--- `and`, `or`
-abbrev pub jointSign : ℕ → Bool
-jointSign k = eqb 19 k || eqb 20 k
+-- Where a power is read alone, no sign of a level above it goes on
+
+-- `and`, where it binds tighter than `or`: in the second edition
+abbrev pub tighterSign : Bool → Bool → ℕ → Bool
+tighterSign second alone k = not alone && (second && eqb 19 k)
+
+-- `or`, and `and` where it is of one level with it
+abbrev pub looserSign : Bool → Bool → ℕ → Bool
+looserSign second alone k = not alone && ((not second && eqb 19 k) || eqb 20 k)
 
 -- `==` `!=` `>` `<` `>=` `<=`
-abbrev pub comparator : ℕ → Bool
-comparator k = within 13 18 k
+abbrev pub comparator : Bool → ℕ → Bool
+comparator alone k = not alone && within 13 18 k
 
-abbrev pub sumSign : ℕ → Bool
-sumSign k = eqb 8 k || eqb 9 k
+abbrev pub sumSign : Bool → ℕ → Bool
+sumSign alone k = not alone && (eqb 8 k || eqb 9 k)
 
-abbrev pub productSign : ℕ → Bool
-productSign k = eqb 10 k || eqb 11 k
+abbrev pub productSign : Bool → ℕ → Bool
+productSign alone k = not alone && (eqb 10 k || eqb 11 k)
 
 abbrev pub powerSign : ℕ → Bool
 powerSign k = eqb 12 k
+
+-- `**`, where a sign takes it in: in the second edition
+abbrev pub takenIn : Bool → ℕ → Bool
+takenIn second k = second && eqb 12 k
 
 -- `.`, `[`
 abbrev pub postfixSign : ℕ → Bool

@@ -1,7 +1,7 @@
 -- The readers of the code inside an expression: what is one deeper, parts of a list, postfixes.
 use mathlib.Core.Path.{_≡_}
 use mathlib.Core.Bool.{Bool, _||_, not}
-use mathlib.Core.List.{List}
+use mathlib.Core.List.{List, []}
 use mathlib.Core.Logic.{_⊎_}
 use mathlib.Core.Option.{Option, none, some}
 use Prim.Native.Nat.{ℕ, zero, suc, _+_, _≤_, _<_}
@@ -12,9 +12,9 @@ use Rattle.tokens.specs.Names.{member}
 use Rattle.tokens.specs.Dates.{date}
 use Rattle.tokens.specs.Tokens.{Token}
 use Rattle.tokens.specs.declared.cursor.Cursor.{Cursor}
-use Rattle.grammar.specs.Trees.{Tree, Trees, node, nil, _▹_, snoc, size, sizes, parts}
+use Rattle.grammar.specs.Trees.{Tree, Trees, node, nil, _▹_, none as unused, snoc, size, sizes, parts}
 use Rattle.grammar.specs.Readers.{Out, ok, refused, Reader, _>>=_, _>>_, Turn, again, done, loop, is, give, fail, ask, peek, read, the}
-use Rattle.grammar.specs.Grammar.{Words, expression, primary, strings, text, spot, df, rateIndex, deeper, parenthesis, listed, postfixes}
+use Rattle.grammar.specs.Grammar.{Language, power, signed, product, sum, comparison, expression, arguments, methodOf, indexOf, postfixTurn, postfixes, strings, text, spot, df, rateIndex, deeper, call, name, pays, minus, parenthesis, listed, primary}
 use Rattle.reading.specs.Rows.{rows, rowsOf, putRows}
 use Rattle.reading.specs.Calls.{rightCount}
 use Rattle.reading.specs.Meets.{toksAt, Holds, Ready, stringAt, Quoted}
@@ -27,17 +27,79 @@ use Rattle.reading.specs.declared.answers.Items.{Items}
 use Rattle.reading.specs.declared.answers.Items.the-variants as part
 
 -- what can be read one deeper, with d left
-unfoldable pub inner : Words → ℕ → Option (Reader Tree)
+unfoldable pub inner : Language → ℕ → Option (Reader Tree)
 inner W zero = none
 inner W (suc d) = some (primary W d)
 
+-- ---- the readers of the grammar, with d left
+
+abbrev pub powerAt : Language → ℕ → Reader Tree
+powerAt W d = power W (primary W d)
+
+abbrev pub signedAt : Language → ℕ → Reader Tree
+signedAt W d = signed W (primary W d)
+
+-- the levels above a power, or a power alone
+abbrev pub productOr : Bool → Language → ℕ → Reader Tree
+productOr alone W d = if alone then powerAt W d else product W (primary W d)
+
+abbrev pub sumOr : Bool → Language → ℕ → Reader Tree
+sumOr alone W d = if alone then powerAt W d else sum W (primary W d)
+
+abbrev pub comparisonOr : Bool → Language → ℕ → Reader Tree
+comparisonOr alone W d = if alone then powerAt W d else comparison W (primary W d)
+
+abbrev pub expressionOr : Bool → Language → ℕ → Reader Tree
+expressionOr alone W d = if alone then powerAt W d else expression W (primary W d)
+
+-- behind a minus, which is the token u
+abbrev pub minusAt : Language → ℕ → Token → Reader Tree
+minusAt W d u = minus W (inner W d) u
+
 -- an expression in parentheses, whose `(` is the token u
-abbrev pub parenthesised : Words → ℕ → Token → Reader Tree
+abbrev pub parenthesised : Language → ℕ → Token → Reader Tree
 parenthesised W d u = deeper u (inner W d) (λ p. read >> parenthesis W p)
 
 -- a list with postfixes, whose `[` is the token u
-abbrev pub listPostfixed : Words → ℕ → Token → Reader Tree
-listPostfixed W d u = deeper u (inner W d) (λ p. read >> listed W (u .from) p) >>= postfixes (inner W d) (u .from)
+abbrev pub listPostfixed : Language → ℕ → Token → Reader Tree
+listPostfixed W d u = deeper u (inner W d) (λ p. read >> listed W (u .from) p) >>= postfixes W (inner W d) (u .from)
+
+abbrev pub paysAt : Language → ℕ → Reader Tree
+paysAt W d = pays W (inner W d)
+
+-- behind a name, which is the token u
+abbrev pub nameAt : Language → ℕ → Token → Reader Tree
+nameAt W d u = name W (inner W d) u
+
+abbrev pub callAt : Language → ℕ → Token → (ℕ × ℕ × ℕ) → Reader Tree
+callAt W d u c = call W (inner W d) u c
+
+abbrev pub argumentsAt : Language → ℕ → Reader Trees
+argumentsAt W d = arguments W (inner W d)
+
+abbrev pub postfixesAt : Language → ℕ → ℕ → Tree → Reader Tree
+postfixesAt W d b x = postfixes W (inner W d) b x
+
+abbrev pub postfixTurnAt : Language → ℕ → ℕ → Tree → Reader (Turn Tree Tree)
+postfixTurnAt W d b x = postfixTurn W (inner W d) b x
+
+abbrev pub methodAt : Language → ℕ → ℕ → Tree → Reader (Turn Tree Tree)
+methodAt W d b x = methodOf W (inner W d) b x
+
+abbrev pub indexAt : Language → ℕ → ℕ → Tree → Reader (Turn Tree Tree)
+indexAt W d b x = indexOf W (primary W d) b x
+
+-- ---- signs
+
+-- UnaryMinus of what was read, its minus at b
+abbrev pub negatedBy : ℕ → Out Tree → Out Tree
+negatedBy b (ok x r) = ok (node 7 b [] unused (x ▹ nil)) r
+negatedBy b (refused k p) = refused k p
+
+-- what was read stands in the records from n on, and there is room behind it
+abbrev pub Behind : ℕ → Read → Type 0
+Behind n (answer.Done c m p) = (n ≤ m) × (m < 50000)
+Behind n (answer.Refused k b) = Unit {0}
 
 -- ---- what ends a pays
 
@@ -59,11 +121,14 @@ itemEnd k es = do
       else if eqb k (t .kind) then give (again es) else fail 8
 
 -- `itemTurn` and `items` with the closing sign's number
-abbrev pub itemTurnBy : ℕ → Reader Tree → Trees → Reader (Turn Trees Trees)
-itemTurnBy k p es = ask (λ t. eqb k (t .kind)) (give (done es)) (do e ← expression p; itemEnd k (snoc es e))
+abbrev pub itemTurnBy : Language → ℕ → Reader Tree → Trees → Reader (Turn Trees Trees)
+itemTurnBy W k p es = ask (λ t. eqb k (t .kind)) (give (done es)) (do e ← expression W p; itemEnd k (snoc es e))
 
-unfoldable pub itemsBy : ℕ → Reader Tree → Reader Trees
-itemsBy k p = loop (itemTurnBy k p) nil
+unfoldable pub itemsBy : Language → ℕ → Reader Tree → Reader Trees
+itemsBy W k p = loop (itemTurnBy W k p) nil
+
+abbrev pub itemsAt : Language → ℕ → ℕ → Reader Trees
+itemsAt W k d = itemsBy W k (primary W d)
 
 abbrev pub FollowsItem : List ℕ → ℕ → Cursor → Took → Type 0
 FollowsItem t k c (took.Next d) = Holds t d × ((es : Trees) → itemEnd k es (toksAt t (c .start)) ≡ ok (again es) (toksAt t (d .start)))
@@ -146,7 +211,7 @@ callFault counters k es =
     else 0
 
 -- Spot, Df, RateIndex, whose name is at b
-abbrev pub specialOf : Words → ℕ → ℕ → Reader Tree
+abbrev pub specialOf : Language → ℕ → ℕ → Reader Tree
 specialOf W k b = if eqb k 32 then spot W b else if eqb k 34 then df b else rateIndex b
 
 -- ---- postfixes

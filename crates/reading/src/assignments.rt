@@ -13,6 +13,7 @@ use tokens::codes::ASSIGN;
 use tokens::codes::DIVIDE_ASSIGN;
 use tokens::codes::MINUS_ASSIGN;
 use tokens::codes::MULTIPLY_ASSIGN;
+use tokens::codes::NEWLINE;
 use tokens::codes::PAYS;
 use tokens::codes::PLUS_ASSIGN;
 use tokens::codes::SEMICOLON;
@@ -20,10 +21,9 @@ use tokens::cursor::Cursor;
 ghost use mathlib.Core.Path.{_≡_};
 ghost use mathlib.Core.List.{[]};
 ghost use Prim.Native.Nat.{_-_, _≤_};
-ghost use Rattle.grammar.specs.Grammar.{primary, ended, named, paid, assign, compound, assignPaid, nameFirst, nextKind};
-ghost use Rattle.reading.specs.Meets.{wordsIn, toksAt, tokenAt, Ready, Few, Follows, Meets};
-ghost use Rattle.reading.specs.Turns.{inner};
-ghost use Rattle.reading.specs.Bodies.{MeetsTwice};
+ghost use Rattle.grammar.specs.Grammar.{named};
+ghost use Rattle.reading.specs.Meets.{wordsIn, languageIn, toksAt, tokenAt, Ready, Few, Follows, Meets};
+ghost use Rattle.reading.specs.Bodies.{endedAt, paidAt, assignAt, compoundAt, assignPaidAt, begunAt, signBehind, MeetsTwice};
 
 // The record of the variable at c.
 fn name_node(c: Cursor) -> Node
@@ -45,6 +45,7 @@ fn name_node(c: Cursor) -> Node
 // An expression and its `;`.
 pub fn ended(
     s: &[u8],
+    two: bool,
     reserved: &[u8],
     currencies: &[u8],
     counters: &[u8],
@@ -54,9 +55,20 @@ pub fn ended(
     n: u32,
 ) -> Read
     requires { ⌜ Ready (now s) c n × Few (now currencies) ⌝ }
-    ensures { λ r. ⌜ Meets (now (s .entry)) (ended (primary (wordsIn (now (reserved .entry)) (now (currencies .entry)) (now (counters .entry))) depth) (toksAt (now (s .entry)) (c .start))) n (now (out .entry)) r (now (out .exit)) ⌝ }
+    ensures { λ r. ⌜ Meets (now (s .entry)) (endedAt (languageIn two (now (reserved .entry)) (now (currencies .entry)) (now (counters .entry))) depth (toksAt (now (s .entry)) (c .start))) n (now (out .entry)) r (now (out .exit)) ⌝ }
 {
-    let r = expression(s, reserved, currencies, counters, c, depth, out, n);
+    let r = expression(
+        s,
+        two,
+        false,
+        reserved,
+        currencies,
+        counters,
+        c,
+        depth,
+        out,
+        n,
+    );
     let Read::Done(d, m, p) = r else {
         return r;
     };
@@ -66,22 +78,23 @@ pub fn ended(
     }
 }
 
-// A pays and its `;`, which is optional; d stands behind the word, at c.
+// A pays, whose word stands at c, and its `;`, which is optional.
 pub fn paid(
     s: &[u8],
+    two: bool,
     reserved: &[u8],
     currencies: &[u8],
     counters: &[u8],
     c: Cursor,
-    d: Cursor,
     depth: u32,
     out: &mut [u32],
     n: u32,
 ) -> Read
-    requires { ⌜ Ready (now s) c n × Follows (now s) c d × (c .code ≡ 36) × Few (now currencies) ⌝ }
-    ensures { λ r. ⌜ Meets (now (s .entry)) (paid (wordsIn (now (reserved .entry)) (now (currencies .entry)) (now (counters .entry))) (inner (wordsIn (now (reserved .entry)) (now (currencies .entry)) (now (counters .entry))) depth) (toksAt (now (s .entry)) (c .start))) n (now (out .entry)) r (now (out .exit)) ⌝ }
+    requires { ⌜ Ready (now s) c n × (c .code ≡ 36) × Few (now currencies) ⌝ }
+    ensures { λ r. ⌜ Meets (now (s .entry)) (paidAt (languageIn two (now (reserved .entry)) (now (currencies .entry)) (now (counters .entry))) depth (toksAt (now (s .entry)) (c .start))) n (now (out .entry)) r (now (out .exit)) ⌝ }
 {
-    let r = pays(s, reserved, currencies, counters, c, d, depth, out, n);
+    let d = next(s, c);
+    let r = pays(s, two, reserved, currencies, counters, c, d, depth, out, n);
     let Read::Done(e, m, p) = r else {
         return r;
     };
@@ -94,6 +107,7 @@ pub fn paid(
 // `x = e;`: the name stands at c, and the sign at d.
 fn assign(
     s: &[u8],
+    two: bool,
     reserved: &[u8],
     currencies: &[u8],
     counters: &[u8],
@@ -104,13 +118,23 @@ fn assign(
     n: u32,
 ) -> Read
     requires { ⌜ Ready (now s) c n × Follows (now s) c d × (c .code ≡ 1) × Few (now currencies) × (d .code ≡ 37) ⌝ }
-    ensures { λ r. ⌜ Meets (now (s .entry)) (assign (wordsIn (now (reserved .entry)) (now (currencies .entry)) (now (counters .entry))) (primary (wordsIn (now (reserved .entry)) (now (currencies .entry)) (now (counters .entry))) depth) (toksAt (now (s .entry)) (c .start))) n (now (out .entry)) r (now (out .exit)) ⌝ }
+    ensures { λ r. ⌜ Meets (now (s .entry)) (assignAt (languageIn two (now (reserved .entry)) (now (currencies .entry)) (now (counters .entry))) depth (toksAt (now (s .entry)) (c .start))) n (now (out .entry)) r (now (out .exit)) ⌝ }
 {
     let r = variable_at(s, reserved, c, d, out, n);
     let Read::Done(_, m, _) = r else {
         return r;
     };
-    let q = ended(s, reserved, currencies, counters, next(s, d), depth, out, m);
+    let q = ended(
+        s,
+        two,
+        reserved,
+        currencies,
+        counters,
+        next(s, d),
+        depth,
+        out,
+        m,
+    );
     let Read::Done(f, k, _) = q else {
         return q;
     };
@@ -134,6 +158,7 @@ fn doubled(s: &[u8], reserved: &[u8], c: Cursor, d: Cursor, out: &mut [u32], n: 
 // `x += e;` and its like: the name stands at c, and the sign at d.
 fn compound(
     s: &[u8],
+    two: bool,
     reserved: &[u8],
     currencies: &[u8],
     counters: &[u8],
@@ -144,13 +169,23 @@ fn compound(
     n: u32,
 ) -> Read
     requires { ⌜ Ready (now s) c n × Follows (now s) c d × (c .code ≡ 1) × Few (now currencies) × (28 ≤ d .code) × (d .code ≤ 31) ⌝ }
-    ensures { λ r. ⌜ Meets (now (s .entry)) (compound (wordsIn (now (reserved .entry)) (now (currencies .entry)) (now (counters .entry))) (primary (wordsIn (now (reserved .entry)) (now (currencies .entry)) (now (counters .entry))) depth) (toksAt (now (s .entry)) (c .start))) n (now (out .entry)) r (now (out .exit)) ⌝ }
+    ensures { λ r. ⌜ Meets (now (s .entry)) (compoundAt (languageIn two (now (reserved .entry)) (now (currencies .entry)) (now (counters .entry))) depth (toksAt (now (s .entry)) (c .start))) n (now (out .entry)) r (now (out .exit)) ⌝ }
 {
     let r = doubled(s, reserved, c, d, out, n);
     let Read::Done(_, m, _) = r else {
         return r;
     };
-    let q = ended(s, reserved, currencies, counters, next(s, d), depth, out, m);
+    let q = ended(
+        s,
+        two,
+        reserved,
+        currencies,
+        counters,
+        next(s, d),
+        depth,
+        out,
+        m,
+    );
     let Read::Done(f, k, _) = q else {
         return q;
     };
@@ -162,6 +197,7 @@ fn compound(
 // `x pays ..`: the name stands at c, and the word at d.
 fn assign_paid(
     s: &[u8],
+    two: bool,
     reserved: &[u8],
     currencies: &[u8],
     counters: &[u8],
@@ -172,23 +208,13 @@ fn assign_paid(
     n: u32,
 ) -> Read
     requires { ⌜ Ready (now s) c n × Follows (now s) c d × (c .code ≡ 1) × Few (now currencies) × (d .code ≡ 36) ⌝ }
-    ensures { λ r. ⌜ Meets (now (s .entry)) (assignPaid (wordsIn (now (reserved .entry)) (now (currencies .entry)) (now (counters .entry))) (inner (wordsIn (now (reserved .entry)) (now (currencies .entry)) (now (counters .entry))) depth) (toksAt (now (s .entry)) (c .start))) n (now (out .entry)) r (now (out .exit)) ⌝ }
+    ensures { λ r. ⌜ Meets (now (s .entry)) (assignPaidAt (languageIn two (now (reserved .entry)) (now (currencies .entry)) (now (counters .entry))) depth (toksAt (now (s .entry)) (c .start))) n (now (out .entry)) r (now (out .exit)) ⌝ }
 {
     let r = doubled(s, reserved, c, d, out, n);
     let Read::Done(_, m, _) = r else {
         return r;
     };
-    let q = paid(
-        s,
-        reserved,
-        currencies,
-        counters,
-        d,
-        next(s, d),
-        depth,
-        out,
-        m,
-    );
+    let q = paid(s, two, reserved, currencies, counters, d, depth, out, m);
     let Read::Done(f, k, _) = q else {
         return q;
     };
@@ -197,32 +223,41 @@ fn assign_paid(
     Read::Done(f, k + 2, 0)
 }
 
-// A statement that a name begins: the name stands at c, and d behind it. A sign behind a line break decides nothing.
+// The sign that decides of a statement that a name begins, behind which d stands: none behind a line break, which no longer
+// matters in the second edition.
+fn sign_behind(two: bool, d: Cursor) -> u8
+    ensures { λ r. ⌜ r ≡ signBehind two d ⌝ }
+{
+    if two {
+        return d.code;
+    }
+    if d.broken { NEWLINE } else { d.code }
+}
+
+// A statement that a name begins, which stands at c.
 pub fn begun(
     s: &[u8],
+    two: bool,
     reserved: &[u8],
     currencies: &[u8],
     counters: &[u8],
     c: Cursor,
-    d: Cursor,
     depth: u32,
     out: &mut [u32],
     n: u32,
 ) -> Read
-    requires { ⌜ Ready (now s) c n × Follows (now s) c d × (c .code ≡ 1) × Few (now currencies) ⌝ }
-    ensures { λ r. ⌜ Meets (now (s .entry)) (nameFirst (wordsIn (now (reserved .entry)) (now (currencies .entry)) (now (counters .entry))) (primary (wordsIn (now (reserved .entry)) (now (currencies .entry)) (now (counters .entry))) depth) (inner (wordsIn (now (reserved .entry)) (now (currencies .entry)) (now (counters .entry))) depth) (nextKind (toksAt (now (s .entry)) (c .start))) (toksAt (now (s .entry)) (c .start))) n (now (out .entry)) r (now (out .exit)) ⌝ }
+    requires { ⌜ Ready (now s) c n × (c .code ≡ 1) × Few (now currencies) ⌝ }
+    ensures { λ r. ⌜ Meets (now (s .entry)) (begunAt (languageIn two (now (reserved .entry)) (now (currencies .entry)) (now (counters .entry))) depth (toksAt (now (s .entry)) (c .start))) n (now (out .entry)) r (now (out .exit)) ⌝ }
 {
-    if d.broken {
-        return ended(s, reserved, currencies, counters, c, depth, out, n);
-    }
-    let code = d.code;
+    let d = next(s, c);
+    let code = sign_behind(two, d);
     match code {
-        ASSIGN => assign(s, reserved, currencies, counters, c, d, depth, out, n),
-        PLUS_ASSIGN => compound(s, reserved, currencies, counters, c, d, depth, out, n),
-        MINUS_ASSIGN => compound(s, reserved, currencies, counters, c, d, depth, out, n),
-        MULTIPLY_ASSIGN => compound(s, reserved, currencies, counters, c, d, depth, out, n),
-        DIVIDE_ASSIGN => compound(s, reserved, currencies, counters, c, d, depth, out, n),
-        PAYS => assign_paid(s, reserved, currencies, counters, c, d, depth, out, n),
-        _ => ended(s, reserved, currencies, counters, c, depth, out, n),
+        ASSIGN => assign(s, two, reserved, currencies, counters, c, d, depth, out, n),
+        PLUS_ASSIGN => compound(s, two, reserved, currencies, counters, c, d, depth, out, n),
+        MINUS_ASSIGN => compound(s, two, reserved, currencies, counters, c, d, depth, out, n),
+        MULTIPLY_ASSIGN => compound(s, two, reserved, currencies, counters, c, d, depth, out, n),
+        DIVIDE_ASSIGN => compound(s, two, reserved, currencies, counters, c, d, depth, out, n),
+        PAYS => assign_paid(s, two, reserved, currencies, counters, c, d, depth, out, n),
+        _ => ended(s, two, reserved, currencies, counters, c, depth, out, n),
     }
 }

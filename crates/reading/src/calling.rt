@@ -13,6 +13,7 @@ use crate::calls::optional_date;
 use crate::calls::rate_index_at;
 use crate::calls::spot_at;
 use crate::records::Node;
+use crate::records::plain;
 use crate::records::put;
 use tokens::codes::CLOSE_PAREN;
 use tokens::codes::COMMA;
@@ -34,7 +35,7 @@ ghost use Rattle.grammar.specs.Trees.{Tree, Trees, parts};
 ghost use Rattle.grammar.specs.Readers.{Out};
 ghost use Rattle.grammar.specs.Grammar.{payday};
 ghost use Rattle.reading.specs.Meets.{wordsIn, toksAt, Holds, Ready, Few, Meets, MeetsLeaf, Before};
-ghost use Rattle.reading.specs.Turns.{Closing, FollowsItem, Shown, shownBy, Inside, contentAt, refusalOf, itemsRefusal, cvgFault, callFault, specialOf, paysStop};
+ghost use Rattle.reading.specs.Turns.{Closing, FollowsItem, Shown, shownBy, Inside, contentAt, refusalOf, itemsRefusal, cvgFault, callFault, specialOf, paysStop, Behind, negatedBy};
 
 // What follows an expression of a list: a comma, which is taken, or the closing sign, which is not.
 pub fn follow(s: &[u8], c: Cursor, close: u8) -> Took
@@ -165,6 +166,20 @@ fn written(leaf: Leaf, out: &mut [u32], n: u32) -> Read
         Leaf::Is(c, node) => {
             put(out, n, node);
             Read::Done(c, n + 1, 0)
+        }
+    }
+}
+
+// UnaryMinus of what was read into the records from n on; its minus stands at the place.
+pub fn negative(r: Read, place: u16, out: &mut [u32], n: u32) -> Read
+    requires { ⌜ Behind n r ⌝ }
+    ensures { λ x. ⌜ ((t : List ℕ) (R : Out Tree) (o : List ℕ) → Meets t R n o r (now (out .entry)) → Meets t (negatedBy place R) n o x (now (out .exit))) ⌝ }
+{
+    match r {
+        Read::Refused(k, b) => Read::Refused(k, b),
+        Read::Done(c, m, _) => {
+            put(out, m, plain(7, m - n + 1, 1, place));
+            Read::Done(c, m + 1, 0)
         }
     }
 }

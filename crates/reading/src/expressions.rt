@@ -1,16 +1,18 @@
 // Expressions: one reader for each rule. They call each other through parentheses, lists, arguments and index, with the
-// depth that is left as the falling number.
+// depth that is left as the falling number. `two` says whether the script is of the second edition.
 use crate::answers::Items;
 use crate::answers::Read;
 use crate::answers::Texts;
 use crate::answers::Took;
 use crate::atoms::atom_at;
 use crate::atoms::constant_at;
+use crate::atoms::lone_at;
 use crate::atoms::next;
 use crate::atoms::take;
 use crate::atoms::variable_at;
 use crate::calling::call_fault;
 use crate::calling::follow;
+use crate::calling::negative;
 use crate::calling::payday_at;
 use crate::calling::refusal;
 use crate::calling::refused;
@@ -19,21 +21,22 @@ use crate::calling::special;
 use crate::calling::stops_pays;
 use crate::calls::call_of;
 use crate::calls::method_of;
+use crate::powers::step;
 use crate::records::join;
 use crate::records::plain;
 use crate::records::put;
 use crate::signs::is_comparator;
-use crate::signs::is_joint;
+use crate::signs::is_looser;
 use crate::signs::is_postfix;
 use crate::signs::is_power;
 use crate::signs::is_product;
 use crate::signs::is_sum;
+use crate::signs::is_tighter;
 use tokens::codes::CLOSE_BRACKET;
 use tokens::codes::CLOSE_PAREN;
 use tokens::codes::DOT;
 use tokens::codes::MINUS;
 use tokens::codes::NAME;
-use tokens::codes::NUMBER;
 use tokens::codes::OPEN_BRACKET;
 use tokens::codes::OPEN_PAREN;
 use tokens::codes::PAYS;
@@ -44,15 +47,19 @@ ghost use mathlib.Core.Bool.{true};
 ghost use mathlib.Core.List.{List};
 ghost use Prim.Native.Nat.{ℕ, _≤_, _<_};
 ghost use Rattle.grammar.specs.Trees.{Tree};
-ghost use Rattle.grammar.specs.Grammar.{power, product, sum, comparison, expression, arguments, methodOf, indexOf, postfixTurn, postfixes, calls, callOf, call, name, pays, primary};
+ghost use Rattle.grammar.specs.Grammar.{calls, callOf, primary};
 ghost use Rattle.reading.specs.Calls.{callKind};
-ghost use Rattle.reading.specs.Meets.{wordsIn, toksAt, tokenAt, Holds, Ready, Few, Follows, Meets};
+ghost use Rattle.reading.specs.Meets.{languageIn, toksAt, tokenAt, Holds, Ready, Few, Follows, Meets};
 ghost use Rattle.reading.specs.Signs.{postfixSign};
-ghost use Rattle.reading.specs.Turns.{inner, parenthesised, listPostfixed, itemsBy, Closing, Closed, MeetsItems, Tops, MeetsTurns};
+ghost use Rattle.reading.specs.Turns.{expressionOr, comparisonOr, sumOr, productOr, powerAt, signedAt, minusAt, parenthesised, listPostfixed, paysAt, nameAt, callAt, argumentsAt, itemsAt, postfixesAt, postfixTurnAt, methodAt, indexAt, Closing, Closed, MeetsItems, Tops, MeetsTurns};
 
-// Comparisons joined by `and` and `or`, one level, left to right.
+// Comparisons joined by `and` and `or`, left to right. Where `and` binds tighter, the operands of `or` are chains of their own:
+// the records of the one that is read begin at `from`, and its text at `place`. It is also how a power alone is read, without
+// the levels above it: a function of its own would need stack for itself at each depth.
 pub fn expression(
     s: &[u8],
+    two: bool,
+    alone: bool,
     reserved: &[u8],
     currencies: &[u8],
     counters: &[u8],
@@ -62,30 +69,56 @@ pub fn expression(
     n: u32,
 ) -> Read
     requires { ⌜ Ready (now s) c n × Few (now currencies) ⌝ }
-    ensures { λ r. ⌜ Meets (now (s .entry)) (expression (primary (wordsIn (now (reserved .entry)) (now (currencies .entry)) (now (counters .entry))) depth) (toksAt (now (s .entry)) (c .start))) n (now (out .entry)) r (now (out .exit)) ⌝ }
+    ensures { λ r. ⌜ Meets (now (s .entry)) (expressionOr alone (languageIn two (now (reserved .entry)) (now (currencies .entry)) (now (counters .entry))) depth (toksAt (now (s .entry)) (c .start))) n (now (out .entry)) r (now (out .exit)) ⌝ }
 {
     let mut at = c;
     let mut m = n;
     let mut sign: u8 = 0;
+    let mut tight: u8 = 0;
+    let mut from = n;
+    let mut place = c.start;
     loop {
-        let r = comparison(s, reserved, currencies, counters, at, depth, out, m);
+        let r = comparison(
+            s,
+            two,
+            alone,
+            reserved,
+            currencies,
+            counters,
+            at,
+            depth,
+            out,
+            m,
+        );
         let Read::Done(c1, n1, p1) = r else {
             return r;
         };
-        let j = join(out, sign, n, n1, p1, c.start);
+        let i = join(out, tight, from, n1, p1, place);
         let code = c1.code;
-        if !is_joint(code) {
+        if is_tighter(two, alone, code) {
+            at = next(s, c1);
+            m = i.records;
+            tight = code;
+            continue;
+        }
+        let j = join(out, sign, n, i.records, i.string, c.start);
+        if !is_looser(two, alone, code) {
             return Read::Done(c1, j.records, j.string);
         }
         at = next(s, c1);
         m = j.records;
         sign = code;
+        tight = 0;
+        from = m;
+        place = at.start;
     }
 }
 
 // A comparison has at most one comparator between sums.
 fn comparison(
     s: &[u8],
+    two: bool,
+    alone: bool,
     reserved: &[u8],
     currencies: &[u8],
     counters: &[u8],
@@ -95,13 +128,24 @@ fn comparison(
     n: u32,
 ) -> Read
     requires { ⌜ Ready (now s) c n × Few (now currencies) ⌝ }
-    ensures { λ r. ⌜ Meets (now (s .entry)) (comparison (primary (wordsIn (now (reserved .entry)) (now (currencies .entry)) (now (counters .entry))) depth) (toksAt (now (s .entry)) (c .start))) n (now (out .entry)) r (now (out .exit)) ⌝ }
+    ensures { λ r. ⌜ Meets (now (s .entry)) (comparisonOr alone (languageIn two (now (reserved .entry)) (now (currencies .entry)) (now (counters .entry))) depth (toksAt (now (s .entry)) (c .start))) n (now (out .entry)) r (now (out .exit)) ⌝ }
 {
     let mut at = c;
     let mut m = n;
     let mut sign: u8 = 0;
     loop {
-        let r = sum(s, reserved, currencies, counters, at, depth, out, m);
+        let r = sum(
+            s,
+            two,
+            alone,
+            reserved,
+            currencies,
+            counters,
+            at,
+            depth,
+            out,
+            m,
+        );
         let Read::Done(c1, n1, p1) = r else {
             return r;
         };
@@ -110,7 +154,7 @@ fn comparison(
             return Read::Done(c1, j.records, j.string);
         }
         let code = c1.code;
-        if !is_comparator(code) {
+        if !is_comparator(alone, code) {
             return Read::Done(c1, j.records, j.string);
         }
         at = next(s, c1);
@@ -122,6 +166,8 @@ fn comparison(
 // Products joined by `+` and `-`.
 fn sum(
     s: &[u8],
+    two: bool,
+    alone: bool,
     reserved: &[u8],
     currencies: &[u8],
     counters: &[u8],
@@ -131,19 +177,30 @@ fn sum(
     n: u32,
 ) -> Read
     requires { ⌜ Ready (now s) c n × Few (now currencies) ⌝ }
-    ensures { λ r. ⌜ Meets (now (s .entry)) (sum (primary (wordsIn (now (reserved .entry)) (now (currencies .entry)) (now (counters .entry))) depth) (toksAt (now (s .entry)) (c .start))) n (now (out .entry)) r (now (out .exit)) ⌝ }
+    ensures { λ r. ⌜ Meets (now (s .entry)) (sumOr alone (languageIn two (now (reserved .entry)) (now (currencies .entry)) (now (counters .entry))) depth (toksAt (now (s .entry)) (c .start))) n (now (out .entry)) r (now (out .exit)) ⌝ }
 {
     let mut at = c;
     let mut m = n;
     let mut sign: u8 = 0;
     loop {
-        let r = product(s, reserved, currencies, counters, at, depth, out, m);
+        let r = product(
+            s,
+            two,
+            alone,
+            reserved,
+            currencies,
+            counters,
+            at,
+            depth,
+            out,
+            m,
+        );
         let Read::Done(c1, n1, p1) = r else {
             return r;
         };
         let j = join(out, sign, n, n1, p1, c.start);
         let code = c1.code;
-        if !is_sum(code) {
+        if !is_sum(alone, code) {
             return Read::Done(c1, j.records, j.string);
         }
         at = next(s, c1);
@@ -155,6 +212,8 @@ fn sum(
 // Powers joined by `*` and `/`.
 fn product(
     s: &[u8],
+    two: bool,
+    alone: bool,
     reserved: &[u8],
     currencies: &[u8],
     counters: &[u8],
@@ -164,19 +223,19 @@ fn product(
     n: u32,
 ) -> Read
     requires { ⌜ Ready (now s) c n × Few (now currencies) ⌝ }
-    ensures { λ r. ⌜ Meets (now (s .entry)) (product (primary (wordsIn (now (reserved .entry)) (now (currencies .entry)) (now (counters .entry))) depth) (toksAt (now (s .entry)) (c .start))) n (now (out .entry)) r (now (out .exit)) ⌝ }
+    ensures { λ r. ⌜ Meets (now (s .entry)) (productOr alone (languageIn two (now (reserved .entry)) (now (currencies .entry)) (now (counters .entry))) depth (toksAt (now (s .entry)) (c .start))) n (now (out .entry)) r (now (out .exit)) ⌝ }
 {
     let mut at = c;
     let mut m = n;
     let mut sign: u8 = 0;
     loop {
-        let r = power(s, reserved, currencies, counters, at, depth, out, m);
+        let r = power(s, two, reserved, currencies, counters, at, depth, out, m);
         let Read::Done(c1, n1, p1) = r else {
             return r;
         };
         let j = join(out, sign, n, n1, p1, c.start);
         let code = c1.code;
-        if !is_product(code) {
+        if !is_product(alone, code) {
             return Read::Done(c1, j.records, j.string);
         }
         at = next(s, c1);
@@ -185,9 +244,11 @@ fn product(
     }
 }
 
-// Primaries joined by `**`.
+// Primaries joined by `**`: left to right, or in the second edition right to left, where each waits, marked, until the last is
+// read.
 fn power(
     s: &[u8],
+    two: bool,
     reserved: &[u8],
     currencies: &[u8],
     counters: &[u8],
@@ -197,30 +258,34 @@ fn power(
     n: u32,
 ) -> Read
     requires { ⌜ Ready (now s) c n × Few (now currencies) ⌝ }
-    ensures { λ r. ⌜ Meets (now (s .entry)) (power (primary (wordsIn (now (reserved .entry)) (now (currencies .entry)) (now (counters .entry))) depth) (toksAt (now (s .entry)) (c .start))) n (now (out .entry)) r (now (out .exit)) ⌝ }
+    ensures { λ r. ⌜ Meets (now (s .entry)) (powerAt (languageIn two (now (reserved .entry)) (now (currencies .entry)) (now (counters .entry))) depth (toksAt (now (s .entry)) (c .start))) n (now (out .entry)) r (now (out .exit)) ⌝ }
 {
     let mut at = c;
     let mut m = n;
-    let mut sign: u8 = 0;
+    let mut fits = n;
+    let mut count: u32 = 0;
     loop {
-        let r = primary(s, reserved, currencies, counters, at, depth, out, m);
+        let r = primary(s, two, reserved, currencies, counters, at, depth, out, m);
         let Read::Done(c1, n1, p1) = r else {
             return r;
         };
-        let j = join(out, sign, n, n1, p1, c.start);
         let code = c1.code;
-        if !is_power(code) {
+        let more = is_power(code);
+        let j = step(out, two, more, count, n, fits, n1, p1, c.start, at.start);
+        if !more {
             return Read::Done(c1, j.records, j.string);
         }
         at = next(s, c1);
         m = j.records;
-        sign = code;
+        fits = j.fits;
+        count += 1;
     }
 }
 
-// A primary. A unary sign calls primary again.
-fn primary(
+// What a sign takes in: a primary, or in the second edition the `**` after it too.
+fn signed(
     s: &[u8],
+    two: bool,
     reserved: &[u8],
     currencies: &[u8],
     counters: &[u8],
@@ -230,42 +295,88 @@ fn primary(
     n: u32,
 ) -> Read
     requires { ⌜ Ready (now s) c n × Few (now currencies) ⌝ }
-    ensures { λ r. ⌜ Meets (now (s .entry)) (primary (wordsIn (now (reserved .entry)) (now (currencies .entry)) (now (counters .entry))) depth (toksAt (now (s .entry)) (c .start))) n (now (out .entry)) r (now (out .exit)) ⌝ }
+    ensures { λ r. ⌜ Meets (now (s .entry)) (signedAt (languageIn two (now (reserved .entry)) (now (currencies .entry)) (now (counters .entry))) depth (toksAt (now (s .entry)) (c .start))) n (now (out .entry)) r (now (out .exit)) ⌝ }
+{
+    if two {
+        return expression(
+            s,
+            two,
+            true,
+            reserved,
+            currencies,
+            counters,
+            c,
+            depth,
+            out,
+            n,
+        );
+    }
+    primary(s, two, reserved, currencies, counters, c, depth, out, n)
+}
+
+// A primary.
+fn primary(
+    s: &[u8],
+    two: bool,
+    reserved: &[u8],
+    currencies: &[u8],
+    counters: &[u8],
+    c: Cursor,
+    depth: u32,
+    out: &mut [u32],
+    n: u32,
+) -> Read
+    requires { ⌜ Ready (now s) c n × Few (now currencies) ⌝ }
+    ensures { λ r. ⌜ Meets (now (s .entry)) (primary (languageIn two (now (reserved .entry)) (now (currencies .entry)) (now (counters .entry))) depth (toksAt (now (s .entry)) (c .start))) n (now (out .entry)) r (now (out .exit)) ⌝ }
 {
     let d = next(s, c);
     let code = c.code;
     match code {
-        OPEN_PAREN => parenthesis(s, reserved, currencies, counters, c, d, depth, out, n),
+        OPEN_PAREN => parenthesis(s, two, reserved, currencies, counters, c, d, depth, out, n),
         PLUS => {
             if depth == 0 {
                 return Read::Refused(15, c.start);
             }
-            primary(s, reserved, currencies, counters, d, depth - 1, out, n)
+            signed(s, two, reserved, currencies, counters, d, depth - 1, out, n)
         }
-        MINUS => {
-            if d.code == NUMBER {
-                return constant_at(s, d, true, c.start, out, n);
-            }
-            if depth == 0 {
-                return Read::Refused(15, c.start);
-            }
-            let r = primary(s, reserved, currencies, counters, d, depth - 1, out, n);
-            let Read::Done(e, m, _) = r else {
-                return r;
-            };
-            put(out, m, plain(7, m - n + 1, 1, c.start));
-            Read::Done(e, m + 1, 0)
-        }
-        OPEN_BRACKET => list(s, reserved, currencies, counters, c, d, depth, out, n),
-        PAYS => pays(s, reserved, currencies, counters, c, d, depth, out, n),
-        NAME => name(s, reserved, currencies, counters, c, d, depth, out, n),
-        _ => atom_at(s, c, out, n),
+        MINUS => minus(s, two, reserved, currencies, counters, c, d, depth, out, n),
+        OPEN_BRACKET => list(s, two, reserved, currencies, counters, c, d, depth, out, n),
+        PAYS => pays(s, two, reserved, currencies, counters, c, d, depth, out, n),
+        NAME => name(s, two, reserved, currencies, counters, c, d, depth, out, n),
+        _ => atom_at(s, c, d, out, n),
     }
+}
+
+// What a minus, at c, makes of what stands at d behind it: a negated constant, or UnaryMinus of what it takes in.
+fn minus(
+    s: &[u8],
+    two: bool,
+    reserved: &[u8],
+    currencies: &[u8],
+    counters: &[u8],
+    c: Cursor,
+    d: Cursor,
+    depth: u32,
+    out: &mut [u32],
+    n: u32,
+) -> Read
+    requires { ⌜ Ready (now s) c n × Follows (now s) c d × (c .code ≡ 9) × Few (now currencies) ⌝ }
+    ensures { λ r. ⌜ Meets (now (s .entry)) (minusAt (languageIn two (now (reserved .entry)) (now (currencies .entry)) (now (counters .entry))) depth (tokenAt (now (s .entry)) c) (toksAt (now (s .entry)) (d .start))) n (now (out .entry)) r (now (out .exit)) ⌝ }
+{
+    let Took::Next(e) = lone_at(s, two, d) else {
+        if depth == 0 {
+            return Read::Refused(15, c.start);
+        }
+        let r = signed(s, two, reserved, currencies, counters, d, depth - 1, out, n);
+        return negative(r, c.start, out, n);
+    };
+    constant_at(s, d, e, true, c.start, out, n)
 }
 
 // An expression in parentheses; d stands behind the opening one, at c.
 fn parenthesis(
     s: &[u8],
+    two: bool,
     reserved: &[u8],
     currencies: &[u8],
     counters: &[u8],
@@ -276,12 +387,23 @@ fn parenthesis(
     n: u32,
 ) -> Read
     requires { ⌜ Ready (now s) c n × Follows (now s) c d × (c .code ≡ 40) × Few (now currencies) ⌝ }
-    ensures { λ r. ⌜ Meets (now (s .entry)) (parenthesised (wordsIn (now (reserved .entry)) (now (currencies .entry)) (now (counters .entry))) depth (tokenAt (now (s .entry)) c) (toksAt (now (s .entry)) (c .start))) n (now (out .entry)) r (now (out .exit)) ⌝ }
+    ensures { λ r. ⌜ Meets (now (s .entry)) (parenthesised (languageIn two (now (reserved .entry)) (now (currencies .entry)) (now (counters .entry))) depth (tokenAt (now (s .entry)) c) (toksAt (now (s .entry)) (c .start))) n (now (out .entry)) r (now (out .exit)) ⌝ }
 {
     if depth == 0 {
         return Read::Refused(15, c.start);
     }
-    let r = expression(s, reserved, currencies, counters, d, depth - 1, out, n);
+    let r = expression(
+        s,
+        two,
+        false,
+        reserved,
+        currencies,
+        counters,
+        d,
+        depth - 1,
+        out,
+        n,
+    );
     let Read::Done(e, m, p) = r else {
         return r;
     };
@@ -294,6 +416,7 @@ fn parenthesis(
 // A list with postfixes; d stands behind its `[`, at c.
 fn list(
     s: &[u8],
+    two: bool,
     reserved: &[u8],
     currencies: &[u8],
     counters: &[u8],
@@ -304,13 +427,14 @@ fn list(
     n: u32,
 ) -> Read
     requires { ⌜ Ready (now s) c n × Follows (now s) c d × (c .code ≡ 44) × Few (now currencies) ⌝ }
-    ensures { λ r. ⌜ Meets (now (s .entry)) (listPostfixed (wordsIn (now (reserved .entry)) (now (currencies .entry)) (now (counters .entry))) depth (tokenAt (now (s .entry)) c) (toksAt (now (s .entry)) (c .start))) n (now (out .entry)) r (now (out .exit)) ⌝ }
+    ensures { λ r. ⌜ Meets (now (s .entry)) (listPostfixed (languageIn two (now (reserved .entry)) (now (currencies .entry)) (now (counters .entry))) depth (tokenAt (now (s .entry)) c) (toksAt (now (s .entry)) (c .start))) n (now (out .entry)) r (now (out .exit)) ⌝ }
 {
     if depth == 0 {
         return Read::Refused(15, c.start);
     }
     let r = items(
         s,
+        two,
         reserved,
         currencies,
         counters,
@@ -327,6 +451,7 @@ fn list(
     put(out, m, plain(6, m - n + 1, count, c.start));
     postfixes(
         s,
+        two,
         reserved,
         currencies,
         counters,
@@ -342,6 +467,7 @@ fn list(
 // The parts of a pays, its date and its currency; d stands behind the word, at c.
 pub fn pays(
     s: &[u8],
+    two: bool,
     reserved: &[u8],
     currencies: &[u8],
     counters: &[u8],
@@ -352,7 +478,7 @@ pub fn pays(
     n: u32,
 ) -> Read
     requires { ⌜ Ready (now s) c n × Follows (now s) c d × (c .code ≡ 36) × Few (now currencies) ⌝ }
-    ensures { λ r. ⌜ Meets (now (s .entry)) (pays (wordsIn (now (reserved .entry)) (now (currencies .entry)) (now (counters .entry))) (inner (wordsIn (now (reserved .entry)) (now (currencies .entry)) (now (counters .entry))) depth) (toksAt (now (s .entry)) (c .start))) n (now (out .entry)) r (now (out .exit)) ⌝ }
+    ensures { λ r. ⌜ Meets (now (s .entry)) (paysAt (languageIn two (now (reserved .entry)) (now (currencies .entry)) (now (counters .entry))) depth (toksAt (now (s .entry)) (c .start))) n (now (out .entry)) r (now (out .exit)) ⌝ }
 {
     if depth == 0 {
         return Read::Refused(15, c.start);
@@ -364,7 +490,18 @@ pub fn pays(
         if stops_pays(at.code) {
             return payday_at(s, currencies, c.start, at, out, n, m, count);
         }
-        let r = expression(s, reserved, currencies, counters, at, depth - 1, out, m);
+        let r = expression(
+            s,
+            two,
+            false,
+            reserved,
+            currencies,
+            counters,
+            at,
+            depth - 1,
+            out,
+            m,
+        );
         let Read::Done(e, k, _) = r else {
             return r;
         };
@@ -377,6 +514,7 @@ pub fn pays(
 // A call or a variable with postfixes: the name stands at c, and d behind it.
 fn name(
     s: &[u8],
+    two: bool,
     reserved: &[u8],
     currencies: &[u8],
     counters: &[u8],
@@ -387,7 +525,7 @@ fn name(
     n: u32,
 ) -> Read
     requires { ⌜ Ready (now s) c n × Follows (now s) c d × (c .code ≡ 1) × Few (now currencies) ⌝ }
-    ensures { λ r. ⌜ Meets (now (s .entry)) (name (wordsIn (now (reserved .entry)) (now (currencies .entry)) (now (counters .entry))) (inner (wordsIn (now (reserved .entry)) (now (currencies .entry)) (now (counters .entry))) depth) (tokenAt (now (s .entry)) c) (toksAt (now (s .entry)) (d .start))) n (now (out .entry)) r (now (out .exit)) ⌝ }
+    ensures { λ r. ⌜ Meets (now (s .entry)) (nameAt (languageIn two (now (reserved .entry)) (now (currencies .entry)) (now (counters .entry))) depth (tokenAt (now (s .entry)) c) (toksAt (now (s .entry)) (d .start))) n (now (out .entry)) r (now (out .exit)) ⌝ }
 {
     let a = c.start as usize;
     let e = c.end as usize;
@@ -399,6 +537,7 @@ fn name(
         };
         return postfixes(
             s,
+            two,
             reserved,
             currencies,
             counters,
@@ -413,12 +552,25 @@ fn name(
     if 32 <= kind {
         return special(s, currencies, kind, c.start, d, out, n);
     }
-    call(s, reserved, currencies, counters, c, d, kind, depth, out, n)
+    call(
+        s,
+        two,
+        reserved,
+        currencies,
+        counters,
+        c,
+        d,
+        kind,
+        depth,
+        out,
+        n,
+    )
 }
 
 // An ordinary call, whose record has this kind: its name stands at c, and d behind it.
 fn call(
     s: &[u8],
+    two: bool,
     reserved: &[u8],
     currencies: &[u8],
     counters: &[u8],
@@ -430,9 +582,9 @@ fn call(
     n: u32,
 ) -> Read
     requires { ⌜ Ready (now s) d n × Holds (now s) c × (c .code ≡ 1) × Few (now currencies) × (kind ≡ callKind (tokenAt (now s) c .text)) × (1 ≤ kind) × (kind < 32) ⌝ }
-    ensures { λ r. ⌜ Meets (now (s .entry)) (call (wordsIn (now (reserved .entry)) (now (currencies .entry)) (now (counters .entry))) (inner (wordsIn (now (reserved .entry)) (now (currencies .entry)) (now (counters .entry))) depth) (tokenAt (now (s .entry)) c) (callOf (tokenAt (now (s .entry)) c .text) calls) (toksAt (now (s .entry)) (d .start))) n (now (out .entry)) r (now (out .exit)) ⌝ }
+    ensures { λ r. ⌜ Meets (now (s .entry)) (callAt (languageIn two (now (reserved .entry)) (now (currencies .entry)) (now (counters .entry))) depth (tokenAt (now (s .entry)) c) (callOf (tokenAt (now (s .entry)) c .text) calls) (toksAt (now (s .entry)) (d .start))) n (now (out .entry)) r (now (out .exit)) ⌝ }
 {
-    let r = arguments(s, reserved, currencies, counters, d, depth, out, n);
+    let r = arguments(s, two, reserved, currencies, counters, d, depth, out, n);
     let Items::Done(e, m, count, texts) = r else {
         return refusal(r);
     };
@@ -447,6 +599,7 @@ fn call(
 // An argument list and both its parentheses.
 fn arguments(
     s: &[u8],
+    two: bool,
     reserved: &[u8],
     currencies: &[u8],
     counters: &[u8],
@@ -456,7 +609,7 @@ fn arguments(
     n: u32,
 ) -> Items
     requires { ⌜ Ready (now s) c n × Few (now currencies) ⌝ }
-    ensures { λ r. ⌜ MeetsItems (now (s .entry)) (arguments (inner (wordsIn (now (reserved .entry)) (now (currencies .entry)) (now (counters .entry))) depth) (toksAt (now (s .entry)) (c .start))) n (now (out .entry)) r (now (out .exit)) ⌝ }
+    ensures { λ r. ⌜ MeetsItems (now (s .entry)) (argumentsAt (languageIn two (now (reserved .entry)) (now (currencies .entry)) (now (counters .entry))) depth (toksAt (now (s .entry)) (c .start))) n (now (out .entry)) r (now (out .exit)) ⌝ }
 {
     if c.code != OPEN_PAREN {
         return Items::Refused(8, c.start);
@@ -467,6 +620,7 @@ fn arguments(
     let d = next(s, c);
     let r = items(
         s,
+        two,
         reserved,
         currencies,
         counters,
@@ -485,6 +639,7 @@ fn arguments(
 // Expressions with commas between them, up to the closing sign, which is not taken; a comma may trail.
 fn items(
     s: &[u8],
+    two: bool,
     reserved: &[u8],
     currencies: &[u8],
     counters: &[u8],
@@ -495,7 +650,7 @@ fn items(
     n: u32,
 ) -> Items
     requires { ⌜ Ready (now s) c n × Few (now currencies) × Closing close ⌝ }
-    ensures { λ r. ⌜ MeetsItems (now (s .entry)) (itemsBy close (primary (wordsIn (now (reserved .entry)) (now (currencies .entry)) (now (counters .entry))) depth) (toksAt (now (s .entry)) (c .start))) n (now (out .entry)) r (now (out .exit)) × Closed close r ⌝ }
+    ensures { λ r. ⌜ MeetsItems (now (s .entry)) (itemsAt (languageIn two (now (reserved .entry)) (now (currencies .entry)) (now (counters .entry))) close depth (toksAt (now (s .entry)) (c .start))) n (now (out .entry)) r (now (out .exit)) × Closed close r ⌝ }
 {
     let mut at = c;
     let mut m = n;
@@ -509,7 +664,18 @@ fn items(
         if at.code == close {
             return Items::Done(at, m, count, texts);
         }
-        let r = expression(s, reserved, currencies, counters, at, depth, out, m);
+        let r = expression(
+            s,
+            two,
+            false,
+            reserved,
+            currencies,
+            counters,
+            at,
+            depth,
+            out,
+            m,
+        );
         let Read::Done(e, k, p) = r else {
             return refused(r);
         };
@@ -526,6 +692,7 @@ fn items(
 // Postfixes of what was read before, whose text begins at the place, and whose records are those from n to m.
 fn postfixes(
     s: &[u8],
+    two: bool,
     reserved: &[u8],
     currencies: &[u8],
     counters: &[u8],
@@ -537,7 +704,7 @@ fn postfixes(
     m: u32,
 ) -> Read
     requires { ⌜ Ready (now s) c m × Few (now currencies) × (n < m) ⌝ }
-    ensures { λ r. ⌜ ((x : Tree) (o : List ℕ) → Tops n o x m (now (out .entry)) → Meets (now (s .entry)) (postfixes (inner (wordsIn (now (reserved .entry)) (now (currencies .entry)) (now (counters .entry))) depth) place x (toksAt (now (s .entry)) (c .start))) n o r (now (out .exit))) ⌝ }
+    ensures { λ r. ⌜ ((x : Tree) (o : List ℕ) → Tops n o x m (now (out .entry)) → Meets (now (s .entry)) (postfixesAt (languageIn two (now (reserved .entry)) (now (currencies .entry)) (now (counters .entry))) depth place x (toksAt (now (s .entry)) (c .start))) n o r (now (out .exit))) ⌝ }
 {
     let mut at = c;
     let mut k = m;
@@ -548,6 +715,7 @@ fn postfixes(
         }
         let r = postfix(
             s,
+            two,
             reserved,
             currencies,
             counters,
@@ -569,6 +737,7 @@ fn postfixes(
 // One postfix, whose sign stands at c.
 fn postfix(
     s: &[u8],
+    two: bool,
     reserved: &[u8],
     currencies: &[u8],
     counters: &[u8],
@@ -580,12 +749,13 @@ fn postfix(
     m: u32,
 ) -> Read
     requires { ⌜ Ready (now s) c m × Few (now currencies) × (n < m) × (postfixSign (c .code) ≡ true) ⌝ }
-    ensures { λ r. ⌜ MeetsTurns (now (s .entry)) (λ x. postfixTurn (inner (wordsIn (now (reserved .entry)) (now (currencies .entry)) (now (counters .entry))) depth) place x (toksAt (now (s .entry)) (c .start))) n m (now (out .entry)) c r (now (out .exit)) ⌝ }
+    ensures { λ r. ⌜ MeetsTurns (now (s .entry)) (λ x. postfixTurnAt (languageIn two (now (reserved .entry)) (now (currencies .entry)) (now (counters .entry))) depth place x (toksAt (now (s .entry)) (c .start))) n m (now (out .entry)) c r (now (out .exit)) ⌝ }
 {
     let d = next(s, c);
     if c.code == DOT {
         return method(
             s,
+            two,
             reserved,
             currencies,
             counters,
@@ -602,6 +772,7 @@ fn postfix(
     }
     index(
         s,
+        two,
         reserved,
         currencies,
         counters,
@@ -617,6 +788,7 @@ fn postfix(
 // A method, behind its `.`.
 fn method(
     s: &[u8],
+    two: bool,
     reserved: &[u8],
     currencies: &[u8],
     counters: &[u8],
@@ -628,12 +800,12 @@ fn method(
     m: u32,
 ) -> Read
     requires { ⌜ Ready (now s) c m × Few (now currencies) × (n < m) ⌝ }
-    ensures { λ r. ⌜ MeetsTurns (now (s .entry)) (λ x. methodOf (inner (wordsIn (now (reserved .entry)) (now (currencies .entry)) (now (counters .entry))) depth) place x (toksAt (now (s .entry)) (c .start))) n m (now (out .entry)) c r (now (out .exit)) ⌝ }
+    ensures { λ r. ⌜ MeetsTurns (now (s .entry)) (λ x. methodAt (languageIn two (now (reserved .entry)) (now (currencies .entry)) (now (counters .entry))) depth place x (toksAt (now (s .entry)) (c .start))) n m (now (out .entry)) c r (now (out .exit)) ⌝ }
 {
     let Took::Next(d) = take(s, c, NAME) else {
         return Read::Refused(8, c.start);
     };
-    let r = arguments(s, reserved, currencies, counters, d, depth, out, m);
+    let r = arguments(s, two, reserved, currencies, counters, d, depth, out, m);
     let Items::Done(e, k, count, _) = r else {
         return refusal(r);
     };
@@ -650,6 +822,7 @@ fn method(
 // An index, behind its `[`.
 fn index(
     s: &[u8],
+    two: bool,
     reserved: &[u8],
     currencies: &[u8],
     counters: &[u8],
@@ -661,9 +834,20 @@ fn index(
     m: u32,
 ) -> Read
     requires { ⌜ Ready (now s) c m × Few (now currencies) × (n < m) ⌝ }
-    ensures { λ r. ⌜ MeetsTurns (now (s .entry)) (λ x. indexOf (primary (wordsIn (now (reserved .entry)) (now (currencies .entry)) (now (counters .entry))) depth) place x (toksAt (now (s .entry)) (c .start))) n m (now (out .entry)) c r (now (out .exit)) ⌝ }
+    ensures { λ r. ⌜ MeetsTurns (now (s .entry)) (λ x. indexAt (languageIn two (now (reserved .entry)) (now (currencies .entry)) (now (counters .entry))) depth place x (toksAt (now (s .entry)) (c .start))) n m (now (out .entry)) c r (now (out .exit)) ⌝ }
 {
-    let r = expression(s, reserved, currencies, counters, c, depth, out, m);
+    let r = expression(
+        s,
+        two,
+        false,
+        reserved,
+        currencies,
+        counters,
+        c,
+        depth,
+        out,
+        m,
+    );
     let Read::Done(d, k, _) = r else {
         return r;
     };

@@ -12,7 +12,7 @@ ghost use Prim.Native.Nat.{_≤_};
 ghost use lib.ListN.{length};
 ghost use Rattle.tokens.specs.Names.{goodLists};
 ghost use Rattle.grammar.specs.Script.{noZero};
-ghost use Rattle.reading.specs.Meets.{Few};
+ghost use Rattle.reading.specs.Meets.{editionBy, Few};
 ghost use Rattle.reading.specs.Judging.{listsIn, judgement, textJudgement};
 
 // What a reading holds: bytes, statements, records, tokens, and where its last token ends.
@@ -30,9 +30,15 @@ pub enum Judged {
     Refused(u32, usize),
 }
 
-// Judges a script: 1 to 15 in their order.
-pub fn judge(script: &[u8], reserved: &[u8], currencies: &[u8], counters: &[u8]) -> Judged
-    ensures { λ r. ⌜ r ≡ judgement (listsIn (now (reserved .entry)) (now (currencies .entry)) (now (counters .entry))) (now (script .entry)) ⌝ }
+// Judges a script of the first or the second edition: 1 to 15 in their order.
+pub fn judge(
+    script: &[u8],
+    two: bool,
+    reserved: &[u8],
+    currencies: &[u8],
+    counters: &[u8],
+) -> Judged
+    ensures { λ r. ⌜ r ≡ judgement (editionBy two) (listsIn (now (reserved .entry)) (now (currencies .entry)) (now (counters .entry))) (now (script .entry)) ⌝ }
 {
     match script_end(script) {
         ScriptEnd::Refused(k, b) => Judged::Refused(k, b),
@@ -40,7 +46,7 @@ pub fn judge(script: &[u8], reserved: &[u8], currencies: &[u8], counters: &[u8])
             if !are_well_formed(reserved, currencies, counters) {
                 return Judged::Refused(2, 0);
             }
-            judge_text(&script[..n], reserved, currencies, counters)
+            judge_text(&script[..n], two, reserved, currencies, counters)
         }
     }
 }
@@ -63,9 +69,9 @@ fn are_well_formed(reserved: &[u8], currencies: &[u8], counters: &[u8]) -> bool
 }
 
 // Judges the text of a script, with lists that are well formed. The reader is lent too little for a record or an entry.
-fn judge_text(s: &[u8], reserved: &[u8], currencies: &[u8], counters: &[u8]) -> Judged
+fn judge_text(s: &[u8], two: bool, reserved: &[u8], currencies: &[u8], counters: &[u8]) -> Judged
     requires { ⌜ (length (now s) ≤ 16384) × Few (now currencies) ⌝ }
-    ensures { λ r. ⌜ r ≡ textJudgement (listsIn (now (reserved .entry)) (now (currencies .entry)) (now (counters .entry))) (now (s .entry)) ⌝ }
+    ensures { λ r. ⌜ r ≡ textJudgement (editionBy two) (listsIn (now (reserved .entry)) (now (currencies .entry)) (now (counters .entry))) (now (s .entry)) ⌝ }
 {
     match scan(s) {
         Scanned::Refused(k, b) => Judged::Refused(k, b),
@@ -74,6 +80,7 @@ fn judge_text(s: &[u8], reserved: &[u8], currencies: &[u8], counters: &[u8]) -> 
             let mut directory: [u32; 1] = [0; 1];
             match all(
                 s,
+                two,
                 reserved,
                 currencies,
                 counters,

@@ -9,6 +9,7 @@ mod expressions;
 pub mod judging;
 mod latest;
 pub mod parts;
+mod powers;
 pub mod reading;
 mod records;
 pub mod rooms;

@@ -11,7 +11,7 @@ use tokens::cursor::Cursor;
 ghost use mathlib.Core.Path.{_≡_};
 ghost use Prim.Native.Nat.{_≤_};
 ghost use Rattle.grammar.specs.Script.{statements};
-ghost use Rattle.reading.specs.Meets.{wordsIn, toksAt, Few};
+ghost use Rattle.reading.specs.Meets.{languageIn, toksAt, Few};
 ghost use Rattle.reading.specs.Scripts.{Clean, rebase, refusedAt, MeetsAll};
 
 // The same token, with places from its own first byte, where a statement begins.
@@ -33,6 +33,7 @@ fn rebased(c: Cursor) -> Cursor
 // its own part of the script, so that its places are bytes from its first.
 pub fn all(
     s: &[u8],
+    two: bool,
     reserved: &[u8],
     currencies: &[u8],
     counters: &[u8],
@@ -40,7 +41,7 @@ pub fn all(
     directory: &mut [u32],
 ) -> All
     requires { ⌜ Clean (now s) × Few (now currencies) ⌝ }
-    ensures { λ r. ⌜ MeetsAll (statements (wordsIn (now (reserved .entry)) (now (currencies .entry)) (now (counters .entry))) (toksAt (now (s .entry)) 0)) (now (records .entry)) (now (directory .entry)) r (now (records .exit)) (now (directory .exit)) ⌝ }
+    ensures { λ r. ⌜ MeetsAll (statements (languageIn two (now (reserved .entry)) (now (currencies .entry)) (now (counters .entry))) (toksAt (now (s .entry)) 0)) (now (records .entry)) (now (directory .entry)) r (now (records .exit)) (now (directory .exit)) ⌝ }
 {
     let mut base: usize = 0;
     let mut at = Cursor::start(s);
@@ -55,6 +56,7 @@ pub fn all(
         let c = rebased(at);
         let r = statement(
             &s[base..],
+            two,
             reserved,
             currencies,
             counters,

@@ -11,33 +11,60 @@ use tokens::codes::OR;
 use tokens::codes::PLUS;
 use tokens::codes::POWER;
 ghost use mathlib.Core.Path.{_≡_};
-ghost use Rattle.reading.specs.Signs.{jointSign, comparator, sumSign, productSign, powerSign, postfixSign};
+ghost use Rattle.reading.specs.Signs.{tighterSign, looserSign, comparator, sumSign, productSign, powerSign, takenIn, postfixSign};
 
-// `and` and `or`.
-pub fn is_joint(code: u8) -> bool
-    ensures { λ r. ⌜ r ≡ jointSign code ⌝ }
+// Where a power is read alone, no sign of a level above it goes on.
+
+// `and`, where it binds tighter than `or`.
+pub fn is_tighter(two: bool, alone: bool, code: u8) -> bool
+    ensures { λ r. ⌜ r ≡ tighterSign two alone code ⌝ }
 {
+    if alone {
+        return false;
+    }
+    two && code == AND
+}
+
+// `or`, and `and` where it is of one level with it.
+pub fn is_looser(two: bool, alone: bool, code: u8) -> bool
+    ensures { λ r. ⌜ r ≡ looserSign two alone code ⌝ }
+{
+    if alone {
+        return false;
+    }
+    if two {
+        return code == OR;
+    }
     code == AND || code == OR
 }
 
 // A comparator.
-pub fn is_comparator(code: u8) -> bool
-    ensures { λ r. ⌜ r ≡ comparator code ⌝ }
+pub fn is_comparator(alone: bool, code: u8) -> bool
+    ensures { λ r. ⌜ r ≡ comparator alone code ⌝ }
 {
+    if alone {
+        return false;
+    }
     EQUAL <= code && code <= INFERIOR_OR_EQUAL
 }
 
 // `+` and `-`.
-pub fn is_sum(code: u8) -> bool
-    ensures { λ r. ⌜ r ≡ sumSign code ⌝ }
+pub fn is_sum(alone: bool, code: u8) -> bool
+    ensures { λ r. ⌜ r ≡ sumSign alone code ⌝ }
 {
+    if alone {
+        return false;
+    }
     code == PLUS || code == MINUS
 }
 
 // `*` and `/`.
-pub fn is_product(code: u8) -> bool
-    ensures { λ r. ⌜ r ≡ productSign code ⌝ }
+pub fn is_product(alone: bool, code: u8) -> bool
+    ensures { λ r. ⌜ r ≡ productSign alone code ⌝ }
 {
+    if alone {
+        return false;
+    }
     code == MULTIPLY || code == DIVIDE
 }
 
@@ -46,6 +73,13 @@ pub fn is_power(code: u8) -> bool
     ensures { λ r. ⌜ r ≡ powerSign code ⌝ }
 {
     code == POWER
+}
+
+// `**`, where a sign takes it in.
+pub fn is_taken_in(two: bool, code: u8) -> bool
+    ensures { λ r. ⌜ r ≡ takenIn two code ⌝ }
+{
+    two && code == POWER
 }
 
 // What a postfix begins with.

@@ -1,4 +1,5 @@
-// Statements and the blocks that hold them, with the depth that is left as the falling number.
+// Statements and the blocks that hold them, with the depth that is left as the falling number. `two` says whether the script is
+// of the second edition.
 use crate::answers::Block;
 use crate::answers::Number;
 use crate::answers::Read;
@@ -26,12 +27,13 @@ use tokens::codes::PAYS;
 use tokens::cursor::Cursor;
 ghost use mathlib.Core.Path.{_≡_};
 ghost use Rattle.grammar.specs.Grammar.{block, statement};
-ghost use Rattle.reading.specs.Meets.{wordsIn, toksAt, tokenAt, Ready, Few, Follows, Meets};
+ghost use Rattle.reading.specs.Meets.{languageIn, toksAt, tokenAt, Ready, Few, Meets};
 ghost use Rattle.reading.specs.Bodies.{conditionalIn, repetitionIn, MeetsBlock};
 
 // A statement.
 pub fn statement(
     s: &[u8],
+    two: bool,
     reserved: &[u8],
     currencies: &[u8],
     counters: &[u8],
@@ -41,42 +43,53 @@ pub fn statement(
     n: u32,
 ) -> Read
     requires { ⌜ Ready (now s) c n × Few (now currencies) ⌝ }
-    ensures { λ r. ⌜ Meets (now (s .entry)) (statement (wordsIn (now (reserved .entry)) (now (currencies .entry)) (now (counters .entry))) depth (toksAt (now (s .entry)) (c .start))) n (now (out .entry)) r (now (out .exit)) ⌝ }
+    ensures { λ r. ⌜ Meets (now (s .entry)) (statement (languageIn two (now (reserved .entry)) (now (currencies .entry)) (now (counters .entry))) depth (toksAt (now (s .entry)) (c .start))) n (now (out .entry)) r (now (out .exit)) ⌝ }
 {
-    let d = next(s, c);
     let code = c.code;
     match code {
-        NAME => begun(s, reserved, currencies, counters, c, d, depth, out, n),
-        IF => conditional(s, reserved, currencies, counters, c, d, depth, out, n),
-        FOR => repetition(s, reserved, currencies, counters, c, d, depth, out, n),
-        PAYS => paid(s, reserved, currencies, counters, c, d, depth, out, n),
-        _ => ended(s, reserved, currencies, counters, c, depth, out, n),
+        NAME => begun(s, two, reserved, currencies, counters, c, depth, out, n),
+        IF => conditional(s, two, reserved, currencies, counters, c, depth, out, n),
+        FOR => repetition(s, two, reserved, currencies, counters, c, depth, out, n),
+        PAYS => paid(s, two, reserved, currencies, counters, c, depth, out, n),
+        _ => ended(s, two, reserved, currencies, counters, c, depth, out, n),
     }
 }
 
-// `if e { .. }` with optional `else { .. }`; d stands behind the word, at c.
+// `if e { .. }` with optional `else { .. }`, whose word stands at c.
 fn conditional(
     s: &[u8],
+    two: bool,
     reserved: &[u8],
     currencies: &[u8],
     counters: &[u8],
     c: Cursor,
-    d: Cursor,
     depth: u32,
     out: &mut [u32],
     n: u32,
 ) -> Read
-    requires { ⌜ Ready (now s) c n × Follows (now s) c d × (c .code ≡ 38) × Few (now currencies) ⌝ }
-    ensures { λ r. ⌜ Meets (now (s .entry)) (conditionalIn (wordsIn (now (reserved .entry)) (now (currencies .entry)) (now (counters .entry))) depth (tokenAt (now (s .entry)) c) (toksAt (now (s .entry)) (c .start))) n (now (out .entry)) r (now (out .exit)) ⌝ }
+    requires { ⌜ Ready (now s) c n × (c .code ≡ 38) × Few (now currencies) ⌝ }
+    ensures { λ r. ⌜ Meets (now (s .entry)) (conditionalIn (languageIn two (now (reserved .entry)) (now (currencies .entry)) (now (counters .entry))) depth (tokenAt (now (s .entry)) c) (toksAt (now (s .entry)) (c .start))) n (now (out .entry)) r (now (out .exit)) ⌝ }
 {
+    let d = next(s, c);
     if depth == 0 {
         return Read::Refused(15, c.start);
     }
-    let r = expression(s, reserved, currencies, counters, d, depth - 1, out, n);
+    let r = expression(
+        s,
+        two,
+        false,
+        reserved,
+        currencies,
+        counters,
+        d,
+        depth - 1,
+        out,
+        n,
+    );
     let Read::Done(e, m, _) = r else {
         return r;
     };
-    let q = block(s, reserved, currencies, counters, e, depth - 1, out, m);
+    let q = block(s, two, reserved, currencies, counters, e, depth - 1, out, m);
     let Block::Done(f, k, count) = q else {
         return block_refusal(q);
     };
@@ -86,6 +99,7 @@ fn conditional(
     }
     let p = block(
         s,
+        two,
         reserved,
         currencies,
         counters,
@@ -105,21 +119,22 @@ fn conditional(
     Read::Done(g, j + 1, 0)
 }
 
-// `for v in e { .. }`; d stands behind the word, at c.
+// `for v in e { .. }`, whose word stands at c.
 fn repetition(
     s: &[u8],
+    two: bool,
     reserved: &[u8],
     currencies: &[u8],
     counters: &[u8],
     c: Cursor,
-    d: Cursor,
     depth: u32,
     out: &mut [u32],
     n: u32,
 ) -> Read
-    requires { ⌜ Ready (now s) c n × Follows (now s) c d × (c .code ≡ 39) × Few (now currencies) ⌝ }
-    ensures { λ r. ⌜ Meets (now (s .entry)) (repetitionIn (wordsIn (now (reserved .entry)) (now (currencies .entry)) (now (counters .entry))) depth (tokenAt (now (s .entry)) c) (toksAt (now (s .entry)) (c .start))) n (now (out .entry)) r (now (out .exit)) ⌝ }
+    requires { ⌜ Ready (now s) c n × (c .code ≡ 39) × Few (now currencies) ⌝ }
+    ensures { λ r. ⌜ Meets (now (s .entry)) (repetitionIn (languageIn two (now (reserved .entry)) (now (currencies .entry)) (now (counters .entry))) depth (tokenAt (now (s .entry)) c) (toksAt (now (s .entry)) (c .start))) n (now (out .entry)) r (now (out .exit)) ⌝ }
 {
+    let d = next(s, c);
     if depth == 0 {
         return Read::Refused(15, c.start);
     }
@@ -127,11 +142,22 @@ fn repetition(
     let Number::Is(e, _) = v else {
         return number_refusal(v);
     };
-    let r = expression(s, reserved, currencies, counters, e, depth - 1, out, n);
+    let r = expression(
+        s,
+        two,
+        false,
+        reserved,
+        currencies,
+        counters,
+        e,
+        depth - 1,
+        out,
+        n,
+    );
     let Read::Done(f, m, _) = r else {
         return r;
     };
-    let q = block(s, reserved, currencies, counters, f, depth - 1, out, m);
+    let q = block(s, two, reserved, currencies, counters, f, depth - 1, out, m);
     let Block::Done(g, k, count) = q else {
         return block_refusal(q);
     };
@@ -142,6 +168,7 @@ fn repetition(
 // `{ .. }`: statements up to the closing sign.
 fn block(
     s: &[u8],
+    two: bool,
     reserved: &[u8],
     currencies: &[u8],
     counters: &[u8],
@@ -151,7 +178,7 @@ fn block(
     n: u32,
 ) -> Block
     requires { ⌜ Ready (now s) c n × Few (now currencies) ⌝ }
-    ensures { λ r. ⌜ MeetsBlock (now (s .entry)) (block (statement (wordsIn (now (reserved .entry)) (now (currencies .entry)) (now (counters .entry))) depth) (toksAt (now (s .entry)) (c .start))) n (now (out .entry)) r (now (out .exit)) ⌝ }
+    ensures { λ r. ⌜ MeetsBlock (now (s .entry)) (block (statement (languageIn two (now (reserved .entry)) (now (currencies .entry)) (now (counters .entry))) depth) (toksAt (now (s .entry)) (c .start))) n (now (out .entry)) r (now (out .exit)) ⌝ }
 {
     let Took::Next(d) = take(s, c, OPEN_CURLY) else {
         return Block::Refused(8, c.start);
@@ -163,7 +190,7 @@ fn block(
         if at.code == CLOSE_CURLY {
             return Block::Done(next(s, at), m, count);
         }
-        let r = statement(s, reserved, currencies, counters, at, depth, out, m);
+        let r = statement(s, two, reserved, currencies, counters, at, depth, out, m);
         let Read::Done(e, k, _) = r else {
             return block_refused(r);
         };

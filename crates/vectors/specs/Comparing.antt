@@ -1,7 +1,7 @@
 -- What the lines of a case lend, and when a call gave and left what is stored.
 use mathlib.Core.Bool.{Bool, true, false, _&&_, Bool·beq}
 use mathlib.Core.List.{List, [], _∷_}
-use Prim.Native.Nat.{ℕ, suc}
+use Prim.Native.Nat.{ℕ, suc, _%_, _^_}
 use lib.Dec.{eqb, leb}
 use lib.ListN.{length, getD, take, drop}
 use Rattle.tokens.specs.Text.{same, within}
@@ -15,11 +15,15 @@ use Rattle.amending.specs.declared.held.Held.{Held}
 abbrev pub leftKind : ℕ → Bool
 leftKind k = within 4 7 k
 
--- the counts and the latest date that are lent to the next call stand at 6 to 10 of what is known of a case
-abbrev pub heldIn : List ℕ → Held
-heldIn l = record { bytes = getD l 6 0; statements = getD l 7 0; records = getD l 8 0; tokens = getD l 9 0; latest = getD l 10 0 }
+-- a number as a word
+abbrev pub word : ℕ → ℕ
+word n = n % 2 ^ 32
 
--- ---- answers: the nine stored numbers are l
+-- the counts, the latest date and the edition that are lent to the next call stand at 6 to 11 of what is known of a case
+abbrev pub heldIn : List ℕ → Held
+heldIn l = record { bytes = getD l 6 0; statements = getD l 7 0; records = getD l 8 0; tokens = getD l 9 0; latest = getD l 10 0; edition = word (getD l 11 0) }
+
+-- ---- answers: the ten stored numbers are l
 
 -- number, byte, line, column
 unfoldable pub groundStored : List ℕ → Answer → Bool
@@ -32,8 +36,12 @@ countsStored l a =
     eqb (a .bytes) (getD l 4 0)
     && (eqb (a .statements) (getD l 5 0) && (eqb (a .records) (getD l 6 0) && (eqb (a .tokens) (getD l 7 0) && eqb (a .latest) (getD l 8 0))))
 
+-- edition
+abbrev pub editionStored : List ℕ → Answer → Bool
+editionStored l a = eqb (a .edition) (getD l 9 0)
+
 abbrev pub answerStored : List ℕ → Answer → Bool
-answerStored l a = groundStored l a && countsStored l a
+answerStored l a = groundStored l a && (countsStored l a && editionStored l a)
 
 -- ---- memory
 

@@ -15,11 +15,13 @@ use crate::state::ASKED;
 use crate::state::CURRENCIES_SIZE;
 use crate::state::DAYS_SIZE;
 use crate::state::DIRECTORY_SIZE;
+use crate::state::NAMED;
 use crate::state::RECORDS_SIZE;
 use crate::state::RESERVED_SIZE;
 use crate::state::SCRIPT_SIZE;
 use crate::state::State;
 use crate::state::held;
+use crate::state::low_word;
 use crate::state::note_call;
 use amending::amending::amend;
 use amending::held::Held;
@@ -38,6 +40,7 @@ fn lent(size: usize) -> usize
 // Runs a read that is lent so many words of records and directory.
 fn read_words(
     script: &[u8],
+    edition: u32,
     reserved: &[u8],
     currencies: &[u8],
     days: &[u8],
@@ -50,6 +53,7 @@ fn read_words(
 {
     read(
         script,
+        edition,
         reserved,
         currencies,
         days,
@@ -71,6 +75,7 @@ fn run_read(
     state[ASKED] = 0;
     read_words(
         front(script, state[SCRIPT_SIZE]),
+        low_word(state[NAMED]),
         front(reserved, state[RESERVED_SIZE]),
         front(currencies, state[CURRENCIES_SIZE]),
         front(days, state[DAYS_SIZE]),

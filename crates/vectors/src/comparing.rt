@@ -24,7 +24,7 @@ ghost use mathlib.Core.Path.{_≡_};
 ghost use Prim.Native.Nat.{_≤_};
 ghost use lib.ListN.{length, take};
 ghost use Rattle.tokens.specs.Text.{same};
-ghost use Rattle.vectors.specs.Comparing.{groundStored, countsStored, answerStored, common, leftKind};
+ghost use Rattle.vectors.specs.Comparing.{groundStored, countsStored, editionStored, answerStored, common, leftKind};
 
 // What a line comes to where the call gave or left something else, beside the sizes above the room.
 pub const DIFFERS: usize = 32770;
@@ -48,11 +48,17 @@ fn has_counts(answer: &Numbers, a: Answer) -> bool
         && (a.records == answer[6] && (a.tokens == answer[7] && a.latest == answer[8]))
 }
 
-// Whether an answer is the stored one, in all its nine numbers.
+fn has_edition(answer: &Numbers, a: Answer) -> bool
+    ensures { λ r. ⌜ r ≡ editionStored (now (answer .entry)) a ⌝ }
+{
+    a.edition as usize == answer[9]
+}
+
+// Whether an answer is the stored one, in all its ten numbers.
 pub fn agrees(answer: &Numbers, a: Answer) -> bool
     ensures { λ r. ⌜ r ≡ answerStored (now (answer .entry)) a ⌝ }
 {
-    has_ground(answer, a) && has_counts(answer, a)
+    has_ground(answer, a) && (has_counts(answer, a) && has_edition(answer, a))
 }
 
 // The first of the first `n` places where two slices differ, or else `n`.

@@ -12,7 +12,7 @@ pub const LARGEST: usize = 4294967295;
 const TAKES_MORE: usize = 429496729;
 
 // The most numbers that follow each other in a line: those of an answer.
-pub const NUMBERS: usize = 9;
+pub const NUMBERS: usize = 10;
 
 pub type Numbers = [usize; NUMBERS];
 

@@ -19,17 +19,19 @@ pub const SAME: usize = 7;
 
 pub const COUNTS: usize = 8;
 
-pub const READ: usize = 9;
+pub const EDITION: usize = 9;
 
-pub const AMEND: usize = 10;
+pub const READ: usize = 10;
 
-pub const PART: usize = 11;
+pub const AMEND: usize = 11;
 
-pub const END: usize = 12;
+pub const PART: usize = 12;
 
-pub const UNKNOWN: usize = 13;
+pub const END: usize = 13;
 
-// The kinds that say what memory holds.
+pub const UNKNOWN: usize = 14;
+
+// The kinds that say what memory holds, and the edition.
 fn memory_kind(word: &[u8]) -> usize {
     if equal(word, b"lists") {
         return LISTS;
@@ -48,6 +50,9 @@ fn memory_kind(word: &[u8]) -> usize {
     }
     if equal(word, b"counts") {
         return COUNTS;
+    }
+    if equal(word, b"edition") {
+        return EDITION;
     }
     UNKNOWN
 }

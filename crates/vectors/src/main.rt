@@ -18,6 +18,7 @@ use crate::replay::replay;
 use crate::report::say;
 use crate::report::say_tally;
 use crate::report::say_wrong;
+use crate::tally::TALLIES;
 use crate::tally::Tallies;
 use tokens::text::equal;
 
@@ -68,10 +69,10 @@ fn replay_arguments(first: usize, tally: &mut Tallies) -> usize {
 }
 
 fn main() {
-    let mut tally = [0usize; 64];
+    let mut tally = [0usize; TALLIES];
     let behind = replay_arguments(1, &mut tally);
     say_tally(&tally);
-    let mut wrong = [0usize; 64];
+    let mut wrong = [0usize; TALLIES];
     replay_arguments(behind, &mut wrong);
     say_wrong(&wrong);
 }

@@ -9,12 +9,14 @@ use crate::fields::NUMBERS;
 use crate::fields::Numbers;
 use crate::fields::after;
 use crate::fields::behind;
+use crate::fields::number;
 use crate::fields::numbers;
 use crate::fields::seek;
 use crate::kinds::AMEND;
 use crate::kinds::CASE;
 use crate::kinds::COUNTS;
 use crate::kinds::DIRECTORY;
+use crate::kinds::EDITION;
 use crate::kinds::LISTS;
 use crate::kinds::NOTHING;
 use crate::kinds::PART;
@@ -36,10 +38,12 @@ use crate::state::CASE_AT;
 use crate::state::CURRENCIES_SIZE;
 use crate::state::DAYS_SIZE;
 use crate::state::DIRECTORY_SIZE;
+use crate::state::NAMED;
 use crate::state::RAN;
 use crate::state::RECORDS_SIZE;
 use crate::state::RESERVED_SIZE;
 use crate::state::SCRIPT_SIZE;
+use crate::state::STATE;
 use crate::state::State;
 use crate::state::begin;
 use crate::state::keep_counts;
@@ -90,11 +94,19 @@ fn take_counts(s: &[u8], at: usize, end: usize, state: &mut State) -> usize
     requires { ⌜ (at ≤ end) × (end ≤ length (now s)) ⌝ }
 {
     let mut n = [0usize; NUMBERS];
-    if numbers(s, at, end, &mut n) != 5 {
+    if numbers(s, at, end, &mut n) != 6 {
         return MALFORMED;
     }
-    keep_counts(state, n[0], n[1], n[2], n[3], n[4]);
+    keep_counts(state, n[0], n[1], n[2], n[3], n[4], n[5]);
     0
+}
+
+fn take_edition(s: &[u8], at: usize, end: usize, state: &mut State) -> usize
+    requires { ⌜ (at ≤ end) × (end ≤ length (now s)) ⌝ }
+{
+    let n = number(s, at, end, false);
+    state[NAMED] = n;
+    if n == MALFORMED { n } else { 0 }
 }
 
 fn compared(answer: &Numbers, given: Answer, tally: &mut Tallies) -> usize {
@@ -119,7 +131,7 @@ fn answer_at(kind: usize, s: &[u8], at: usize, end: usize) -> usize
     after(s, after(s, at, end), end)
 }
 
-// Compares what a call gave, whose counts and latest date are those of the calls that follow, with the stored answer.
+// Compares what a call gave, whose counts, latest date and edition are those of the calls that follow, with the stored answer.
 fn take_answer(
     s: &[u8],
     at: usize,
@@ -137,6 +149,7 @@ fn take_answer(
         given.records,
         given.tokens,
         given.latest,
+        given.edition as usize,
     );
     if ROOM < state[ASKED] {
         return state[ASKED];
@@ -151,7 +164,7 @@ fn take_answer(
     compared(&answer, given, tally)
 }
 
-// Takes a line that begins a case or says what memory holds.
+// Takes a line that begins a case, or says what memory holds or which edition is named.
 fn take_memory(
     kind: usize,
     s: &[u8],
@@ -185,6 +198,7 @@ fn take_memory(
             n
         }
         COUNTS => take_counts(s, at, end, state),
+        EDITION => take_edition(s, at, end, state),
         UNKNOWN => MALFORMED,
         _ => 0,
     }
@@ -274,7 +288,7 @@ pub fn replay(path: &[u8], s: &[u8], tally: &mut Tallies) {
     let mut reserved = [0u8; 32768];
     let mut currencies = [0u8; 32768];
     let mut days = [0u8; 32768];
-    let mut state = [0usize; 15];
+    let mut state = [0usize; STATE];
     let mut at: usize = 0;
     while at < s.len() {
         let end = seek(s, at, s.len(), b'\n');

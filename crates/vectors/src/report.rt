@@ -52,6 +52,8 @@ pub fn say_answer(a: Answer) {
     say_number(a.tokens);
     say(b" latest ");
     say_number(a.latest);
+    say(b" edition ");
+    say_number(a.edition as usize);
     say(b" for ");
 }
 

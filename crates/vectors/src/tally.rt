@@ -1,24 +1,26 @@
-// What was counted, in one array: places 0 to 20 hold the reads and amends with each answer, those from 21 on those of them
+// What was counted, in one array: places 0 to 26 hold the reads and amends with each answer, those from 27 on those of them
 // that differ, then the lines of each kind, and last the lines of memory that were compared, all differences and the lines that
 // were not taken.
 use crate::comparing::DIFFERS;
 use crate::kinds::UNKNOWN;
 
-pub type Tallies = [usize; 64];
+pub const TALLIES: usize = 72;
 
-pub const GROUNDS: usize = 21;
+pub type Tallies = [usize; TALLIES];
 
-pub const LINES: usize = 42;
+pub const GROUNDS: usize = 27;
 
-pub const COMPARED: usize = 61;
+pub const LINES: usize = 54;
 
-pub const DIFFERENCES: usize = 62;
+pub const COMPARED: usize = 69;
 
-pub const REFUSED: usize = 63;
+pub const DIFFERENCES: usize = 70;
+
+pub const REFUSED: usize = 71;
 
 // One more at a place, up to a number that no run reaches.
 pub fn count(tally: &mut Tallies, at: usize) {
-    if at < 64 {
+    if at < TALLIES {
         let n = tally[at];
         if n < 4294967295 {
             tally[at] = n + 1;

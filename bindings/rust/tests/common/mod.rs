@@ -4,14 +4,19 @@
 pub mod calendar;
 pub mod desk;
 
-use gorembiin::{Date, Fields, Ground, Lists, Note, Record, Refusal, Statement, Which};
+use gorembiin::{Date, Edition, Fields, Ground, Lists, Note, Record, Refusal, Statement, Which};
 
 /// Lists with names in all three.
 pub const LISTS: Lists =
     Lists { reserved: b"ln\nSpot\n", currencies: b"USD\nEUR\nCHF\n", day_counters: b"Actual360\nThirty360\n" };
 
+/// A script in the first edition.
 pub fn note(script: &str) -> Note<'static> {
-    Note::read(script.as_bytes(), LISTS).unwrap()
+    note_in(Edition::One, script)
+}
+
+pub fn note_in(edition: Edition, script: &str) -> Note<'static> {
+    Note::read(script.as_bytes(), edition, LISTS).unwrap()
 }
 
 pub fn refusal(ground: Ground, byte: u32, line: u32, column: u32) -> Refusal {
@@ -52,9 +57,13 @@ fn drawn(statement: &Statement, label: impl Fn(Record) -> String) -> String {
     written + &")".repeat(depth)
 }
 
-/// The tree of a script that has one statement.
+/// The tree of a script that has one statement, in the first edition.
 pub fn tree_of(script: &str) -> String {
-    let note = note(script);
+    tree_in(Edition::One, script)
+}
+
+pub fn tree_in(edition: Edition, script: &str) -> String {
+    let note = note_in(edition, script);
     assert_eq!(note.counts().statements, 1, "{script}");
     let statement = note.statements().next().unwrap();
     tree(&statement)
@@ -71,9 +80,9 @@ pub fn latest_of_records(statement: &Statement) -> Option<Date> {
     latest.max().flatten()
 }
 
-/// A note must be what reading its script from the start gives.
+/// A note must be what reading its script from the start gives, in the edition that it was read in.
 pub fn assert_as_read(note: &Note) {
-    let fresh = Note::read(note.script(), note.lists()).unwrap();
+    let fresh = Note::read(note.script(), note.edition(), note.lists()).unwrap();
     assert_eq!(note.counts(), fresh.counts());
     assert_eq!(note.record_words(), fresh.record_words());
     assert_eq!(note.directory_words(), fresh.directory_words());

@@ -1,4 +1,4 @@
--- The last five words, wide.
+-- The last six words, five of them wide.
 use Rattle.archive.specs.Exports.{heldIn}
 use borrow.Author.Needs.{needs}
 use Rattle.archive.proofs.held_in.Statement.{statement}
@@ -34,9 +34,12 @@ element-copy-out-wide-5 c = search needs
 wide-requires-5 : tie.Need-wide-requires-5
 wide-requires-5 c κs = search needs
 
+element-copy-out-t24 : tie.Need-element-copy-out-t24
+element-copy-out-t24 c = search needs
+
 returns : tie.Need-returns
 unfolding heldIn
-returns c = rw (c .before .before .before .before .before .before .before .before .wide .ensures, c .before .before .before .before .before .before .wide2 .ensures, c .before .before .before .before .wide3 .ensures, c .before .before .wide4 .ensures, c .wide5 .ensures)
+returns c = rw (c .before .before .before .before .before .before .before .before .before .wide .ensures, c .before .before .before .before .before .before .before .wide2 .ensures, c .before .before .before .before .before .wide3 .ensures, c .before .before .before .wide4 .ensures, c .before .wide5 .ensures)
 
 pub held-in-spec : {M : Type 1} → statement M
 held-in-spec =
@@ -52,4 +55,5 @@ held-in-spec =
     wide-requires-4
     element-copy-out-wide-5
     wide-requires-5
+    element-copy-out-t24
     returns)

@@ -4,30 +4,31 @@ use std::io::{self, Write};
 
 use gorembiin::{Ground, Note};
 
+use crate::check::accepted;
 use crate::failure::Failure;
 use crate::files::{self, Source};
-use crate::listed::Listed;
+use crate::language::Language;
 use crate::options::Change;
 use crate::refused::{read_or_tell, tell};
 use crate::visible::quoted;
 use crate::Verdict;
 
-pub fn amend(change: &Change, listed: &Listed, out: &mut impl Write) -> Result<Verdict, Failure> {
+pub fn amend(change: &Change, language: &Language, out: &mut impl Write) -> Result<Verdict, Failure> {
     let source = Source::open(&change.file)?;
     let text = Source::open(&change.text)?;
-    let Some(before) = read_or_tell(&source, listed, out)? else {
+    let Some(before) = read_or_tell(&source, language, out)? else {
         return Ok(Verdict::Refused);
     };
     let what = format!("{}, statement {}", source.name, change.statement);
     let mut after = before.clone();
     if let Err(refusal) = after.amend(change.statement, &text.bytes) {
-        tell(&what, &text, refusal, listed, out)?;
+        tell(&what, &text, refusal, language, out)?;
         if refusal.ground == Ground::NoStatement {
             print_numbers(&source, before.counts().statements, out)?;
         }
         return Ok(Verdict::Refused);
     }
-    writeln!(out, "{what}: accepted")?;
+    writeln!(out, "{what}: {}", accepted(&after))?;
     print_change(&before, &after, change, &text, out)?;
     print_states(&before, &after, out)?;
     if change.write {

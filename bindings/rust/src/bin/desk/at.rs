@@ -6,7 +6,7 @@ use gorembiin::{Branch, Note, Position, Statement};
 
 use crate::failure::Failure;
 use crate::files::Source;
-use crate::listed::Listed;
+use crate::language::Language;
 use crate::options::Asked;
 use crate::refused::read_or_tell;
 use crate::show::{kind_of, print_node};
@@ -14,8 +14,8 @@ use crate::spans::spans;
 use crate::visible::pointed;
 use crate::Verdict;
 
-pub fn at(source: &Source, asked: Asked, listed: &Listed, out: &mut impl Write) -> Result<Verdict, Failure> {
-    let Some(note) = read_or_tell(source, listed, out)? else {
+pub fn at(source: &Source, asked: Asked, language: &Language, out: &mut impl Write) -> Result<Verdict, Failure> {
+    let Some(note) = read_or_tell(source, language, out)? else {
         return Ok(Verdict::Refused);
     };
     let position = position(&note, asked).ok_or_else(|| outside(&source.name, &note, asked))?;

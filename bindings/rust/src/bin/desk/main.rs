@@ -6,7 +6,7 @@ mod at;
 mod check;
 mod failure;
 mod files;
-mod listed;
+mod language;
 mod options;
 mod refused;
 mod show;
@@ -20,7 +20,7 @@ use std::process::ExitCode;
 
 use failure::Failure;
 use files::Source;
-use listed::Listed;
+use language::Language;
 use options::{Request, Task};
 
 /// Whether the library took what it was given.
@@ -48,18 +48,18 @@ fn main() -> ExitCode {
 }
 
 fn run(request: Request, out: &mut impl Write) -> Result<Verdict, Failure> {
-    let (task, lists) = match request {
+    let (task, named) = match request {
         Request::Help => {
             out.write_all(include_bytes!("help.txt"))?;
             return Ok(Verdict::Accepted);
         }
-        Request::Work(task, lists) => (task, lists),
+        Request::Work(task, named) => (task, named),
     };
-    let listed = Listed::open(&lists)?;
+    let language = Language::open(&named)?;
     match task {
-        Task::Show(file) => show::show(&Source::open(&file)?, &listed, out),
-        Task::At(file, asked) => at::at(&Source::open(&file)?, asked, &listed, out),
-        Task::Check(file) => check::check(&Source::open(&file)?, &listed, out),
-        Task::Amend(change) => amend::amend(&change, &listed, out),
+        Task::Show(file) => show::show(&Source::open(&file)?, &language, out),
+        Task::At(file, asked) => at::at(&Source::open(&file)?, asked, &language, out),
+        Task::Check(file) => check::check(&Source::open(&file)?, &language, out),
+        Task::Amend(change) => amend::amend(&change, &language, out),
     }
 }

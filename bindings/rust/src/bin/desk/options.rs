@@ -3,11 +3,13 @@
 use std::ffi::{OsStr, OsString};
 use std::path::{Path, PathBuf};
 
+use gorembiin::Edition;
+
 use crate::failure::Failure;
 
 pub enum Request {
     Help,
-    Work(Task, ListFiles),
+    Work(Task, Named),
 }
 
 pub enum Task {
@@ -33,9 +35,10 @@ pub enum Asked {
     Character(u32, u32),
 }
 
-/// The files of lists that were named.
+/// What scripts are to be read by, as far as it was named: the edition, and the files of lists.
 #[derive(Default)]
-pub struct ListFiles {
+pub struct Named {
+    pub edition: Option<Edition>,
     pub reserved: Option<PathBuf>,
     pub currencies: Option<PathBuf>,
     pub day_counters: Option<PathBuf>,
@@ -52,11 +55,11 @@ struct Words {
     plain: Vec<OsString>,
     help: bool,
     write: bool,
-    lists: ListFiles,
+    named: Named,
 }
 
 pub fn parse(args: impl Iterator<Item = OsString>) -> Result<Request, Failure> {
-    let Words { plain, help, write, lists } = sort(args)?;
+    let Words { plain, help, write, named } = sort(args)?;
     if help {
         return Ok(Request::Help);
     }
@@ -83,43 +86,54 @@ pub fn parse(args: impl Iterator<Item = OsString>) -> Result<Request, Failure> {
     if write && !matches!(task, Task::Amend(_)) {
         return Err(usage("--write is an option of amend"));
     }
-    one_reader_of_stdin(&task, &lists)?;
-    Ok(Request::Work(task, lists))
+    one_reader_of_stdin(&task, &named)?;
+    Ok(Request::Work(task, named))
 }
 
 fn sort(mut args: impl Iterator<Item = OsString>) -> Result<Words, Failure> {
     let mut words = Words::default();
+    let named = &mut words.named;
     while let Some(word) = args.next() {
-        let list = match word.to_str() {
+        match word.to_str() {
             Some("--") => {
                 words.plain.extend(args);
                 break;
             }
-            Some("--help" | "-h") => {
-                words.help = true;
-                continue;
-            }
-            Some("--write") => {
-                words.write = true;
-                continue;
-            }
-            Some("--reserved") => &mut words.lists.reserved,
-            Some("--currencies") => &mut words.lists.currencies,
-            Some("--day-counters") => &mut words.lists.day_counters,
+            Some("--help" | "-h") => words.help = true,
+            Some("--write") => words.write = true,
+            Some("--edition") => set(&mut named.edition, &word, edition(args.next())?)?,
+            Some("--reserved") => set(&mut named.reserved, &word, file(&word, args.next())?)?,
+            Some("--currencies") => set(&mut named.currencies, &word, file(&word, args.next())?)?,
+            Some("--day-counters") => set(&mut named.day_counters, &word, file(&word, args.next())?)?,
             Some(option) if option.starts_with('-') && option != "-" => {
                 return Err(usage(&format!("there is no option {option}")));
             }
-            _ => {
-                words.plain.push(word);
-                continue;
-            }
-        };
-        let file = args.next().ok_or_else(|| usage(&format!("{} needs a file", word.display())))?;
-        if list.replace(file.into()).is_some() {
-            return Err(usage(&format!("{} is given twice", word.display())));
+            _ => words.plain.push(word),
         }
     }
     Ok(words)
+}
+
+/// An option can be given once.
+fn set<T>(option: &mut Option<T>, word: &OsStr, value: T) -> Result<(), Failure> {
+    match option.replace(value) {
+        None => Ok(()),
+        Some(_) => Err(usage(&format!("{} is given twice", word.display()))),
+    }
+}
+
+/// The file behind an option of lists.
+fn file(word: &OsStr, file: Option<OsString>) -> Result<PathBuf, Failure> {
+    file.map(PathBuf::from).ok_or_else(|| usage(&format!("{} needs a file", word.display())))
+}
+
+/// The number behind `--edition`.
+fn edition(number: Option<OsString>) -> Result<Edition, Failure> {
+    let Some(number) = number else {
+        return Err(usage("--edition needs a number"));
+    };
+    let edition = number.to_str().and_then(|digits| Edition::from_number(digits.parse().ok()?));
+    edition.ok_or_else(|| usage(&format!("{} is no edition, which is 1 or 2", number.display())))
 }
 
 fn change(file: &OsStr, number: &OsStr, text: &OsStr, write: bool) -> Result<Change, Failure> {
@@ -143,14 +157,14 @@ fn asked(place: &OsStr) -> Result<Asked, Failure> {
 }
 
 /// Standard input can be read once.
-fn one_reader_of_stdin(task: &Task, lists: &ListFiles) -> Result<(), Failure> {
+fn one_reader_of_stdin(task: &Task, named: &Named) -> Result<(), Failure> {
     let mut files: Vec<&PathBuf> = match task {
         Task::Show(file) | Task::Check(file) | Task::At(file, _) => vec![file],
         Task::Amend(change) => vec![&change.file, &change.text],
     };
-    files.extend(&lists.reserved);
-    files.extend(&lists.currencies);
-    files.extend(&lists.day_counters);
+    files.extend(&named.reserved);
+    files.extend(&named.currencies);
+    files.extend(&named.day_counters);
     if files.iter().filter(|file| is_stdin(file)).count() > 1 {
         return Err(usage("only one file can be -"));
     }

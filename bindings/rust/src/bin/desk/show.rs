@@ -7,13 +7,13 @@ use gorembiin::{Branch, Date, Fields, Kind, Part, Place, Record, Source as Of, S
 use crate::check::{counted, latest, print_counts};
 use crate::failure::Failure;
 use crate::files::Source;
-use crate::listed::Listed;
+use crate::language::Language;
 use crate::refused::read_or_tell;
 use crate::visible::{quoted, visible};
 use crate::Verdict;
 
-pub fn show(source: &Source, listed: &Listed, out: &mut impl Write) -> Result<Verdict, Failure> {
-    let Some(note) = read_or_tell(source, listed, out)? else {
+pub fn show(source: &Source, language: &Language, out: &mut impl Write) -> Result<Verdict, Failure> {
+    let Some(note) = read_or_tell(source, language, out)? else {
         return Ok(Verdict::Refused);
     };
     print_counts(source, &note, out)?;

@@ -69,12 +69,12 @@ fn closed(tokens: &[Token], first: usize, end: usize) -> usize {
 #[cfg(test)]
 mod tests {
     use super::spans;
-    use gorembiin::{Lists, Note, Record, Statement, Which};
+    use gorembiin::{Edition, Lists, Note, Record, Statement, Which};
 
     const LISTS: Lists = Lists { reserved: b"", currencies: b"USD\nEUR\n", day_counters: b"A360\n" };
 
     /// Every kind of node, and what may stand round one and within.
-    const SCRIPTS: [&str; 13] = [
+    const SCRIPTS: [&str; 14] = [
         "(a + b) * c; a * (b + c); ((a)) + (((b))); +a * b; -(a) * b; a * -b; - 2 ** (2); +(-1);",
         "a == (b) and (c) != d or e > f; (a >= b) and c < d or (true <= false); a / b - c;",
         "[]; [1, (2), [3,],]; [1][0]; a[(0)].append([b],)[1].mean ( ) . std(); +a[-a[0]];",
@@ -88,6 +88,7 @@ mod tests {
         "for i in [1] { } for i in (a) { x += (i); for j in i { pays j; pays on \"2026-06-30\" } } for k in pays a in \"EUR\" { }",
         "# c\n( # ( \"\na // )\n) * b # ;\n; if a # {\n{ # }\nb\n; }\n \"é\" + [ \"(\" ] ; x = \"#\" ; y pays",
         "(pays 1 on \"2026-06-30\" + 2); x = pays in \"USD\" * -1; [(pays) == a];",
+        "a ** b ** c; (a) ** (b + c) ** (d); -a ** -(b) ** +c[0] ** 2 * d; -2 ** 2; a or (b) and c or (d); +(a) ** b * c;",
     ];
 
     /// What of a record does not depend on where its statement stands: its place is counted from `from` on.
@@ -98,36 +99,43 @@ mod tests {
     }
 
     /// A text read as an operand or, where it is none, as a statement; and where in what was read it begins.
-    fn alone(text: &[u8]) -> (Note<'static>, usize) {
+    fn alone(edition: Edition, text: &[u8]) -> (Note<'static>, usize) {
         let is_whole = text.ends_with(b";") || text.ends_with(b"}");
         let statement = [text, if is_whole { b"" } else { b";" }].concat();
         let operand = [b"(", text, b");"].concat();
-        Note::read(&operand, LISTS).map_or_else(|_| (Note::read(&statement, LISTS).unwrap(), 0), |note| (note, 1))
+        let read = |script: &[u8]| Note::read(script, edition, LISTS);
+        read(&operand).map_or_else(|_| (read(&statement).unwrap(), 0), |note| (note, 1))
+    }
+
+    fn assert_read_alone(edition: Edition, script: &str) {
+        let note = Note::read(script.as_bytes(), edition, LISTS).unwrap();
+        for statement in note.statements() {
+            let records: Vec<Record> = statement.records().collect();
+            for (number, span) in spans(&statement).into_iter().enumerate() {
+                let text = &note.script()[span.clone()];
+                let (alone, begin) = alone(edition, text);
+                let only = alone.statements().next().unwrap();
+                let mut read: Vec<_> = only.records().map(|record| seen(&only, record, begin)).collect();
+                let nodes = records[number].nodes() as usize;
+                if read.len() == nodes + 2 {
+                    // the sum in a compound assignment is read as the whole of it
+                    read.remove(0);
+                    read.pop();
+                }
+                let own = &records[number + 1 - nodes..=number];
+                let from = span.start - statement.start() as usize;
+                let own: Vec<_> = own.iter().map(|&record| seen(&statement, record, from)).collect();
+                assert_eq!(read, own, "{edition}, {}", String::from_utf8_lossy(text));
+            }
+        }
     }
 
     #[test]
     fn the_text_of_a_node_is_read_as_that_node() {
         for script in SCRIPTS {
-            let note = Note::read(script.as_bytes(), LISTS).unwrap();
-            for statement in note.statements() {
-                let records: Vec<Record> = statement.records().collect();
-                for (number, span) in spans(&statement).into_iter().enumerate() {
-                    let text = &note.script()[span.clone()];
-                    let (alone, begin) = alone(text);
-                    let only = alone.statements().next().unwrap();
-                    let mut read: Vec<_> = only.records().map(|record| seen(&only, record, begin)).collect();
-                    let nodes = records[number].nodes() as usize;
-                    if read.len() == nodes + 2 {
-                        // the sum in a compound assignment is read as the whole of it
-                        read.remove(0);
-                        read.pop();
-                    }
-                    let own = &records[number + 1 - nodes..=number];
-                    let from = span.start - statement.start() as usize;
-                    let own: Vec<_> = own.iter().map(|&record| seen(&statement, record, from)).collect();
-                    assert_eq!(read, own, "{}", String::from_utf8_lossy(text));
-                }
-            }
+            assert_read_alone(Edition::One, script);
+            assert_read_alone(Edition::Two, script);
         }
+        assert_read_alone(Edition::Two, "x # c\n= -2**3**2; x\n+= (a); x\npays 1;");
     }
 }

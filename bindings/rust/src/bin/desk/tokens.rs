@@ -68,7 +68,7 @@ fn run(text: &[u8], start: usize, belongs: impl Fn(u8) -> bool) -> usize {
 #[cfg(test)]
 mod tests {
     use super::tokens;
-    use gorembiin::{Lists, Note};
+    use gorembiin::{Edition, Lists, Note};
 
     fn cut(text: &str) -> Vec<&str> {
         tokens(text.as_bytes()).iter().map(|token| &text[token.start..token.end]).collect()
@@ -93,7 +93,7 @@ mod tests {
     fn there_are_as_many_as_the_library_counts() {
         let script = "x=1;\"é # \"//c\n;#\ny ** 2;z//\n;\
                       if a!=b{x-=[1,2.5,][0]**2;}else{pays x>=1 on\"2026-06-30\"in\"EUR\";}";
-        let note = Note::read(script.as_bytes(), Lists::default()).unwrap();
+        let note = Note::read(script.as_bytes(), Edition::One, Lists::default()).unwrap();
         for statement in note.statements() {
             assert_eq!(tokens(statement.text()).len(), statement.tokens() as usize, "{script}");
         }

@@ -6,7 +6,7 @@ use mathlib.Core.Path.{_∙_}
 use mathlib.Core.List.{[]}
 use native.Mathlib.Omega.{arith}
 use Rattle.grammar.specs.Grammar.{primary}
-use Rattle.reading.specs.Meets.{wordsIn}
+use Rattle.reading.specs.Meets.{wordsIn, languageIn}
 use Rattle.grammar.proofs.SizeLaws.{primary-size}
 use Rattle.reading.proofs.StepLaws.{done-reads, refused-on, put-fields}
 use Rattle.reading.proofs.CallingLaws.{named-words}
@@ -30,8 +30,8 @@ returns c =
     let start = at-variable-at .before .before .before .before .before .before .before in
     let args = start .args in
     let pre = start .pre in
-    let words = wordsIn (args .reserved .now) (args .currencies .now) (args .counters .now) in
-    refused-on _ _ _ _ _ _ _ _ _ _ _ _ (c .enum-told .given .1) (at-variable-at .variable-at .ensures) (assign-unnamed (wordsIn (args .reserved .now) [] []) words (named-words (args .reserved .now) (args .currencies .now) (args .counters .now)) (args .s .now) (args .c) (args .d) (args .n) (args .out .now) (pre .0) (pre .1) (pre .2) (primary words (args .depth)) _ _)
+    let words = languageIn (args .two) (args .reserved .now) (args .currencies .now) (args .counters .now) in
+    refused-on _ _ _ _ _ _ _ _ _ _ _ _ (c .enum-told .given .1) (at-variable-at .variable-at .ensures) (assign-unnamed (wordsIn (args .reserved .now) [] []) words (named-words (args .two) (args .reserved .now) (args .currencies .now) (args .counters .now)) (args .s .now) (args .c) (args .d) (args .n) (args .out .now) (pre .0) (pre .1) (pre .2) (primary words (args .depth)) _ _)
 
 next-requires : tie.Need-next-requires
 next-requires c κs = c .before .before .before .before .before .before .before .before .before .before .before .before .pre .1 .holds
@@ -43,8 +43,8 @@ ended-requires c κs =
     let start = at-variable-at .before .before .before .before .before .before .before in
     let args = start .args in
     let pre = start .pre in
-    let words = wordsIn (args .reserved .now) (args .currencies .now) (args .counters .now) in
-    (assign-ready (wordsIn (args .reserved .now) [] []) words (named-words (args .reserved .now) (args .currencies .now) (args .counters .now)) (args .s .now) (args .c) (args .d) (args .n) (args .out .now) (pre .0) (pre .1) (pre .2) _ _ _ _ (done-reads _ _ _ _ _ _ _ _ _ (at-r .r .given .1) (at-variable-at .variable-at .ensures)) (primary words (args .depth)) (primary-size words (args .depth)) (λ z. omega (arith, z, pre .4)) (c .before .next .result) (c .before .next .ensures), pre .3)
+    let words = languageIn (args .two) (args .reserved .now) (args .currencies .now) (args .counters .now) in
+    (assign-ready (wordsIn (args .reserved .now) [] []) words (named-words (args .two) (args .reserved .now) (args .currencies .now) (args .counters .now)) (args .s .now) (args .c) (args .d) (args .n) (args .out .now) (pre .0) (pre .1) (pre .2) _ _ _ _ (done-reads _ _ _ _ _ _ _ _ _ (at-r .r .given .1) (at-variable-at .variable-at .ensures)) (primary words (args .depth)) (primary-size words (args .depth)) (λ z. omega (arith, z, pre .4)) (c .before .next .result) (c .before .next .ensures), pre .3)
 
 enum-known-q : tie.Need-enum-known-q
 enum-known-q c = search needs
@@ -64,8 +64,8 @@ returns-2 c =
     let start = at-variable-at .before .before .before .before .before .before .before in
     let args = start .args in
     let pre = start .pre in
-    let words = wordsIn (args .reserved .now) (args .currencies .now) (args .counters .now) in
-    refused-on _ _ _ _ _ _ _ _ _ _ _ _ (c .enum-told2 .given .1) (at-ended .ended .ensures) (assign-wrong (wordsIn (args .reserved .now) [] []) words (named-words (args .reserved .now) (args .currencies .now) (args .counters .now)) (args .s .now) (args .c) (args .d) (args .n) (args .out .now) (pre .0) (pre .1) (pre .2) _ _ _ _ (done-reads _ _ _ _ _ _ _ _ _ (at-r .r .given .1) (at-variable-at .variable-at .ensures)) (primary words (args .depth)) (primary-size words (args .depth)) (λ z. omega (arith, z, pre .4)) (at-next .next .result) (at-next .next .ensures) _ _)
+    let words = languageIn (args .two) (args .reserved .now) (args .currencies .now) (args .counters .now) in
+    refused-on _ _ _ _ _ _ _ _ _ _ _ _ (c .enum-told2 .given .1) (at-ended .ended .ensures) (assign-wrong (wordsIn (args .reserved .now) [] []) words (named-words (args .two) (args .reserved .now) (args .currencies .now) (args .counters .now)) (args .s .now) (args .c) (args .d) (args .n) (args .out .now) (pre .0) (pre .1) (pre .2) _ _ _ _ (done-reads _ _ _ _ _ _ _ _ _ (at-r .r .given .1) (at-variable-at .variable-at .ensures)) (primary words (args .depth)) (primary-size words (args .depth)) (λ z. omega (arith, z, pre .4)) (at-next .next .result) (at-next .next .ensures) _ _)
 
 sub-plain : tie.Need-sub-plain
 sub-plain c =
@@ -77,8 +77,8 @@ sub-plain c =
     let start = at-variable-at .before .before .before .before .before .before .before in
     let args = start .args in
     let pre = start .pre in
-    let words = wordsIn (args .reserved .now) (args .currencies .now) (args .counters .now) in
-    omega (arith, assign-numbers (wordsIn (args .reserved .now) [] []) words (named-words (args .reserved .now) (args .currencies .now) (args .counters .now)) (args .s .now) (args .c) (args .d) (args .n) (args .out .now) (pre .0) (pre .1) (pre .2) _ _ _ _ (done-reads _ _ _ _ _ _ _ _ _ (at-r .r .given .1) (at-variable-at .variable-at .ensures)) (primary words (args .depth)) (primary-size words (args .depth)) (λ z. omega (arith, z, pre .4)) (at-next .next .result) (at-next .next .ensures) _ _ _ _ (done-reads _ _ _ _ _ _ _ _ _ (at-q .q .given .1) (at-ended .ended .ensures)))
+    let words = languageIn (args .two) (args .reserved .now) (args .currencies .now) (args .counters .now) in
+    omega (arith, assign-numbers (wordsIn (args .reserved .now) [] []) words (named-words (args .two) (args .reserved .now) (args .currencies .now) (args .counters .now)) (args .s .now) (args .c) (args .d) (args .n) (args .out .now) (pre .0) (pre .1) (pre .2) _ _ _ _ (done-reads _ _ _ _ _ _ _ _ _ (at-r .r .given .1) (at-variable-at .variable-at .ensures)) (primary words (args .depth)) (primary-size words (args .depth)) (λ z. omega (arith, z, pre .4)) (at-next .next .result) (at-next .next .ensures) _ _ _ _ (done-reads _ _ _ _ _ _ _ _ _ (at-q .q .given .1) (at-ended .ended .ensures)))
 
 add-plain : tie.Need-add-plain
 add-plain c =
@@ -90,8 +90,8 @@ add-plain c =
     let start = at-variable-at .before .before .before .before .before .before .before in
     let args = start .args in
     let pre = start .pre in
-    let words = wordsIn (args .reserved .now) (args .currencies .now) (args .counters .now) in
-    omega (arith, assign-numbers (wordsIn (args .reserved .now) [] []) words (named-words (args .reserved .now) (args .currencies .now) (args .counters .now)) (args .s .now) (args .c) (args .d) (args .n) (args .out .now) (pre .0) (pre .1) (pre .2) _ _ _ _ (done-reads _ _ _ _ _ _ _ _ _ (at-r .r .given .1) (at-variable-at .variable-at .ensures)) (primary words (args .depth)) (primary-size words (args .depth)) (λ z. omega (arith, z, pre .4)) (at-next .next .result) (at-next .next .ensures) _ _ _ _ (done-reads _ _ _ _ _ _ _ _ _ (at-q .q .given .1) (at-ended .ended .ensures)))
+    let words = languageIn (args .two) (args .reserved .now) (args .currencies .now) (args .counters .now) in
+    omega (arith, assign-numbers (wordsIn (args .reserved .now) [] []) words (named-words (args .two) (args .reserved .now) (args .currencies .now) (args .counters .now)) (args .s .now) (args .c) (args .d) (args .n) (args .out .now) (pre .0) (pre .1) (pre .2) _ _ _ _ (done-reads _ _ _ _ _ _ _ _ _ (at-r .r .given .1) (at-variable-at .variable-at .ensures)) (primary words (args .depth)) (primary-size words (args .depth)) (λ z. omega (arith, z, pre .4)) (at-next .next .result) (at-next .next .ensures) _ _ _ _ (done-reads _ _ _ _ _ _ _ _ _ (at-q .q .given .1) (at-ended .ended .ensures)))
 
 plain-requires : tie.Need-plain-requires
 plain-requires c κs = search needs
@@ -99,8 +99,8 @@ plain-requires c κs = search needs
 put-requires : tie.Need-put-requires
 put-requires c κs = search needs
 
-add-t24 : tie.Need-add-t24
-add-t24 c =
+add-t25 : tie.Need-add-t25
+add-t25 c =
     let at-q = c .before .before .before .before .before .before in
     let at-ended = at-q .before .before .before .before in
     let at-next = at-ended .before .before in
@@ -109,14 +109,14 @@ add-t24 c =
     let start = at-variable-at .before .before .before .before .before .before .before in
     let args = start .args in
     let pre = start .pre in
-    let words = wordsIn (args .reserved .now) (args .currencies .now) (args .counters .now) in
-    omega (arith, assign-numbers (wordsIn (args .reserved .now) [] []) words (named-words (args .reserved .now) (args .currencies .now) (args .counters .now)) (args .s .now) (args .c) (args .d) (args .n) (args .out .now) (pre .0) (pre .1) (pre .2) _ _ _ _ (done-reads _ _ _ _ _ _ _ _ _ (at-r .r .given .1) (at-variable-at .variable-at .ensures)) (primary words (args .depth)) (primary-size words (args .depth)) (λ z. omega (arith, z, pre .4)) (at-next .next .result) (at-next .next .ensures) _ _ _ _ (done-reads _ _ _ _ _ _ _ _ _ (at-q .q .given .1) (at-ended .ended .ensures)))
+    let words = languageIn (args .two) (args .reserved .now) (args .currencies .now) (args .counters .now) in
+    omega (arith, assign-numbers (wordsIn (args .reserved .now) [] []) words (named-words (args .two) (args .reserved .now) (args .currencies .now) (args .counters .now)) (args .s .now) (args .c) (args .d) (args .n) (args .out .now) (pre .0) (pre .1) (pre .2) _ _ _ _ (done-reads _ _ _ _ _ _ _ _ _ (at-r .r .given .1) (at-variable-at .variable-at .ensures)) (primary words (args .depth)) (primary-size words (args .depth)) (λ z. omega (arith, z, pre .4)) (at-next .next .result) (at-next .next .ensures) _ _ _ _ (done-reads _ _ _ _ _ _ _ _ _ (at-q .q .given .1) (at-ended .ended .ensures)))
 
 same-length-3 : tie.Need-same-length-3
 same-length-3 c =
     let at-put = c .before .before in
     let at-ended = at-put .before .before .before .before .before .before .before .before in
-    at-put .put .kept .0 ∙ (at-ended .ended .kept .1 .1 .1 .1 .1 .1 .0 ∙ at-ended .before .before .before .before .before .before .before .before .variable-at .kept .1 .1 .1 .1 .0)
+    at-put .put .kept .0 ∙ (at-ended .ended .kept .1 .1 .1 .1 .1 .1 .1 .0 ∙ at-ended .before .before .before .before .before .before .before .before .variable-at .kept .1 .1 .1 .1 .0)
 
 returns-3 : tie.Need-returns-3
 returns-3 c =
@@ -129,8 +129,8 @@ returns-3 c =
     let start = at-variable-at .before .before .before .before .before .before .before in
     let args = start .args in
     let pre = start .pre in
-    let words = wordsIn (args .reserved .now) (args .currencies .now) (args .counters .now) in
-    assign-reads (wordsIn (args .reserved .now) [] []) words (named-words (args .reserved .now) (args .currencies .now) (args .counters .now)) (args .s .now) (args .c) (args .d) (args .n) (args .out .now) (pre .0) (pre .1) (pre .2) _ _ _ _ (done-reads _ _ _ _ _ _ _ _ _ (at-r .r .given .1) (at-variable-at .variable-at .ensures)) (primary words (args .depth)) (primary-size words (args .depth)) (λ z. omega (arith, z, pre .4)) (at-next .next .result) (at-next .next .ensures) _ _ _ _ (done-reads _ _ _ _ _ _ _ _ _ (at-q .q .given .1) (at-ended .ended .ensures)) _ (put-fields _ _ _ _ _ _ _ _ _ _ (at-put .before .plain .ensures) (at-put .put .ensures))
+    let words = languageIn (args .two) (args .reserved .now) (args .currencies .now) (args .counters .now) in
+    assign-reads (wordsIn (args .reserved .now) [] []) words (named-words (args .two) (args .reserved .now) (args .currencies .now) (args .counters .now)) (args .s .now) (args .c) (args .d) (args .n) (args .out .now) (pre .0) (pre .1) (pre .2) _ _ _ _ (done-reads _ _ _ _ _ _ _ _ _ (at-r .r .given .1) (at-variable-at .variable-at .ensures)) (primary words (args .depth)) (primary-size words (args .depth)) (λ z. omega (arith, z, pre .4)) (at-next .next .result) (at-next .next .ensures) _ _ _ _ (done-reads _ _ _ _ _ _ _ _ _ (at-q .q .given .1) (at-ended .ended .ensures)) _ (put-fields _ _ _ _ _ _ _ _ _ _ (at-put .before .plain .ensures) (at-put .put .ensures))
 
 pub assign-spec : {M : Type 1} → statement M
 assign-spec =
@@ -151,6 +151,6 @@ assign-spec =
     add-plain
     plain-requires
     put-requires
-    add-t24
+    add-t25
     same-length-3
     returns-3)

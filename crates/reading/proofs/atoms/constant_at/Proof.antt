@@ -28,33 +28,31 @@ part-bits-of-end c =
 bits-of-requires : tie.Need-bits-of-requires
 bits-of-requires c κs = search needs
 
-cast-t17 : tie.Need-cast-t17
-cast-t17 c = search needs
+cast-t18 : tie.Need-cast-t18
+cast-t18 c = search needs
 
-sub-t18 : tie.Need-sub-t18
-sub-t18 c = omega (arith, start-in (c .before .before .before .before .before .before .before .before .before .pre .0 .0))
+sub-t19 : tie.Need-sub-t19
+sub-t19 c = omega (arith, start-in (c .before .before .before .before .before .before .before .before .before .pre .0 .0))
 
-cast-t19 : tie.Need-cast-t19
-cast-t19 c = search needs
+cast-t20 : tie.Need-cast-t20
+cast-t20 c = search needs
 
 put-requires : tie.Need-put-requires
 put-requires c κs = search needs
 
-next-requires : tie.Need-next-requires
-next-requires c κs = search needs
-
-add-t17 : tie.Need-add-t17
-add-t17 c = search needs
+add-t18 : tie.Need-add-t18
+add-t18 c = search needs
 
 same-length : tie.Need-same-length
 same-length c = search needs
 
 returns : tie.Need-returns
 returns c =
-    let at-put = c .before .before .before in
+    let at-put = c .before .before in
     let at-bits-of = at-put .before .before .before .before in
     let start = at-bits-of .before .before .before .before .before .before in
-    constant-reads (start .pre .0 .0) (c .next .ensures) (start .args .place) (start .args .minus) (start .pre .1) _ (at-bits-of .bits-of .ensures) (at-put .put .ensures)
+    let pre = start .pre in
+    constant-reads (pre .0 .0) (pre .1) (start .args .place) (start .args .minus) (pre .2) _ (at-bits-of .bits-of .ensures) (at-put .put .ensures)
 
 pub constant-at-spec : {M : Type 1} → statement M
 constant-at-spec =
@@ -66,11 +64,10 @@ constant-at-spec =
     part-bits-of-start
     part-bits-of-end
     bits-of-requires
-    cast-t17
-    sub-t18
-    cast-t19
+    cast-t18
+    sub-t19
+    cast-t20
     put-requires
-    next-requires
-    add-t17
+    add-t18
     same-length
     returns)

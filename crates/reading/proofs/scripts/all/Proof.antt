@@ -5,16 +5,16 @@ use Rattle.reading.proofs.scripts.all.Tie as tie
 use native.Mathlib.Omega.{arith}
 use mathlib.Core.Path.{_≡_, refl, _∙_}
 use lib.ListN.{length, drop}
-use Rattle.reading.specs.Meets.{wordsIn, toksAt}
+use Rattle.reading.specs.Meets.{languageIn, toksAt}
 use Rattle.reading.proofs.HoldLaws.{start-in}
 use Rattle.reading.proofs.WholeLaws.{Chain, chain-start, chain-exit, part-in, chain-numbers, chain-less, chain-next, ready-at, meets-at, all-refused}
 use Rattle.reading.proofs.StepLaws.{done-reads}
 
 abbrev Inv-loop : tie.InvT-loop
-Inv-loop s reserved currencies counters records₀ directory₀ base₀ at₀ n₀ k₀ latest₀ records directory base at n k latest = (length records ≡ length records₀) × (length directory ≡ length directory₀) × Chain (wordsIn reserved currencies counters) s records₀ directory₀ base at n k latest records directory
+Inv-loop s two reserved currencies counters records₀ directory₀ base₀ at₀ n₀ k₀ latest₀ records directory base at n k latest = (length records ≡ length records₀) × (length directory ≡ length directory₀) × Chain (languageIn two reserved currencies counters) s records₀ directory₀ base at n k latest records directory
 
 abbrev μ-loop : tie.MeasureT-loop
-μ-loop s reserved currencies counters records₀ directory₀ base₀ at₀ n₀ k₀ latest₀ records directory base at n k latest = length (toksAt (drop base s) (at .start))
+μ-loop s two reserved currencies counters records₀ directory₀ base₀ at₀ n₀ k₀ latest₀ records directory base at n k latest = length (toksAt (drop base s) (at .start))
 
 start-requires : tie.Need-start-requires Inv-loop μ-loop
 start-requires c κs = search needs
@@ -23,7 +23,7 @@ loop-holds : tie.Need-loop-holds Inv-loop μ-loop
 loop-holds c =
     let start = c .before .before .before .before .before .before .before in
     let args = start .args in
-    (refl, refl, chain-start (wordsIn (args .reserved .now) (args .currencies .now) (args .counters .now)) (args .s .now) _ _ (start .pre .0) (c .start .result) (c .start .ensures))
+    (refl, refl, chain-start (languageIn (args .two) (args .reserved .now) (args .currencies .now) (args .counters .now)) (args .s .now) _ _ (start .pre .0) (c .start .result) (c .start .ensures))
 
 same-length : tie.Need-same-length Inv-loop μ-loop
 same-length c = c .before .before .loop .inv .0
@@ -35,7 +35,7 @@ returns : tie.Need-returns Inv-loop μ-loop
 returns c =
     let at-loop = c .before .before in
     let args = at-loop .before .before .before .before .before .before .before .before .args in
-    chain-exit (wordsIn (args .reserved .now) (args .currencies .now) (args .counters .now)) (args .s .now) _ _ (at-loop .loop .inv .2) (c .if1 .taken)
+    chain-exit (languageIn (args .two) (args .reserved .now) (args .currencies .now) (args .counters .now)) (args .s .now) _ _ (at-loop .loop .inv .2) (c .if1 .taken)
 
 cast-base : tie.Need-cast-base Inv-loop μ-loop
 cast-base c = search needs
@@ -44,7 +44,7 @@ add-base : tie.Need-add-base Inv-loop μ-loop
 add-base c =
     let at-loop = c .before .before .before in
     let args = at-loop .before .before .before .before .before .before .before .before .args in
-    omega (arith, part-in (wordsIn (args .reserved .now) (args .currencies .now) (args .counters .now)) (args .s .now) _ _ (at-loop .loop .inv .2), at-loop .loop .inv .2 .short)
+    omega (arith, part-in (languageIn (args .two) (args .reserved .now) (args .currencies .now) (args .counters .now)) (args .s .now) _ _ (at-loop .loop .inv .2), at-loop .loop .inv .2 .short)
 
 rebased-requires : tie.Need-rebased-requires Inv-loop μ-loop
 rebased-requires c κs = start-in (c .before .before .before .loop .inv .2 .holds)
@@ -53,19 +53,19 @@ sub-statement : tie.Need-sub-statement Inv-loop μ-loop
 sub-statement c =
     let at-loop = c .before .before .before .before in
     let args = at-loop .before .before .before .before .before .before .before .before .args in
-    part-in (wordsIn (args .reserved .now) (args .currencies .now) (args .counters .now)) (args .s .now) _ _ (at-loop .loop .inv .2)
+    part-in (languageIn (args .two) (args .reserved .now) (args .currencies .now) (args .counters .now)) (args .s .now) _ _ (at-loop .loop .inv .2)
 
 part-statement-start : tie.Need-part-statement-start Inv-loop μ-loop
 part-statement-start c =
     let at-loop = c .before .before .before .before in
     let args = at-loop .before .before .before .before .before .before .before .before .args in
-    omega (arith, part-in (wordsIn (args .reserved .now) (args .currencies .now) (args .counters .now)) (args .s .now) _ _ (at-loop .loop .inv .2))
+    omega (arith, part-in (languageIn (args .two) (args .reserved .now) (args .currencies .now) (args .counters .now)) (args .s .now) _ _ (at-loop .loop .inv .2))
 
 part-statement-end : tie.Need-part-statement-end Inv-loop μ-loop
 part-statement-end c =
     let at-loop = c .before .before .before .before in
     let args = at-loop .before .before .before .before .before .before .before .before .args in
-    omega (arith, part-in (wordsIn (args .reserved .now) (args .currencies .now) (args .counters .now)) (args .s .now) _ _ (at-loop .loop .inv .2))
+    omega (arith, part-in (languageIn (args .two) (args .reserved .now) (args .currencies .now) (args .counters .now)) (args .s .now) _ _ (at-loop .loop .inv .2))
 
 statement-requires : tie.Need-statement-requires Inv-loop μ-loop
 statement-requires c κs =
@@ -73,7 +73,7 @@ statement-requires c κs =
     let at-loop = at-rebased .before .before .before .before in
     let start = at-loop .before .before .before .before .before .before .before .before in
     let args = start .args in
-    (ready-at (wordsIn (args .reserved .now) (args .currencies .now) (args .counters .now)) (args .s .now) _ _ (at-loop .loop .inv .2) (at-rebased .rebased .ensures), start .pre .1)
+    (ready-at (languageIn (args .two) (args .reserved .now) (args .currencies .now) (args .counters .now)) (args .s .now) _ _ (at-loop .loop .inv .2) (at-rebased .rebased .ensures), start .pre .1)
 
 enum-known-r : tie.Need-enum-known-r Inv-loop μ-loop
 enum-known-r c = search needs
@@ -85,12 +85,12 @@ refused-at-requires : tie.Need-refused-at-requires Inv-loop μ-loop
 refused-at-requires c κs =
     let at-loop = c .before .before .before .before .before .before .before .before .before .before .before in
     let args = at-loop .before .before .before .before .before .before .before .before .args in
-    omega (arith, part-in (wordsIn (args .reserved .now) (args .currencies .now) (args .counters .now)) (args .s .now) _ _ (at-loop .loop .inv .2), at-loop .loop .inv .2 .short)
+    omega (arith, part-in (languageIn (args .two) (args .reserved .now) (args .currencies .now) (args .counters .now)) (args .s .now) _ _ (at-loop .loop .inv .2), at-loop .loop .inv .2 .short)
 
 same-length-3 : tie.Need-same-length-3 Inv-loop μ-loop
 same-length-3 c =
     let at-statement = c .before .before .before .before .before in
-    at-statement .statement .kept .1 .1 .1 .1 .1 .1 .0 ∙ at-statement .before .before .before .before .before .before .before .loop .inv .0
+    at-statement .statement .kept .1 .1 .1 .1 .1 .1 .1 .0 ∙ at-statement .before .before .before .before .before .before .before .loop .inv .0
 
 same-length-4 : tie.Need-same-length-4 Inv-loop μ-loop
 same-length-4 c = c .before .before .before .before .before .before .before .before .before .before .before .before .loop .inv .1
@@ -103,35 +103,35 @@ returns-2 c =
     let at-loop = at-if1 .before .before in
     let args = at-loop .before .before .before .before .before .before .before .before .args in
     let statement = at-statement .statement in
-    let words = wordsIn (args .reserved .now) (args .currencies .now) (args .counters .now) in
-    all-refused words (args .s .now) _ _ (at-loop .loop .inv .2) (at-if1 .if1 .left) (statement .result) (c .refused-at .result) (statement .last .1 .1 .1 .1 .1 .1 .0) _ _ _ _ (c .before .enum-told .given .1) (meets-at words (args .s .now) _ _ (at-loop .loop .inv .2) (at-rebased .rebased .ensures) (statement .result) (statement .last .1 .1 .1 .1 .1 .1 .0) (statement .ensures)) (c .refused-at .ensures)
+    let words = languageIn (args .two) (args .reserved .now) (args .currencies .now) (args .counters .now) in
+    all-refused words (args .s .now) _ _ (at-loop .loop .inv .2) (at-if1 .if1 .left) (statement .result) (c .refused-at .result) (statement .last .1 .1 .1 .1 .1 .1 .1 .0) _ _ _ _ (c .before .enum-told .given .1) (meets-at words (args .s .now) _ _ (at-loop .loop .inv .2) (at-rebased .rebased .ensures) (statement .result) (statement .last .1 .1 .1 .1 .1 .1 .1 .0) (statement .ensures)) (c .refused-at .ensures)
 
 latest-of-requires : tie.Need-latest-of-requires Inv-loop μ-loop
 latest-of-requires c κs = search needs
 
-cast-t29 : tie.Need-cast-t29 Inv-loop μ-loop
-cast-t29 c =
+cast-t30 : tie.Need-cast-t30 Inv-loop μ-loop
+cast-t30 c =
     let at-loop = c .before .before .before .before .before .before .before .before .before .before .before .before .before .before .before in
     let args = at-loop .before .before .before .before .before .before .before .before .args in
-    omega (arith, part-in (wordsIn (args .reserved .now) (args .currencies .now) (args .counters .now)) (args .s .now) _ _ (at-loop .loop .inv .2), at-loop .loop .inv .2 .short)
+    omega (arith, part-in (languageIn (args .two) (args .reserved .now) (args .currencies .now) (args .counters .now)) (args .s .now) _ _ (at-loop .loop .inv .2), at-loop .loop .inv .2 .short)
 
-cast-t18 : tie.Need-cast-t18 Inv-loop μ-loop
-cast-t18 c = search needs
+cast-t19 : tie.Need-cast-t19 Inv-loop μ-loop
+cast-t19 c = search needs
 
-add-t30 : tie.Need-add-t30 Inv-loop μ-loop
-add-t30 c =
+add-t31 : tie.Need-add-t31 Inv-loop μ-loop
+add-t31 c =
     let at-loop = c .before .before .before .before .before .before .before .before .before .before .before .before .before .before .before .before in
     let args = at-loop .before .before .before .before .before .before .before .before .args in
-    omega (arith, part-in (wordsIn (args .reserved .now) (args .currencies .now) (args .counters .now)) (args .s .now) _ _ (at-loop .loop .inv .2), at-loop .loop .inv .2 .short)
+    omega (arith, part-in (languageIn (args .two) (args .reserved .now) (args .currencies .now) (args .counters .now)) (args .s .now) _ _ (at-loop .loop .inv .2), at-loop .loop .inv .2 .short)
 
-cast-t31 : tie.Need-cast-t31 Inv-loop μ-loop
-cast-t31 c =
+cast-t32 : tie.Need-cast-t32 Inv-loop μ-loop
+cast-t32 c =
     let at-loop = c .before .before .before .before .before .before .before .before .before .before .before .before .before .before .before .before in
     let args = at-loop .before .before .before .before .before .before .before .before .args in
-    omega (arith, part-in (wordsIn (args .reserved .now) (args .currencies .now) (args .counters .now)) (args .s .now) _ _ (at-loop .loop .inv .2), at-loop .loop .inv .2 .short)
+    omega (arith, part-in (languageIn (args .two) (args .reserved .now) (args .currencies .now) (args .counters .now)) (args .s .now) _ _ (at-loop .loop .inv .2), at-loop .loop .inv .2 .short)
 
-sub-t32 : tie.Need-sub-t32 Inv-loop μ-loop
-sub-t32 c =
+sub-t33 : tie.Need-sub-t33 Inv-loop μ-loop
+sub-t33 c =
     let at-r = c .before .before .before .before .before in
     let at-statement = at-r .before .before .before .before in
     let at-rebased = at-statement .before .before .before in
@@ -139,11 +139,14 @@ sub-t32 c =
     let at-loop = at-if1 .before .before in
     let args = at-loop .before .before .before .before .before .before .before .before .args in
     let statement = at-statement .statement in
-    let words = wordsIn (args .reserved .now) (args .currencies .now) (args .counters .now) in
-    omega (arith, chain-numbers words (args .s .now) _ _ (at-loop .loop .inv .2) (at-if1 .if1 .left) (done-reads _ _ _ _ _ _ _ _ _ (at-r .r .given .1) (meets-at words (args .s .now) _ _ (at-loop .loop .inv .2) (at-rebased .rebased .ensures) (statement .result) (statement .last .1 .1 .1 .1 .1 .1 .0) (statement .ensures))))
+    let words = languageIn (args .two) (args .reserved .now) (args .currencies .now) (args .counters .now) in
+    omega (arith, chain-numbers words (args .s .now) _ _ (at-loop .loop .inv .2) (at-if1 .if1 .left) (done-reads _ _ _ _ _ _ _ _ _ (at-r .r .given .1) (meets-at words (args .s .now) _ _ (at-loop .loop .inv .2) (at-rebased .rebased .ensures) (statement .result) (statement .last .1 .1 .1 .1 .1 .1 .1 .0) (statement .ensures))))
 
-cast-t33 : tie.Need-cast-t33 Inv-loop μ-loop
-cast-t33 c = search needs
+cast-t34 : tie.Need-cast-t34 Inv-loop μ-loop
+cast-t34 c =
+    let at-loop = c .before .before .before .before .before .before .before .before .before .before .before .before .before .before .before .before .before in
+    let args = at-loop .before .before .before .before .before .before .before .before .args in
+    omega (arith, part-in (languageIn (args .two) (args .reserved .now) (args .currencies .now) (args .counters .now)) (args .s .now) _ _ (at-loop .loop .inv .2), at-loop .loop .inv .2 .short)
 
 put-entry-requires : tie.Need-put-entry-requires Inv-loop μ-loop
 put-entry-requires c κs = search needs
@@ -165,8 +168,8 @@ loop-less c =
     let at-loop = at-if1 .before .before in
     let args = at-loop .before .before .before .before .before .before .before .before .args in
     let statement = at-statement .statement in
-    let words = wordsIn (args .reserved .now) (args .currencies .now) (args .counters .now) in
-    chain-less words (args .s .now) _ _ (at-loop .loop .inv .2) (at-if1 .if1 .left) (done-reads _ _ _ _ _ _ _ _ _ (at-r .r .given .1) (meets-at words (args .s .now) _ _ (at-loop .loop .inv .2) (at-rebased .rebased .ensures) (statement .result) (statement .last .1 .1 .1 .1 .1 .1 .0) (statement .ensures)))
+    let words = languageIn (args .two) (args .reserved .now) (args .currencies .now) (args .counters .now) in
+    chain-less words (args .s .now) _ _ (at-loop .loop .inv .2) (at-if1 .if1 .left) (done-reads _ _ _ _ _ _ _ _ _ (at-r .r .given .1) (meets-at words (args .s .now) _ _ (at-loop .loop .inv .2) (at-rebased .rebased .ensures) (statement .result) (statement .last .1 .1 .1 .1 .1 .1 .1 .0) (statement .ensures)))
 
 loop-again : tie.Need-loop-again Inv-loop μ-loop
 loop-again c =
@@ -180,8 +183,8 @@ loop-again c =
     let statement = at-statement .statement in
     let loop = at-loop .loop in
     let args = at-loop .before .before .before .before .before .before .before .before .args in
-    let words = wordsIn (args .reserved .now) (args .currencies .now) (args .counters .now) in
-    (statement .kept .1 .1 .1 .1 .1 .1 .0 ∙ loop .inv .0, at-put-entry .put-entry .kept .0 ∙ loop .inv .1, chain-next words (args .s .now) _ _ (loop .inv .2) (at-if1 .if1 .left) (done-reads _ _ _ _ _ _ _ _ _ (at-r .r .given .1) (meets-at words (args .s .now) _ _ (loop .inv .2) (at-rebased .rebased .ensures) (statement .result) (statement .last .1 .1 .1 .1 .1 .1 .0) (statement .ensures))) (loop .inv .0) (at-latest-of .latest-of .ensures) (at-put-entry .put-entry .ensures) (c .later .ensures))
+    let words = languageIn (args .two) (args .reserved .now) (args .currencies .now) (args .counters .now) in
+    (statement .kept .1 .1 .1 .1 .1 .1 .1 .0 ∙ loop .inv .0, at-put-entry .put-entry .kept .0 ∙ loop .inv .1, chain-next words (args .s .now) _ _ (loop .inv .2) (at-if1 .if1 .left) (done-reads _ _ _ _ _ _ _ _ _ (at-r .r .given .1) (meets-at words (args .s .now) _ _ (loop .inv .2) (at-rebased .rebased .ensures) (statement .result) (statement .last .1 .1 .1 .1 .1 .1 .1 .0) (statement .ensures))) (loop .inv .0) (at-latest-of .latest-of .ensures) (at-put-entry .put-entry .ensures) (c .later .ensures))
 
 pub all-spec : {M : Type 1} → statement M
 all-spec =
@@ -208,12 +211,12 @@ all-spec =
     same-length-4
     returns-2
     latest-of-requires
-    cast-t29
-    cast-t18
-    add-t30
-    cast-t31
-    sub-t32
-    cast-t33
+    cast-t30
+    cast-t19
+    add-t31
+    cast-t32
+    sub-t33
+    cast-t34
     put-entry-requires
     later-requires
     add-k

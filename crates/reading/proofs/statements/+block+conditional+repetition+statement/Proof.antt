@@ -36,14 +36,14 @@ use lib.ListN.{length}
 use Rattle.grammar.specs.Trees.{nil}
 use Rattle.grammar.specs.Readers.{loop}
 use Rattle.grammar.specs.Grammar as G
-use Rattle.reading.specs.Meets.{wordsIn, toksAt}
+use Rattle.reading.specs.Meets.{languageIn, toksAt}
 use Rattle.grammar.proofs.SizeLaws.{statement-size}
 use Rattle.reading.proofs.HoldLaws.{start-in}
 use Rattle.reading.proofs.StepLaws.{done-reads, refused-on, meets-as, put-fields}
 use Rattle.reading.proofs.BodyLaws.{done-block, block-refusal-on, tree-refusal-on, head-is, head-refusal-on, statement-law, stat-name, stat-if, stat-for, stat-pays, stat-ended, BlockChain, block-unopened, block-opened, block-start, block-ready, block-exit, block-refused, block-numbers, block-less, block-next, bind-is, if-0, if-ready, if-refused, if-body-ready, if-body-refused, if-numbers, if-done, else-ready, else-refused, else-numbers, else-done, for-0, for-head-refused, for-ready, for-refused, for-body-ready, for-body-refused, for-numbers, for-done}
 
 abbrev μ-block : Measures 5 block-kinds.ps ℕ
-μ-block κs a = 8 * (a .1 .1 .1 .1 .1 .0) + 4
+μ-block κs a = 8 * (a .1 .1 .1 .1 .1 .1 .0) + 4
 
 abbrev μ-conditional : Measures 5 conditional-kinds.ps ℕ
 μ-conditional κs a = 8 * (a .1 .1 .1 .1 .1 .1 .0) + 2
@@ -52,7 +52,7 @@ abbrev μ-repetition : Measures 5 repetition-kinds.ps ℕ
 μ-repetition κs a = 8 * (a .1 .1 .1 .1 .1 .1 .0) + 2
 
 abbrev μ-statement : Measures 5 statement-kinds.ps ℕ
-μ-statement κs a = 8 * (a .1 .1 .1 .1 .1 .0) + 3
+μ-statement κs a = 8 * (a .1 .1 .1 .1 .1 .1 .0) + 3
 
 abbrev block-at : ℕ → In 5 block-kinds.ps
 block-at t = and 5 block-kinds.ps (is 5 block-kinds.ps μ-block t) block.Pre
@@ -84,10 +84,10 @@ statement-below t =
     and 5 statement-kinds.ps (falls 5 statement-kinds.ps _<_ μ-statement t) statement′.Pre
 
 abbrev block-Inv-loop : block-lts.InvT-loop
-block-Inv-loop s reserved currencies counters depth out₀ n at₀ m₀ count₀ out at m count = (length out ≡ length out₀) × BlockChain (G.statement (wordsIn reserved currencies counters) depth) s (loop (G.blockTurn (G.statement (wordsIn reserved currencies counters) depth)) nil (toksAt s (at₀ .start))) n out₀ at m count out
+block-Inv-loop s two reserved currencies counters depth out₀ n at₀ m₀ count₀ out at m count = (length out ≡ length out₀) × BlockChain (G.statement (languageIn two reserved currencies counters) depth) s (loop (G.blockTurn (G.statement (languageIn two reserved currencies counters) depth)) nil (toksAt s (at₀ .start))) n out₀ at m count out
 
 abbrev block-μ-loop : block-lts.MeasureT-loop
-block-μ-loop s reserved currencies counters depth out₀ n at₀ m₀ count₀ out at m count = length (toksAt s (at .start))
+block-μ-loop s two reserved currencies counters depth out₀ n at₀ m₀ count₀ out at m count = length (toksAt s (at .start))
 
 block-take-requires : (t : ℕ) → block-lts.Need-take-requires (
   take-reads.Asked,
@@ -139,7 +139,7 @@ block-returns t c =
     let at-take = c .before .before in
     let start = at-take .before .before .before .before .before .before in
     let args = start .args in
-    let words = wordsIn (args .reserved .now) (args .currencies .now) (args .counters .now) in
+    let words = languageIn (args .two) (args .reserved .now) (args .currencies .now) (args .counters .now) in
     block-unopened (G.statement words (args .depth)) (statement-law words (args .depth)) (statement-size words (args .depth)) (args .s .now) (args .c) (start .pre .1 .0 .0) (at-take .take .result) _ (c .enum-told .given .1) (at-take .take .ensures)
 
 block-loop-holds : (t : ℕ) → block-lts.Need-loop-holds (
@@ -156,7 +156,7 @@ block-loop-holds t c =
     let at-take = c .before .before .before in
     let start = at-take .before .before .before .before .before .before in
     let args = start .args in
-    let words = wordsIn (args .reserved .now) (args .currencies .now) (args .counters .now) in
+    let words = languageIn (args .two) (args .reserved .now) (args .currencies .now) (args .counters .now) in
     (refl, block-start (G.statement words (args .depth)) (statement-law words (args .depth)) (statement-size words (args .depth)) (args .s .now) (args .c) (start .pre .1 .0 .0) (at-take .take .result) (c .before .d .given .0 .0) (c .before .d .given .1) (at-take .take .ensures) _ _ (start .pre .1 .0 .1))
 
 block-next-requires : (t : ℕ) → block-lts.Need-next-requires (
@@ -199,7 +199,7 @@ block-returns-2 t c =
     let at-take = at-d .before .before in
     let start = at-take .before .before .before .before .before .before in
     let args = start .args in
-    let words = wordsIn (args .reserved .now) (args .currencies .now) (args .counters .now) in
+    let words = languageIn (args .two) (args .reserved .now) (args .currencies .now) (args .counters .now) in
     let reader = G.statement words (args .depth) in
     let reader-sized = statement-size words (args .depth) in
     let reader-law = statement-law words (args .depth) in
@@ -219,7 +219,7 @@ block-statement-requires t c κs =
     let at-loop = c .before .before .before in
     let start = at-loop .before .before .before .before .before .before .before .before .before .before in
     let args = start .args in
-    let words = wordsIn (args .reserved .now) (args .currencies .now) (args .counters .now) in
+    let words = languageIn (args .two) (args .reserved .now) (args .currencies .now) (args .counters .now) in
     (omega (arith, start .pre .0), (block-ready (G.statement words (args .depth)) (statement-law words (args .depth)) (statement-size words (args .depth)) (args .s .now) _ _ _ _ _ _ _ (at-loop .loop .inv .1), start .pre .1 .1))
 
 block-enum-known-r : (t : ℕ) → block-lts.Need-enum-known-r (
@@ -270,7 +270,7 @@ block-same-length-2 : (t : ℕ) → block-lts.Need-same-length-2 (
 ) (block-at t) block.Post block-Inv-loop block-μ-loop
 block-same-length-2 t c =
     let at-statement = c .before .before .before .before .before in
-    at-statement .statement .kept .1 .1 .1 .1 .1 .1 .0 ∙ at-statement .before .before .before .before .loop .inv .0
+    at-statement .statement .kept .1 .1 .1 .1 .1 .1 .1 .0 ∙ at-statement .before .before .before .before .loop .inv .0
 
 block-returns-3 : (t : ℕ) → block-lts.Need-returns-3 (
   take-reads.Asked,
@@ -290,7 +290,7 @@ block-returns-3 t c =
     let at-take = at-d .before .before in
     let start = at-take .before .before .before .before .before .before in
     let args = start .args in
-    let words = wordsIn (args .reserved .now) (args .currencies .now) (args .counters .now) in
+    let words = languageIn (args .two) (args .reserved .now) (args .currencies .now) (args .counters .now) in
     let reader = G.statement words (args .depth) in
     let reader-sized = statement-size words (args .depth) in
     let reader-law = statement-law words (args .depth) in
@@ -311,7 +311,7 @@ block-add-count t c =
     let at-if1 = at-statement .before .before in
     let at-loop = at-if1 .before .before in
     let args = at-loop .before .before .before .before .before .before .before .before .before .before .args in
-    let words = wordsIn (args .reserved .now) (args .currencies .now) (args .counters .now) in
+    let words = languageIn (args .two) (args .reserved .now) (args .currencies .now) (args .counters .now) in
     omega (arith, block-numbers (G.statement words (args .depth)) (statement-law words (args .depth)) (statement-size words (args .depth)) (args .s .now) _ _ _ _ _ _ _ (at-loop .loop .inv .1) (at-if1 .if1 .left) _ _ _ _ (done-reads _ _ _ _ _ _ _ _ _ (c .before .r .given .1) (at-statement .statement .ensures)))
 
 block-loop-less : (t : ℕ) → block-lts.Need-loop-less (
@@ -329,7 +329,7 @@ block-loop-less t c =
     let at-if1 = at-statement .before .before in
     let at-loop = at-if1 .before .before in
     let args = at-loop .before .before .before .before .before .before .before .before .before .before .args in
-    let words = wordsIn (args .reserved .now) (args .currencies .now) (args .counters .now) in
+    let words = languageIn (args .two) (args .reserved .now) (args .currencies .now) (args .counters .now) in
     block-less (G.statement words (args .depth)) (statement-law words (args .depth)) (statement-size words (args .depth)) (args .s .now) _ _ _ _ _ _ _ (at-loop .loop .inv .1) (at-if1 .if1 .left) _ _ _ _ (done-reads _ _ _ _ _ _ _ _ _ (c .before .r .given .1) (at-statement .statement .ensures))
 
 block-loop-again : (t : ℕ) → block-lts.Need-loop-again (
@@ -347,10 +347,28 @@ block-loop-again t c =
     let at-if1 = at-statement .before .before in
     let at-loop = at-if1 .before .before in
     let args = at-loop .before .before .before .before .before .before .before .before .before .before .args in
-    let words = wordsIn (args .reserved .now) (args .currencies .now) (args .counters .now) in
-    (at-statement .statement .kept .1 .1 .1 .1 .1 .1 .0 ∙ at-loop .loop .inv .0, block-next (G.statement words (args .depth)) (statement-law words (args .depth)) (statement-size words (args .depth)) (args .s .now) _ _ _ _ _ _ _ (at-loop .loop .inv .1) (at-if1 .if1 .left) _ _ _ _ (done-reads _ _ _ _ _ _ _ _ _ (c .before .r .given .1) (at-statement .statement .ensures)))
+    let words = languageIn (args .two) (args .reserved .now) (args .currencies .now) (args .counters .now) in
+    (at-statement .statement .kept .1 .1 .1 .1 .1 .1 .1 .0 ∙ at-loop .loop .inv .0, block-next (G.statement words (args .depth)) (statement-law words (args .depth)) (statement-size words (args .depth)) (args .s .now) _ _ _ _ _ _ _ (at-loop .loop .inv .1) (at-if1 .if1 .left) _ _ _ _ (done-reads _ _ _ _ _ _ _ _ _ (c .before .r .given .1) (at-statement .statement .ensures)))
+
+conditional-next-requires : (t : ℕ) → conditional-lts.Need-next-requires (
+  next-reads.Asked,
+  next-reads.Learnt,
+  expression-reads.Asked,
+  expression-reads.Learnt,
+  block-below t,
+  block.Post,
+  block-refusal-reads.Asked,
+  block-refusal-reads.Learnt,
+  branch-reads.Asked,
+  branch-reads.Learnt,
+  put-reads.Asked,
+  put-reads.Learnt,
+) (conditional-at t) conditional.Post
+conditional-next-requires t c κs = c .before .before .before .before .before .pre .1 .0 .0
 
 conditional-returns : (t : ℕ) → conditional-lts.Need-returns (
+  next-reads.Asked,
+  next-reads.Learnt,
   expression-reads.Asked,
   expression-reads.Learnt,
   block-below t,
@@ -361,15 +379,15 @@ conditional-returns : (t : ℕ) → conditional-lts.Need-returns (
   branch-reads.Learnt,
   put-reads.Asked,
   put-reads.Learnt,
-  next-reads.Asked,
-  next-reads.Learnt,
 ) (conditional-at t) conditional.Post
 conditional-returns t c =
-    let start = c .before .before .before .before .before .before in
+    let start = c .before .before .before .before .before .before .before in
     let args = start .args in
-    if-0 (wordsIn (args .reserved .now) (args .currencies .now) (args .counters .now)) (args .depth) (args .s .now) (args .c) (args .d) (start .pre .1 .1) (start .pre .1 .2) (c .if1 .taken)
+    if-0 (languageIn (args .two) (args .reserved .now) (args .currencies .now) (args .counters .now)) (args .depth) (args .s .now) (args .c) (c .before .next .result) (c .before .next .ensures) (start .pre .1 .1) (c .if1 .taken)
 
 conditional-sub-expression : (t : ℕ) → conditional-lts.Need-sub-expression (
+  next-reads.Asked,
+  next-reads.Learnt,
   expression-reads.Asked,
   expression-reads.Learnt,
   block-below t,
@@ -380,12 +398,12 @@ conditional-sub-expression : (t : ℕ) → conditional-lts.Need-sub-expression (
   branch-reads.Learnt,
   put-reads.Asked,
   put-reads.Learnt,
-  next-reads.Asked,
-  next-reads.Learnt,
 ) (conditional-at t) conditional.Post
 conditional-sub-expression t c = omega (arith, c .if1 .left)
 
 conditional-expression-requires : (t : ℕ) → conditional-lts.Need-expression-requires (
+  next-reads.Asked,
+  next-reads.Learnt,
   expression-reads.Asked,
   expression-reads.Learnt,
   block-below t,
@@ -396,16 +414,17 @@ conditional-expression-requires : (t : ℕ) → conditional-lts.Need-expression-
   branch-reads.Learnt,
   put-reads.Asked,
   put-reads.Learnt,
-  next-reads.Asked,
-  next-reads.Learnt,
 ) (conditional-at t) conditional.Post
 conditional-expression-requires t c κs =
-    let start = c .before .before .before .before .before .before .before in
+    let at-next = c .before .before in
+    let start = at-next .before .before .before .before .before .before in
     let args = start .args in
     let pre = start .pre in
-    (if-ready (wordsIn (args .reserved .now) (args .currencies .now) (args .counters .now)) (args .depth) (args .s .now) (args .c) (args .d) (pre .1 .1) (pre .1 .2) _ (pre .1 .0 .1), pre .1 .3)
+    (if-ready (languageIn (args .two) (args .reserved .now) (args .currencies .now) (args .counters .now)) (args .depth) (args .s .now) (args .c) (at-next .next .result) (at-next .next .ensures) (pre .1 .1) _ (pre .1 .0 .1), pre .1 .2)
 
 conditional-enum-known-r : (t : ℕ) → conditional-lts.Need-enum-known-r (
+  next-reads.Asked,
+  next-reads.Learnt,
   expression-reads.Asked,
   expression-reads.Learnt,
   block-below t,
@@ -416,12 +435,12 @@ conditional-enum-known-r : (t : ℕ) → conditional-lts.Need-enum-known-r (
   branch-reads.Learnt,
   put-reads.Asked,
   put-reads.Learnt,
-  next-reads.Asked,
-  next-reads.Learnt,
 ) (conditional-at t) conditional.Post
 conditional-enum-known-r t c = search needs
 
 conditional-enum-told : (t : ℕ) → conditional-lts.Need-enum-told (
+  next-reads.Asked,
+  next-reads.Learnt,
   expression-reads.Asked,
   expression-reads.Learnt,
   block-below t,
@@ -432,12 +451,12 @@ conditional-enum-told : (t : ℕ) → conditional-lts.Need-enum-told (
   branch-reads.Learnt,
   put-reads.Asked,
   put-reads.Learnt,
-  next-reads.Asked,
-  next-reads.Learnt,
 ) (conditional-at t) conditional.Post
 conditional-enum-told t c = search needs
 
 conditional-same-length : (t : ℕ) → conditional-lts.Need-same-length (
+  next-reads.Asked,
+  next-reads.Learnt,
   expression-reads.Asked,
   expression-reads.Learnt,
   block-below t,
@@ -448,12 +467,12 @@ conditional-same-length : (t : ℕ) → conditional-lts.Need-same-length (
   branch-reads.Learnt,
   put-reads.Asked,
   put-reads.Learnt,
-  next-reads.Asked,
-  next-reads.Learnt,
 ) (conditional-at t) conditional.Post
-conditional-same-length t c = c .before .before .before .before .expression .kept .1 .1 .1 .1 .1 .1 .0
+conditional-same-length t c = c .before .before .before .before .expression .kept .1 .1 .1 .1 .1 .1 .1 .1 .0
 
 conditional-returns-2 : (t : ℕ) → conditional-lts.Need-returns-2 (
+  next-reads.Asked,
+  next-reads.Learnt,
   expression-reads.Asked,
   expression-reads.Learnt,
   block-below t,
@@ -464,17 +483,17 @@ conditional-returns-2 : (t : ℕ) → conditional-lts.Need-returns-2 (
   branch-reads.Learnt,
   put-reads.Asked,
   put-reads.Learnt,
-  next-reads.Asked,
-  next-reads.Learnt,
 ) (conditional-at t) conditional.Post
 conditional-returns-2 t c =
     let at-expression = c .before .before .before .before in
     let at-if1 = at-expression .before .before in
-    let start = at-if1 .before .before .before .before .before .before in
+    let start = at-if1 .before .before .before .before .before .before .before in
     let args = start .args in
-    refused-on _ _ _ _ _ _ _ _ _ _ _ _ (c .enum-told .given .1) (at-expression .expression .ensures) (if-refused (wordsIn (args .reserved .now) (args .currencies .now) (args .counters .now)) (args .depth) (args .s .now) (args .c) (args .d) (start .pre .1 .1) (start .pre .1 .2) (at-if1 .if1 .left) _ _)
+    refused-on _ _ _ _ _ _ _ _ _ _ _ _ (c .enum-told .given .1) (at-expression .expression .ensures) (if-refused (languageIn (args .two) (args .reserved .now) (args .currencies .now) (args .counters .now)) (args .depth) (args .s .now) (args .c) (at-if1 .before .next .result) (at-if1 .before .next .ensures) (start .pre .1 .1) (at-if1 .if1 .left) _ _)
 
 conditional-sub-block : (t : ℕ) → conditional-lts.Need-sub-block (
+  next-reads.Asked,
+  next-reads.Learnt,
   expression-reads.Asked,
   expression-reads.Learnt,
   block-below t,
@@ -485,12 +504,12 @@ conditional-sub-block : (t : ℕ) → conditional-lts.Need-sub-block (
   branch-reads.Learnt,
   put-reads.Asked,
   put-reads.Learnt,
-  next-reads.Asked,
-  next-reads.Learnt,
 ) (conditional-at t) conditional.Post
 conditional-sub-block t c = omega (arith, c .before .before .before .before .before .before .before .if1 .left)
 
 conditional-block-requires : (t : ℕ) → conditional-lts.Need-block-requires (
+  next-reads.Asked,
+  next-reads.Learnt,
   expression-reads.Asked,
   expression-reads.Learnt,
   block-below t,
@@ -501,19 +520,19 @@ conditional-block-requires : (t : ℕ) → conditional-lts.Need-block-requires (
   branch-reads.Learnt,
   put-reads.Asked,
   put-reads.Learnt,
-  next-reads.Asked,
-  next-reads.Learnt,
 ) (conditional-at t) conditional.Post
 conditional-block-requires t c κs =
     let at-r = c .before .before in
     let at-expression = at-r .before .before .before .before in
     let at-if1 = at-expression .before .before in
-    let start = at-if1 .before .before .before .before .before .before in
+    let start = at-if1 .before .before .before .before .before .before .before in
     let pre = start .pre in
     let args = start .args in
-    (omega (arith, pre .0, at-if1 .if1 .left), (if-body-ready (wordsIn (args .reserved .now) (args .currencies .now) (args .counters .now)) (args .depth) (args .s .now) (args .c) (args .d) (pre .1 .1) (pre .1 .2) (at-if1 .if1 .left) _ (pre .1 .0 .1) _ _ _ _ _ (done-reads _ _ _ _ _ _ _ _ _ (at-r .r .given .1) (at-expression .expression .ensures)), pre .1 .3))
+    (omega (arith, pre .0, at-if1 .if1 .left), (if-body-ready (languageIn (args .two) (args .reserved .now) (args .currencies .now) (args .counters .now)) (args .depth) (args .s .now) (args .c) (at-if1 .before .next .result) (at-if1 .before .next .ensures) (pre .1 .1) (at-if1 .if1 .left) _ (pre .1 .0 .1) _ _ _ _ _ (done-reads _ _ _ _ _ _ _ _ _ (at-r .r .given .1) (at-expression .expression .ensures)), pre .1 .2))
 
 conditional-enum-known-q : (t : ℕ) → conditional-lts.Need-enum-known-q (
+  next-reads.Asked,
+  next-reads.Learnt,
   expression-reads.Asked,
   expression-reads.Learnt,
   block-below t,
@@ -524,12 +543,12 @@ conditional-enum-known-q : (t : ℕ) → conditional-lts.Need-enum-known-q (
   branch-reads.Learnt,
   put-reads.Asked,
   put-reads.Learnt,
-  next-reads.Asked,
-  next-reads.Learnt,
 ) (conditional-at t) conditional.Post
 conditional-enum-known-q t c = search needs
 
 conditional-enum-told-2 : (t : ℕ) → conditional-lts.Need-enum-told-2 (
+  next-reads.Asked,
+  next-reads.Learnt,
   expression-reads.Asked,
   expression-reads.Learnt,
   block-below t,
@@ -540,12 +559,12 @@ conditional-enum-told-2 : (t : ℕ) → conditional-lts.Need-enum-told-2 (
   branch-reads.Learnt,
   put-reads.Asked,
   put-reads.Learnt,
-  next-reads.Asked,
-  next-reads.Learnt,
 ) (conditional-at t) conditional.Post
 conditional-enum-told-2 t c = search needs
 
 conditional-block-refusal-requires : (t : ℕ) → conditional-lts.Need-block-refusal-requires (
+  next-reads.Asked,
+  next-reads.Learnt,
   expression-reads.Asked,
   expression-reads.Learnt,
   block-below t,
@@ -556,12 +575,12 @@ conditional-block-refusal-requires : (t : ℕ) → conditional-lts.Need-block-re
   branch-reads.Learnt,
   put-reads.Asked,
   put-reads.Learnt,
-  next-reads.Asked,
-  next-reads.Learnt,
 ) (conditional-at t) conditional.Post
 conditional-block-refusal-requires t c κs = search needs
 
 conditional-same-length-2 : (t : ℕ) → conditional-lts.Need-same-length-2 (
+  next-reads.Asked,
+  next-reads.Learnt,
   expression-reads.Asked,
   expression-reads.Learnt,
   block-below t,
@@ -572,14 +591,14 @@ conditional-same-length-2 : (t : ℕ) → conditional-lts.Need-same-length-2 (
   branch-reads.Learnt,
   put-reads.Asked,
   put-reads.Learnt,
-  next-reads.Asked,
-  next-reads.Learnt,
 ) (conditional-at t) conditional.Post
 conditional-same-length-2 t c =
     let at-block = c .before .before .before .before .before in
-    at-block .block .kept .1 .1 .1 .1 .1 .1 .0 ∙ at-block .before .before .before .before .before .before .before .expression .kept .1 .1 .1 .1 .1 .1 .0
+    at-block .block .kept .1 .1 .1 .1 .1 .1 .1 .0 ∙ at-block .before .before .before .before .before .before .before .expression .kept .1 .1 .1 .1 .1 .1 .1 .1 .0
 
 conditional-returns-3 : (t : ℕ) → conditional-lts.Need-returns-3 (
+  next-reads.Asked,
+  next-reads.Learnt,
   expression-reads.Asked,
   expression-reads.Learnt,
   block-below t,
@@ -590,20 +609,19 @@ conditional-returns-3 : (t : ℕ) → conditional-lts.Need-returns-3 (
   branch-reads.Learnt,
   put-reads.Asked,
   put-reads.Learnt,
-  next-reads.Asked,
-  next-reads.Learnt,
 ) (conditional-at t) conditional.Post
 conditional-returns-3 t c =
     let at-block = c .before .before .before .before .before in
     let at-r = at-block .before .before .before in
     let at-expression = at-r .before .before .before .before in
     let at-if1 = at-expression .before .before in
-    let start = at-if1 .before .before .before .before .before .before in
+    let start = at-if1 .before .before .before .before .before .before .before in
     let args = start .args in
-    let pre = start .pre in
-    block-refusal-on _ _ _ _ _ _ (c .block-refusal .result) _ _ _ _ _ _ (c .before .enum-told2 .given .1) (at-block .block .ensures) (c .block-refusal .ensures) (if-body-refused (wordsIn (args .reserved .now) (args .currencies .now) (args .counters .now)) (args .depth) (args .s .now) (args .c) (args .d) (pre .1 .1) (pre .1 .2) (at-if1 .if1 .left) _ (pre .1 .0 .1) _ _ _ _ _ (done-reads _ _ _ _ _ _ _ _ _ (at-r .r .given .1) (at-expression .expression .ensures)) _ _)
+    block-refusal-on _ _ _ _ _ _ (c .block-refusal .result) _ _ _ _ _ _ (c .before .enum-told2 .given .1) (at-block .block .ensures) (c .block-refusal .ensures) (if-body-refused (languageIn (args .two) (args .reserved .now) (args .currencies .now) (args .counters .now)) (args .depth) (args .s .now) (args .c) (at-if1 .before .next .result) (at-if1 .before .next .ensures) (start .pre .1 .1) (at-if1 .if1 .left) _ (start .pre .1 .0 .1) _ _ _ _ _ (done-reads _ _ _ _ _ _ _ _ _ (at-r .r .given .1) (at-expression .expression .ensures)) _ _)
 
 conditional-sub-branch : (t : ℕ) → conditional-lts.Need-sub-branch (
+  next-reads.Asked,
+  next-reads.Learnt,
   expression-reads.Asked,
   expression-reads.Learnt,
   block-below t,
@@ -614,8 +632,6 @@ conditional-sub-branch : (t : ℕ) → conditional-lts.Need-sub-branch (
   branch-reads.Learnt,
   put-reads.Asked,
   put-reads.Learnt,
-  next-reads.Asked,
-  next-reads.Learnt,
 ) (conditional-at t) conditional.Post
 conditional-sub-branch t c =
     let at-q = c .before .before .before .before in
@@ -623,12 +639,13 @@ conditional-sub-branch t c =
     let at-r = at-block .before .before .before in
     let at-expression = at-r .before .before .before .before in
     let at-if1 = at-expression .before .before in
-    let start = at-if1 .before .before .before .before .before .before in
+    let start = at-if1 .before .before .before .before .before .before .before in
     let args = start .args in
-    let pre = start .pre in
-    omega (arith, if-numbers (wordsIn (args .reserved .now) (args .currencies .now) (args .counters .now)) (args .depth) (args .s .now) (args .c) (args .d) (pre .1 .1) (pre .1 .2) (at-if1 .if1 .left) _ (pre .1 .0 .1) _ _ _ _ _ (done-reads _ _ _ _ _ _ _ _ _ (at-r .r .given .1) (at-expression .expression .ensures)) _ _ _ _ (done-block _ _ _ _ _ _ _ _ _ (at-q .q .given .1) (at-block .block .ensures)))
+    omega (arith, if-numbers (languageIn (args .two) (args .reserved .now) (args .currencies .now) (args .counters .now)) (args .depth) (args .s .now) (args .c) (at-if1 .before .next .result) (at-if1 .before .next .ensures) (start .pre .1 .1) (at-if1 .if1 .left) _ (start .pre .1 .0 .1) _ _ _ _ _ (done-reads _ _ _ _ _ _ _ _ _ (at-r .r .given .1) (at-expression .expression .ensures)) _ _ _ _ (done-block _ _ _ _ _ _ _ _ _ (at-q .q .given .1) (at-block .block .ensures)))
 
 conditional-add-branch : (t : ℕ) → conditional-lts.Need-add-branch (
+  next-reads.Asked,
+  next-reads.Learnt,
   expression-reads.Asked,
   expression-reads.Learnt,
   block-below t,
@@ -639,8 +656,6 @@ conditional-add-branch : (t : ℕ) → conditional-lts.Need-add-branch (
   branch-reads.Learnt,
   put-reads.Asked,
   put-reads.Learnt,
-  next-reads.Asked,
-  next-reads.Learnt,
 ) (conditional-at t) conditional.Post
 conditional-add-branch t c =
     let at-q = c .before .before .before .before in
@@ -648,12 +663,13 @@ conditional-add-branch t c =
     let at-r = at-block .before .before .before in
     let at-expression = at-r .before .before .before .before in
     let at-if1 = at-expression .before .before in
-    let start = at-if1 .before .before .before .before .before .before in
+    let start = at-if1 .before .before .before .before .before .before .before in
     let args = start .args in
-    let pre = start .pre in
-    omega (arith, if-numbers (wordsIn (args .reserved .now) (args .currencies .now) (args .counters .now)) (args .depth) (args .s .now) (args .c) (args .d) (pre .1 .1) (pre .1 .2) (at-if1 .if1 .left) _ (pre .1 .0 .1) _ _ _ _ _ (done-reads _ _ _ _ _ _ _ _ _ (at-r .r .given .1) (at-expression .expression .ensures)) _ _ _ _ (done-block _ _ _ _ _ _ _ _ _ (at-q .q .given .1) (at-block .block .ensures)))
+    omega (arith, if-numbers (languageIn (args .two) (args .reserved .now) (args .currencies .now) (args .counters .now)) (args .depth) (args .s .now) (args .c) (at-if1 .before .next .result) (at-if1 .before .next .ensures) (start .pre .1 .1) (at-if1 .if1 .left) _ (start .pre .1 .0 .1) _ _ _ _ _ (done-reads _ _ _ _ _ _ _ _ _ (at-r .r .given .1) (at-expression .expression .ensures)) _ _ _ _ (done-block _ _ _ _ _ _ _ _ _ (at-q .q .given .1) (at-block .block .ensures)))
 
 conditional-add-branch-2 : (t : ℕ) → conditional-lts.Need-add-branch-2 (
+  next-reads.Asked,
+  next-reads.Learnt,
   expression-reads.Asked,
   expression-reads.Learnt,
   block-below t,
@@ -664,8 +680,6 @@ conditional-add-branch-2 : (t : ℕ) → conditional-lts.Need-add-branch-2 (
   branch-reads.Learnt,
   put-reads.Asked,
   put-reads.Learnt,
-  next-reads.Asked,
-  next-reads.Learnt,
 ) (conditional-at t) conditional.Post
 conditional-add-branch-2 t c =
     let at-q = c .before .before .before .before in
@@ -673,12 +687,13 @@ conditional-add-branch-2 t c =
     let at-r = at-block .before .before .before in
     let at-expression = at-r .before .before .before .before in
     let at-if1 = at-expression .before .before in
-    let start = at-if1 .before .before .before .before .before .before in
+    let start = at-if1 .before .before .before .before .before .before .before in
     let args = start .args in
-    let pre = start .pre in
-    omega (arith, if-numbers (wordsIn (args .reserved .now) (args .currencies .now) (args .counters .now)) (args .depth) (args .s .now) (args .c) (args .d) (pre .1 .1) (pre .1 .2) (at-if1 .if1 .left) _ (pre .1 .0 .1) _ _ _ _ _ (done-reads _ _ _ _ _ _ _ _ _ (at-r .r .given .1) (at-expression .expression .ensures)) _ _ _ _ (done-block _ _ _ _ _ _ _ _ _ (at-q .q .given .1) (at-block .block .ensures)))
+    omega (arith, if-numbers (languageIn (args .two) (args .reserved .now) (args .currencies .now) (args .counters .now)) (args .depth) (args .s .now) (args .c) (at-if1 .before .next .result) (at-if1 .before .next .ensures) (start .pre .1 .1) (at-if1 .if1 .left) _ (start .pre .1 .0 .1) _ _ _ _ _ (done-reads _ _ _ _ _ _ _ _ _ (at-r .r .given .1) (at-expression .expression .ensures)) _ _ _ _ (done-block _ _ _ _ _ _ _ _ _ (at-q .q .given .1) (at-block .block .ensures)))
 
 conditional-branch-requires : (t : ℕ) → conditional-lts.Need-branch-requires (
+  next-reads.Asked,
+  next-reads.Learnt,
   expression-reads.Asked,
   expression-reads.Learnt,
   block-below t,
@@ -689,12 +704,12 @@ conditional-branch-requires : (t : ℕ) → conditional-lts.Need-branch-requires
   branch-reads.Learnt,
   put-reads.Asked,
   put-reads.Learnt,
-  next-reads.Asked,
-  next-reads.Learnt,
 ) (conditional-at t) conditional.Post
 conditional-branch-requires t c κs = search needs
 
 conditional-put-requires : (t : ℕ) → conditional-lts.Need-put-requires (
+  next-reads.Asked,
+  next-reads.Learnt,
   expression-reads.Asked,
   expression-reads.Learnt,
   block-below t,
@@ -705,12 +720,12 @@ conditional-put-requires : (t : ℕ) → conditional-lts.Need-put-requires (
   branch-reads.Learnt,
   put-reads.Asked,
   put-reads.Learnt,
-  next-reads.Asked,
-  next-reads.Learnt,
 ) (conditional-at t) conditional.Post
 conditional-put-requires t c κs = search needs
 
-conditional-add-t31 : (t : ℕ) → conditional-lts.Need-add-t31 (
+conditional-add-t32 : (t : ℕ) → conditional-lts.Need-add-t32 (
+  next-reads.Asked,
+  next-reads.Learnt,
   expression-reads.Asked,
   expression-reads.Learnt,
   block-below t,
@@ -721,21 +736,20 @@ conditional-add-t31 : (t : ℕ) → conditional-lts.Need-add-t31 (
   branch-reads.Learnt,
   put-reads.Asked,
   put-reads.Learnt,
-  next-reads.Asked,
-  next-reads.Learnt,
 ) (conditional-at t) conditional.Post
-conditional-add-t31 t c =
+conditional-add-t32 t c =
     let at-q = c .before .before .before .before .before .before .before .before in
     let at-block = at-q .before .before .before .before in
     let at-r = at-block .before .before .before in
     let at-expression = at-r .before .before .before .before in
     let at-if1 = at-expression .before .before in
-    let start = at-if1 .before .before .before .before .before .before in
+    let start = at-if1 .before .before .before .before .before .before .before in
     let args = start .args in
-    let pre = start .pre in
-    omega (arith, if-numbers (wordsIn (args .reserved .now) (args .currencies .now) (args .counters .now)) (args .depth) (args .s .now) (args .c) (args .d) (pre .1 .1) (pre .1 .2) (at-if1 .if1 .left) _ (pre .1 .0 .1) _ _ _ _ _ (done-reads _ _ _ _ _ _ _ _ _ (at-r .r .given .1) (at-expression .expression .ensures)) _ _ _ _ (done-block _ _ _ _ _ _ _ _ _ (at-q .q .given .1) (at-block .block .ensures)))
+    omega (arith, if-numbers (languageIn (args .two) (args .reserved .now) (args .currencies .now) (args .counters .now)) (args .depth) (args .s .now) (args .c) (at-if1 .before .next .result) (at-if1 .before .next .ensures) (start .pre .1 .1) (at-if1 .if1 .left) _ (start .pre .1 .0 .1) _ _ _ _ _ (done-reads _ _ _ _ _ _ _ _ _ (at-r .r .given .1) (at-expression .expression .ensures)) _ _ _ _ (done-block _ _ _ _ _ _ _ _ _ (at-q .q .given .1) (at-block .block .ensures)))
 
 conditional-same-length-3 : (t : ℕ) → conditional-lts.Need-same-length-3 (
+  next-reads.Asked,
+  next-reads.Learnt,
   expression-reads.Asked,
   expression-reads.Learnt,
   block-below t,
@@ -746,15 +760,15 @@ conditional-same-length-3 : (t : ℕ) → conditional-lts.Need-same-length-3 (
   branch-reads.Learnt,
   put-reads.Asked,
   put-reads.Learnt,
-  next-reads.Asked,
-  next-reads.Learnt,
 ) (conditional-at t) conditional.Post
 conditional-same-length-3 t c =
     let at-put = c .before .before in
     let at-block = at-put .before .before .before .before .before .before .before .before .before .before in
-    at-put .put .kept .0 ∙ (at-block .block .kept .1 .1 .1 .1 .1 .1 .0 ∙ at-block .before .before .before .before .before .before .before .expression .kept .1 .1 .1 .1 .1 .1 .0)
+    at-put .put .kept .0 ∙ (at-block .block .kept .1 .1 .1 .1 .1 .1 .1 .0 ∙ at-block .before .before .before .before .before .before .before .expression .kept .1 .1 .1 .1 .1 .1 .1 .1 .0)
 
 conditional-returns-4 : (t : ℕ) → conditional-lts.Need-returns-4 (
+  next-reads.Asked,
+  next-reads.Learnt,
   expression-reads.Asked,
   expression-reads.Learnt,
   block-below t,
@@ -765,8 +779,6 @@ conditional-returns-4 : (t : ℕ) → conditional-lts.Need-returns-4 (
   branch-reads.Learnt,
   put-reads.Asked,
   put-reads.Learnt,
-  next-reads.Asked,
-  next-reads.Learnt,
 ) (conditional-at t) conditional.Post
 conditional-returns-4 t c =
     let at-put = c .before .before in
@@ -776,12 +788,13 @@ conditional-returns-4 t c =
     let at-r = at-block .before .before .before in
     let at-expression = at-r .before .before .before .before in
     let at-if1 = at-expression .before .before in
-    let start = at-if1 .before .before .before .before .before .before in
+    let start = at-if1 .before .before .before .before .before .before .before in
     let args = start .args in
-    let pre = start .pre in
-    if-done (wordsIn (args .reserved .now) (args .currencies .now) (args .counters .now)) (args .depth) (args .s .now) (args .c) (args .d) (pre .1 .1) (pre .1 .2) (at-if1 .if1 .left) _ (pre .1 .0 .1) _ _ _ _ _ (done-reads _ _ _ _ _ _ _ _ _ (at-r .r .given .1) (at-expression .expression .ensures)) _ _ _ _ (done-block _ _ _ _ _ _ _ _ _ (at-q .q .given .1) (at-block .block .ensures)) (at-if2 .if2 .taken) _ (put-fields _ _ _ _ _ _ _ _ _ _ (at-put .before .branch .ensures) (at-put .put .ensures))
+    if-done (languageIn (args .two) (args .reserved .now) (args .currencies .now) (args .counters .now)) (args .depth) (args .s .now) (args .c) (at-if1 .before .next .result) (at-if1 .before .next .ensures) (start .pre .1 .1) (at-if1 .if1 .left) _ (start .pre .1 .0 .1) _ _ _ _ _ (done-reads _ _ _ _ _ _ _ _ _ (at-r .r .given .1) (at-expression .expression .ensures)) _ _ _ _ (done-block _ _ _ _ _ _ _ _ _ (at-q .q .given .1) (at-block .block .ensures)) (at-if2 .if2 .taken) _ (put-fields _ _ _ _ _ _ _ _ _ _ (at-put .before .branch .ensures) (at-put .put .ensures))
 
-conditional-next-requires : (t : ℕ) → conditional-lts.Need-next-requires (
+conditional-next-requires-2 : (t : ℕ) → conditional-lts.Need-next-requires-2 (
+  next-reads.Asked,
+  next-reads.Learnt,
   expression-reads.Asked,
   expression-reads.Learnt,
   block-below t,
@@ -792,14 +805,14 @@ conditional-next-requires : (t : ℕ) → conditional-lts.Need-next-requires (
   branch-reads.Learnt,
   put-reads.Asked,
   put-reads.Learnt,
-  next-reads.Asked,
-  next-reads.Learnt,
 ) (conditional-at t) conditional.Post
-conditional-next-requires t c κs =
+conditional-next-requires-2 t c κs =
     let at-q = c .before .before .before in
     (done-block _ _ _ _ _ _ _ _ _ (at-q .q .given .1) (at-q .before .before .before .before .block .ensures)) .holds
 
 conditional-sub-block-2 : (t : ℕ) → conditional-lts.Need-sub-block-2 (
+  next-reads.Asked,
+  next-reads.Learnt,
   expression-reads.Asked,
   expression-reads.Learnt,
   block-below t,
@@ -810,12 +823,12 @@ conditional-sub-block-2 : (t : ℕ) → conditional-lts.Need-sub-block-2 (
   branch-reads.Learnt,
   put-reads.Asked,
   put-reads.Learnt,
-  next-reads.Asked,
-  next-reads.Learnt,
 ) (conditional-at t) conditional.Post
 conditional-sub-block-2 t c = omega (arith, c .before .before .before .before .before .before .before .before .before .before .before .before .before .before .before .before .before .if1 .left)
 
 conditional-block-requires-2 : (t : ℕ) → conditional-lts.Need-block-requires-2 (
+  next-reads.Asked,
+  next-reads.Learnt,
   expression-reads.Asked,
   expression-reads.Learnt,
   block-below t,
@@ -826,8 +839,6 @@ conditional-block-requires-2 : (t : ℕ) → conditional-lts.Need-block-requires
   branch-reads.Learnt,
   put-reads.Asked,
   put-reads.Learnt,
-  next-reads.Asked,
-  next-reads.Learnt,
 ) (conditional-at t) conditional.Post
 conditional-block-requires-2 t c κs =
     let at-if2 = c .before .before in
@@ -836,12 +847,14 @@ conditional-block-requires-2 t c κs =
     let at-r = at-block .before .before .before in
     let at-expression = at-r .before .before .before .before in
     let at-if1 = at-expression .before .before in
-    let start = at-if1 .before .before .before .before .before .before in
+    let start = at-if1 .before .before .before .before .before .before .before in
     let pre = start .pre in
     let args = start .args in
-    (omega (arith, pre .0, at-if1 .if1 .left), (else-ready (wordsIn (args .reserved .now) (args .currencies .now) (args .counters .now)) (args .depth) (args .s .now) (args .c) (args .d) (pre .1 .1) (pre .1 .2) (at-if1 .if1 .left) _ (pre .1 .0 .1) _ _ _ _ _ (done-reads _ _ _ _ _ _ _ _ _ (at-r .r .given .1) (at-expression .expression .ensures)) _ _ _ _ (done-block _ _ _ _ _ _ _ _ _ (at-q .q .given .1) (at-block .block .ensures)) (at-if2 .if2 .left) (c .before .next .result) (c .before .next .ensures), pre .1 .3))
+    (omega (arith, pre .0, at-if1 .if1 .left), (else-ready (languageIn (args .two) (args .reserved .now) (args .currencies .now) (args .counters .now)) (args .depth) (args .s .now) (args .c) (at-if1 .before .next .result) (at-if1 .before .next .ensures) (pre .1 .1) (at-if1 .if1 .left) _ (pre .1 .0 .1) _ _ _ _ _ (done-reads _ _ _ _ _ _ _ _ _ (at-r .r .given .1) (at-expression .expression .ensures)) _ _ _ _ (done-block _ _ _ _ _ _ _ _ _ (at-q .q .given .1) (at-block .block .ensures)) (at-if2 .if2 .left) (c .before .next2 .result) (c .before .next2 .ensures), pre .1 .2))
 
 conditional-enum-known-p : (t : ℕ) → conditional-lts.Need-enum-known-p (
+  next-reads.Asked,
+  next-reads.Learnt,
   expression-reads.Asked,
   expression-reads.Learnt,
   block-below t,
@@ -852,12 +865,12 @@ conditional-enum-known-p : (t : ℕ) → conditional-lts.Need-enum-known-p (
   branch-reads.Learnt,
   put-reads.Asked,
   put-reads.Learnt,
-  next-reads.Asked,
-  next-reads.Learnt,
 ) (conditional-at t) conditional.Post
 conditional-enum-known-p t c = search needs
 
 conditional-enum-told-3 : (t : ℕ) → conditional-lts.Need-enum-told-3 (
+  next-reads.Asked,
+  next-reads.Learnt,
   expression-reads.Asked,
   expression-reads.Learnt,
   block-below t,
@@ -868,12 +881,12 @@ conditional-enum-told-3 : (t : ℕ) → conditional-lts.Need-enum-told-3 (
   branch-reads.Learnt,
   put-reads.Asked,
   put-reads.Learnt,
-  next-reads.Asked,
-  next-reads.Learnt,
 ) (conditional-at t) conditional.Post
 conditional-enum-told-3 t c = search needs
 
 conditional-block-refusal-requires-2 : (t : ℕ) → conditional-lts.Need-block-refusal-requires-2 (
+  next-reads.Asked,
+  next-reads.Learnt,
   expression-reads.Asked,
   expression-reads.Learnt,
   block-below t,
@@ -884,12 +897,12 @@ conditional-block-refusal-requires-2 : (t : ℕ) → conditional-lts.Need-block-
   branch-reads.Learnt,
   put-reads.Asked,
   put-reads.Learnt,
-  next-reads.Asked,
-  next-reads.Learnt,
 ) (conditional-at t) conditional.Post
 conditional-block-refusal-requires-2 t c κs = search needs
 
 conditional-same-length-4 : (t : ℕ) → conditional-lts.Need-same-length-4 (
+  next-reads.Asked,
+  next-reads.Learnt,
   expression-reads.Asked,
   expression-reads.Learnt,
   block-below t,
@@ -900,15 +913,15 @@ conditional-same-length-4 : (t : ℕ) → conditional-lts.Need-same-length-4 (
   branch-reads.Learnt,
   put-reads.Asked,
   put-reads.Learnt,
-  next-reads.Asked,
-  next-reads.Learnt,
 ) (conditional-at t) conditional.Post
 conditional-same-length-4 t c =
     let at-block2 = c .before .before .before .before .before in
     let at-block = at-block2 .before .before .before .before .before .before .before .before .before .before in
-    at-block2 .block2 .kept .1 .1 .1 .1 .1 .1 .0 ∙ (at-block .block .kept .1 .1 .1 .1 .1 .1 .0 ∙ at-block .before .before .before .before .before .before .before .expression .kept .1 .1 .1 .1 .1 .1 .0)
+    at-block2 .block2 .kept .1 .1 .1 .1 .1 .1 .1 .0 ∙ (at-block .block .kept .1 .1 .1 .1 .1 .1 .1 .0 ∙ at-block .before .before .before .before .before .before .before .expression .kept .1 .1 .1 .1 .1 .1 .1 .1 .0)
 
 conditional-returns-5 : (t : ℕ) → conditional-lts.Need-returns-5 (
+  next-reads.Asked,
+  next-reads.Learnt,
   expression-reads.Asked,
   expression-reads.Learnt,
   block-below t,
@@ -919,23 +932,22 @@ conditional-returns-5 : (t : ℕ) → conditional-lts.Need-returns-5 (
   branch-reads.Learnt,
   put-reads.Asked,
   put-reads.Learnt,
-  next-reads.Asked,
-  next-reads.Learnt,
 ) (conditional-at t) conditional.Post
 conditional-returns-5 t c =
     let at-block2 = c .before .before .before .before .before in
-    let at-next = at-block2 .before .before in
-    let at-q = at-next .before .before .before .before in
+    let at-next2 = at-block2 .before .before in
+    let at-q = at-next2 .before .before .before .before in
     let at-block = at-q .before .before .before .before in
     let at-r = at-block .before .before .before in
     let at-expression = at-r .before .before .before .before in
     let at-if1 = at-expression .before .before in
-    let start = at-if1 .before .before .before .before .before .before in
+    let start = at-if1 .before .before .before .before .before .before .before in
     let args = start .args in
-    let pre = start .pre in
-    block-refusal-on _ _ _ _ _ _ (c .block-refusal2 .result) _ _ _ _ _ _ (c .before .enum-told3 .given .1) (at-block2 .block2 .ensures) (c .block-refusal2 .ensures) (else-refused (wordsIn (args .reserved .now) (args .currencies .now) (args .counters .now)) (args .depth) (args .s .now) (args .c) (args .d) (pre .1 .1) (pre .1 .2) (at-if1 .if1 .left) _ (pre .1 .0 .1) _ _ _ _ _ (done-reads _ _ _ _ _ _ _ _ _ (at-r .r .given .1) (at-expression .expression .ensures)) _ _ _ _ (done-block _ _ _ _ _ _ _ _ _ (at-q .q .given .1) (at-block .block .ensures)) (at-next .before .if2 .left) (at-next .next .result) (at-next .next .ensures) _ _)
+    block-refusal-on _ _ _ _ _ _ (c .block-refusal2 .result) _ _ _ _ _ _ (c .before .enum-told3 .given .1) (at-block2 .block2 .ensures) (c .block-refusal2 .ensures) (else-refused (languageIn (args .two) (args .reserved .now) (args .currencies .now) (args .counters .now)) (args .depth) (args .s .now) (args .c) (at-if1 .before .next .result) (at-if1 .before .next .ensures) (start .pre .1 .1) (at-if1 .if1 .left) _ (start .pre .1 .0 .1) _ _ _ _ _ (done-reads _ _ _ _ _ _ _ _ _ (at-r .r .given .1) (at-expression .expression .ensures)) _ _ _ _ (done-block _ _ _ _ _ _ _ _ _ (at-q .q .given .1) (at-block .block .ensures)) (at-next2 .before .if2 .left) (at-next2 .next2 .result) (at-next2 .next2 .ensures) _ _)
 
 conditional-sub-branch-2 : (t : ℕ) → conditional-lts.Need-sub-branch-2 (
+  next-reads.Asked,
+  next-reads.Learnt,
   expression-reads.Asked,
   expression-reads.Learnt,
   block-below t,
@@ -946,25 +958,26 @@ conditional-sub-branch-2 : (t : ℕ) → conditional-lts.Need-sub-branch-2 (
   branch-reads.Learnt,
   put-reads.Asked,
   put-reads.Learnt,
-  next-reads.Asked,
-  next-reads.Learnt,
 ) (conditional-at t) conditional.Post
 conditional-sub-branch-2 t c =
     let at-p = c .before .before in
     let at-block2 = at-p .before .before .before .before in
-    let at-next = at-block2 .before .before in
-    let at-q = at-next .before .before .before .before in
+    let at-next2 = at-block2 .before .before in
+    let at-q = at-next2 .before .before .before .before in
     let at-block = at-q .before .before .before .before in
     let at-r = at-block .before .before .before in
     let at-expression = at-r .before .before .before .before in
     let at-if1 = at-expression .before .before in
-    let start = at-if1 .before .before .before .before .before .before in
+    let start = at-if1 .before .before .before .before .before .before .before in
     let args = start .args in
+    let next = at-if1 .before .next in
     let pre = start .pre in
-    let words = wordsIn (args .reserved .now) (args .currencies .now) (args .counters .now) in
-    omega (arith, else-numbers words (args .depth) (args .s .now) (args .c) (args .d) (pre .1 .1) (pre .1 .2) (at-if1 .if1 .left) _ (pre .1 .0 .1) _ _ _ _ _ (done-reads _ _ _ _ _ _ _ _ _ (at-r .r .given .1) (at-expression .expression .ensures)) _ _ _ _ (done-block _ _ _ _ _ _ _ _ _ (at-q .q .given .1) (at-block .block .ensures)) (at-next .before .if2 .left) (at-next .next .result) (at-next .next .ensures) _ _ _ _ (done-block _ _ _ _ _ _ _ _ _ (at-p .p .given .1) (at-block2 .block2 .ensures)), if-numbers words (args .depth) (args .s .now) (args .c) (args .d) (pre .1 .1) (pre .1 .2) (at-if1 .if1 .left) _ (pre .1 .0 .1) _ _ _ _ _ (done-reads _ _ _ _ _ _ _ _ _ (at-r .r .given .1) (at-expression .expression .ensures)) _ _ _ _ (done-block _ _ _ _ _ _ _ _ _ (at-q .q .given .1) (at-block .block .ensures)))
+    let words = languageIn (args .two) (args .reserved .now) (args .currencies .now) (args .counters .now) in
+    omega (arith, else-numbers words (args .depth) (args .s .now) (args .c) (next .result) (next .ensures) (pre .1 .1) (at-if1 .if1 .left) _ (pre .1 .0 .1) _ _ _ _ _ (done-reads _ _ _ _ _ _ _ _ _ (at-r .r .given .1) (at-expression .expression .ensures)) _ _ _ _ (done-block _ _ _ _ _ _ _ _ _ (at-q .q .given .1) (at-block .block .ensures)) (at-next2 .before .if2 .left) (at-next2 .next2 .result) (at-next2 .next2 .ensures) _ _ _ _ (done-block _ _ _ _ _ _ _ _ _ (at-p .p .given .1) (at-block2 .block2 .ensures)), if-numbers words (args .depth) (args .s .now) (args .c) (next .result) (next .ensures) (pre .1 .1) (at-if1 .if1 .left) _ (pre .1 .0 .1) _ _ _ _ _ (done-reads _ _ _ _ _ _ _ _ _ (at-r .r .given .1) (at-expression .expression .ensures)) _ _ _ _ (done-block _ _ _ _ _ _ _ _ _ (at-q .q .given .1) (at-block .block .ensures)))
 
 conditional-add-branch-3 : (t : ℕ) → conditional-lts.Need-add-branch-3 (
+  next-reads.Asked,
+  next-reads.Learnt,
   expression-reads.Asked,
   expression-reads.Learnt,
   block-below t,
@@ -975,25 +988,26 @@ conditional-add-branch-3 : (t : ℕ) → conditional-lts.Need-add-branch-3 (
   branch-reads.Learnt,
   put-reads.Asked,
   put-reads.Learnt,
-  next-reads.Asked,
-  next-reads.Learnt,
 ) (conditional-at t) conditional.Post
 conditional-add-branch-3 t c =
     let at-p = c .before .before in
     let at-block2 = at-p .before .before .before .before in
-    let at-next = at-block2 .before .before in
-    let at-q = at-next .before .before .before .before in
+    let at-next2 = at-block2 .before .before in
+    let at-q = at-next2 .before .before .before .before in
     let at-block = at-q .before .before .before .before in
     let at-r = at-block .before .before .before in
     let at-expression = at-r .before .before .before .before in
     let at-if1 = at-expression .before .before in
-    let start = at-if1 .before .before .before .before .before .before in
+    let start = at-if1 .before .before .before .before .before .before .before in
     let args = start .args in
+    let next = at-if1 .before .next in
     let pre = start .pre in
-    let words = wordsIn (args .reserved .now) (args .currencies .now) (args .counters .now) in
-    omega (arith, else-numbers words (args .depth) (args .s .now) (args .c) (args .d) (pre .1 .1) (pre .1 .2) (at-if1 .if1 .left) _ (pre .1 .0 .1) _ _ _ _ _ (done-reads _ _ _ _ _ _ _ _ _ (at-r .r .given .1) (at-expression .expression .ensures)) _ _ _ _ (done-block _ _ _ _ _ _ _ _ _ (at-q .q .given .1) (at-block .block .ensures)) (at-next .before .if2 .left) (at-next .next .result) (at-next .next .ensures) _ _ _ _ (done-block _ _ _ _ _ _ _ _ _ (at-p .p .given .1) (at-block2 .block2 .ensures)), if-numbers words (args .depth) (args .s .now) (args .c) (args .d) (pre .1 .1) (pre .1 .2) (at-if1 .if1 .left) _ (pre .1 .0 .1) _ _ _ _ _ (done-reads _ _ _ _ _ _ _ _ _ (at-r .r .given .1) (at-expression .expression .ensures)) _ _ _ _ (done-block _ _ _ _ _ _ _ _ _ (at-q .q .given .1) (at-block .block .ensures)))
+    let words = languageIn (args .two) (args .reserved .now) (args .currencies .now) (args .counters .now) in
+    omega (arith, else-numbers words (args .depth) (args .s .now) (args .c) (next .result) (next .ensures) (pre .1 .1) (at-if1 .if1 .left) _ (pre .1 .0 .1) _ _ _ _ _ (done-reads _ _ _ _ _ _ _ _ _ (at-r .r .given .1) (at-expression .expression .ensures)) _ _ _ _ (done-block _ _ _ _ _ _ _ _ _ (at-q .q .given .1) (at-block .block .ensures)) (at-next2 .before .if2 .left) (at-next2 .next2 .result) (at-next2 .next2 .ensures) _ _ _ _ (done-block _ _ _ _ _ _ _ _ _ (at-p .p .given .1) (at-block2 .block2 .ensures)), if-numbers words (args .depth) (args .s .now) (args .c) (next .result) (next .ensures) (pre .1 .1) (at-if1 .if1 .left) _ (pre .1 .0 .1) _ _ _ _ _ (done-reads _ _ _ _ _ _ _ _ _ (at-r .r .given .1) (at-expression .expression .ensures)) _ _ _ _ (done-block _ _ _ _ _ _ _ _ _ (at-q .q .given .1) (at-block .block .ensures)))
 
 conditional-add-branch-4 : (t : ℕ) → conditional-lts.Need-add-branch-4 (
+  next-reads.Asked,
+  next-reads.Learnt,
   expression-reads.Asked,
   expression-reads.Learnt,
   block-below t,
@@ -1004,25 +1018,26 @@ conditional-add-branch-4 : (t : ℕ) → conditional-lts.Need-add-branch-4 (
   branch-reads.Learnt,
   put-reads.Asked,
   put-reads.Learnt,
-  next-reads.Asked,
-  next-reads.Learnt,
 ) (conditional-at t) conditional.Post
 conditional-add-branch-4 t c =
     let at-p = c .before .before in
     let at-block2 = at-p .before .before .before .before in
-    let at-next = at-block2 .before .before in
-    let at-q = at-next .before .before .before .before in
+    let at-next2 = at-block2 .before .before in
+    let at-q = at-next2 .before .before .before .before in
     let at-block = at-q .before .before .before .before in
     let at-r = at-block .before .before .before in
     let at-expression = at-r .before .before .before .before in
     let at-if1 = at-expression .before .before in
-    let start = at-if1 .before .before .before .before .before .before in
+    let start = at-if1 .before .before .before .before .before .before .before in
     let args = start .args in
+    let next = at-if1 .before .next in
     let pre = start .pre in
-    let words = wordsIn (args .reserved .now) (args .currencies .now) (args .counters .now) in
-    omega (arith, else-numbers words (args .depth) (args .s .now) (args .c) (args .d) (pre .1 .1) (pre .1 .2) (at-if1 .if1 .left) _ (pre .1 .0 .1) _ _ _ _ _ (done-reads _ _ _ _ _ _ _ _ _ (at-r .r .given .1) (at-expression .expression .ensures)) _ _ _ _ (done-block _ _ _ _ _ _ _ _ _ (at-q .q .given .1) (at-block .block .ensures)) (at-next .before .if2 .left) (at-next .next .result) (at-next .next .ensures) _ _ _ _ (done-block _ _ _ _ _ _ _ _ _ (at-p .p .given .1) (at-block2 .block2 .ensures)), if-numbers words (args .depth) (args .s .now) (args .c) (args .d) (pre .1 .1) (pre .1 .2) (at-if1 .if1 .left) _ (pre .1 .0 .1) _ _ _ _ _ (done-reads _ _ _ _ _ _ _ _ _ (at-r .r .given .1) (at-expression .expression .ensures)) _ _ _ _ (done-block _ _ _ _ _ _ _ _ _ (at-q .q .given .1) (at-block .block .ensures)))
+    let words = languageIn (args .two) (args .reserved .now) (args .currencies .now) (args .counters .now) in
+    omega (arith, else-numbers words (args .depth) (args .s .now) (args .c) (next .result) (next .ensures) (pre .1 .1) (at-if1 .if1 .left) _ (pre .1 .0 .1) _ _ _ _ _ (done-reads _ _ _ _ _ _ _ _ _ (at-r .r .given .1) (at-expression .expression .ensures)) _ _ _ _ (done-block _ _ _ _ _ _ _ _ _ (at-q .q .given .1) (at-block .block .ensures)) (at-next2 .before .if2 .left) (at-next2 .next2 .result) (at-next2 .next2 .ensures) _ _ _ _ (done-block _ _ _ _ _ _ _ _ _ (at-p .p .given .1) (at-block2 .block2 .ensures)), if-numbers words (args .depth) (args .s .now) (args .c) (next .result) (next .ensures) (pre .1 .1) (at-if1 .if1 .left) _ (pre .1 .0 .1) _ _ _ _ _ (done-reads _ _ _ _ _ _ _ _ _ (at-r .r .given .1) (at-expression .expression .ensures)) _ _ _ _ (done-block _ _ _ _ _ _ _ _ _ (at-q .q .given .1) (at-block .block .ensures)))
 
 conditional-add-branch-5 : (t : ℕ) → conditional-lts.Need-add-branch-5 (
+  next-reads.Asked,
+  next-reads.Learnt,
   expression-reads.Asked,
   expression-reads.Learnt,
   block-below t,
@@ -1033,25 +1048,26 @@ conditional-add-branch-5 : (t : ℕ) → conditional-lts.Need-add-branch-5 (
   branch-reads.Learnt,
   put-reads.Asked,
   put-reads.Learnt,
-  next-reads.Asked,
-  next-reads.Learnt,
 ) (conditional-at t) conditional.Post
 conditional-add-branch-5 t c =
     let at-p = c .before .before in
     let at-block2 = at-p .before .before .before .before in
-    let at-next = at-block2 .before .before in
-    let at-q = at-next .before .before .before .before in
+    let at-next2 = at-block2 .before .before in
+    let at-q = at-next2 .before .before .before .before in
     let at-block = at-q .before .before .before .before in
     let at-r = at-block .before .before .before in
     let at-expression = at-r .before .before .before .before in
     let at-if1 = at-expression .before .before in
-    let start = at-if1 .before .before .before .before .before .before in
+    let start = at-if1 .before .before .before .before .before .before .before in
     let args = start .args in
+    let next = at-if1 .before .next in
     let pre = start .pre in
-    let words = wordsIn (args .reserved .now) (args .currencies .now) (args .counters .now) in
-    omega (arith, else-numbers words (args .depth) (args .s .now) (args .c) (args .d) (pre .1 .1) (pre .1 .2) (at-if1 .if1 .left) _ (pre .1 .0 .1) _ _ _ _ _ (done-reads _ _ _ _ _ _ _ _ _ (at-r .r .given .1) (at-expression .expression .ensures)) _ _ _ _ (done-block _ _ _ _ _ _ _ _ _ (at-q .q .given .1) (at-block .block .ensures)) (at-next .before .if2 .left) (at-next .next .result) (at-next .next .ensures) _ _ _ _ (done-block _ _ _ _ _ _ _ _ _ (at-p .p .given .1) (at-block2 .block2 .ensures)), if-numbers words (args .depth) (args .s .now) (args .c) (args .d) (pre .1 .1) (pre .1 .2) (at-if1 .if1 .left) _ (pre .1 .0 .1) _ _ _ _ _ (done-reads _ _ _ _ _ _ _ _ _ (at-r .r .given .1) (at-expression .expression .ensures)) _ _ _ _ (done-block _ _ _ _ _ _ _ _ _ (at-q .q .given .1) (at-block .block .ensures)))
+    let words = languageIn (args .two) (args .reserved .now) (args .currencies .now) (args .counters .now) in
+    omega (arith, else-numbers words (args .depth) (args .s .now) (args .c) (next .result) (next .ensures) (pre .1 .1) (at-if1 .if1 .left) _ (pre .1 .0 .1) _ _ _ _ _ (done-reads _ _ _ _ _ _ _ _ _ (at-r .r .given .1) (at-expression .expression .ensures)) _ _ _ _ (done-block _ _ _ _ _ _ _ _ _ (at-q .q .given .1) (at-block .block .ensures)) (at-next2 .before .if2 .left) (at-next2 .next2 .result) (at-next2 .next2 .ensures) _ _ _ _ (done-block _ _ _ _ _ _ _ _ _ (at-p .p .given .1) (at-block2 .block2 .ensures)), if-numbers words (args .depth) (args .s .now) (args .c) (next .result) (next .ensures) (pre .1 .1) (at-if1 .if1 .left) _ (pre .1 .0 .1) _ _ _ _ _ (done-reads _ _ _ _ _ _ _ _ _ (at-r .r .given .1) (at-expression .expression .ensures)) _ _ _ _ (done-block _ _ _ _ _ _ _ _ _ (at-q .q .given .1) (at-block .block .ensures)))
 
 conditional-add-branch-6 : (t : ℕ) → conditional-lts.Need-add-branch-6 (
+  next-reads.Asked,
+  next-reads.Learnt,
   expression-reads.Asked,
   expression-reads.Learnt,
   block-below t,
@@ -1062,25 +1078,26 @@ conditional-add-branch-6 : (t : ℕ) → conditional-lts.Need-add-branch-6 (
   branch-reads.Learnt,
   put-reads.Asked,
   put-reads.Learnt,
-  next-reads.Asked,
-  next-reads.Learnt,
 ) (conditional-at t) conditional.Post
 conditional-add-branch-6 t c =
     let at-p = c .before .before in
     let at-block2 = at-p .before .before .before .before in
-    let at-next = at-block2 .before .before in
-    let at-q = at-next .before .before .before .before in
+    let at-next2 = at-block2 .before .before in
+    let at-q = at-next2 .before .before .before .before in
     let at-block = at-q .before .before .before .before in
     let at-r = at-block .before .before .before in
     let at-expression = at-r .before .before .before .before in
     let at-if1 = at-expression .before .before in
-    let start = at-if1 .before .before .before .before .before .before in
+    let start = at-if1 .before .before .before .before .before .before .before in
     let args = start .args in
+    let next = at-if1 .before .next in
     let pre = start .pre in
-    let words = wordsIn (args .reserved .now) (args .currencies .now) (args .counters .now) in
-    omega (arith, else-numbers words (args .depth) (args .s .now) (args .c) (args .d) (pre .1 .1) (pre .1 .2) (at-if1 .if1 .left) _ (pre .1 .0 .1) _ _ _ _ _ (done-reads _ _ _ _ _ _ _ _ _ (at-r .r .given .1) (at-expression .expression .ensures)) _ _ _ _ (done-block _ _ _ _ _ _ _ _ _ (at-q .q .given .1) (at-block .block .ensures)) (at-next .before .if2 .left) (at-next .next .result) (at-next .next .ensures) _ _ _ _ (done-block _ _ _ _ _ _ _ _ _ (at-p .p .given .1) (at-block2 .block2 .ensures)), if-numbers words (args .depth) (args .s .now) (args .c) (args .d) (pre .1 .1) (pre .1 .2) (at-if1 .if1 .left) _ (pre .1 .0 .1) _ _ _ _ _ (done-reads _ _ _ _ _ _ _ _ _ (at-r .r .given .1) (at-expression .expression .ensures)) _ _ _ _ (done-block _ _ _ _ _ _ _ _ _ (at-q .q .given .1) (at-block .block .ensures)))
+    let words = languageIn (args .two) (args .reserved .now) (args .currencies .now) (args .counters .now) in
+    omega (arith, else-numbers words (args .depth) (args .s .now) (args .c) (next .result) (next .ensures) (pre .1 .1) (at-if1 .if1 .left) _ (pre .1 .0 .1) _ _ _ _ _ (done-reads _ _ _ _ _ _ _ _ _ (at-r .r .given .1) (at-expression .expression .ensures)) _ _ _ _ (done-block _ _ _ _ _ _ _ _ _ (at-q .q .given .1) (at-block .block .ensures)) (at-next2 .before .if2 .left) (at-next2 .next2 .result) (at-next2 .next2 .ensures) _ _ _ _ (done-block _ _ _ _ _ _ _ _ _ (at-p .p .given .1) (at-block2 .block2 .ensures)), if-numbers words (args .depth) (args .s .now) (args .c) (next .result) (next .ensures) (pre .1 .1) (at-if1 .if1 .left) _ (pre .1 .0 .1) _ _ _ _ _ (done-reads _ _ _ _ _ _ _ _ _ (at-r .r .given .1) (at-expression .expression .ensures)) _ _ _ _ (done-block _ _ _ _ _ _ _ _ _ (at-q .q .given .1) (at-block .block .ensures)))
 
 conditional-branch-requires-2 : (t : ℕ) → conditional-lts.Need-branch-requires-2 (
+  next-reads.Asked,
+  next-reads.Learnt,
   expression-reads.Asked,
   expression-reads.Learnt,
   block-below t,
@@ -1091,12 +1108,12 @@ conditional-branch-requires-2 : (t : ℕ) → conditional-lts.Need-branch-requir
   branch-reads.Learnt,
   put-reads.Asked,
   put-reads.Learnt,
-  next-reads.Asked,
-  next-reads.Learnt,
 ) (conditional-at t) conditional.Post
 conditional-branch-requires-2 t c κs = search needs
 
 conditional-put-requires-2 : (t : ℕ) → conditional-lts.Need-put-requires-2 (
+  next-reads.Asked,
+  next-reads.Learnt,
   expression-reads.Asked,
   expression-reads.Learnt,
   block-below t,
@@ -1107,12 +1124,12 @@ conditional-put-requires-2 : (t : ℕ) → conditional-lts.Need-put-requires-2 (
   branch-reads.Learnt,
   put-reads.Asked,
   put-reads.Learnt,
-  next-reads.Asked,
-  next-reads.Learnt,
 ) (conditional-at t) conditional.Post
 conditional-put-requires-2 t c κs = search needs
 
-conditional-add-t22 : (t : ℕ) → conditional-lts.Need-add-t22 (
+conditional-add-t23 : (t : ℕ) → conditional-lts.Need-add-t23 (
+  next-reads.Asked,
+  next-reads.Learnt,
   expression-reads.Asked,
   expression-reads.Learnt,
   block-below t,
@@ -1123,25 +1140,26 @@ conditional-add-t22 : (t : ℕ) → conditional-lts.Need-add-t22 (
   branch-reads.Learnt,
   put-reads.Asked,
   put-reads.Learnt,
-  next-reads.Asked,
-  next-reads.Learnt,
 ) (conditional-at t) conditional.Post
-conditional-add-t22 t c =
+conditional-add-t23 t c =
     let at-p = c .before .before .before .before .before .before in
     let at-block2 = at-p .before .before .before .before in
-    let at-next = at-block2 .before .before in
-    let at-q = at-next .before .before .before .before in
+    let at-next2 = at-block2 .before .before in
+    let at-q = at-next2 .before .before .before .before in
     let at-block = at-q .before .before .before .before in
     let at-r = at-block .before .before .before in
     let at-expression = at-r .before .before .before .before in
     let at-if1 = at-expression .before .before in
-    let start = at-if1 .before .before .before .before .before .before in
+    let start = at-if1 .before .before .before .before .before .before .before in
     let args = start .args in
+    let next = at-if1 .before .next in
     let pre = start .pre in
-    let words = wordsIn (args .reserved .now) (args .currencies .now) (args .counters .now) in
-    omega (arith, else-numbers words (args .depth) (args .s .now) (args .c) (args .d) (pre .1 .1) (pre .1 .2) (at-if1 .if1 .left) _ (pre .1 .0 .1) _ _ _ _ _ (done-reads _ _ _ _ _ _ _ _ _ (at-r .r .given .1) (at-expression .expression .ensures)) _ _ _ _ (done-block _ _ _ _ _ _ _ _ _ (at-q .q .given .1) (at-block .block .ensures)) (at-next .before .if2 .left) (at-next .next .result) (at-next .next .ensures) _ _ _ _ (done-block _ _ _ _ _ _ _ _ _ (at-p .p .given .1) (at-block2 .block2 .ensures)), if-numbers words (args .depth) (args .s .now) (args .c) (args .d) (pre .1 .1) (pre .1 .2) (at-if1 .if1 .left) _ (pre .1 .0 .1) _ _ _ _ _ (done-reads _ _ _ _ _ _ _ _ _ (at-r .r .given .1) (at-expression .expression .ensures)) _ _ _ _ (done-block _ _ _ _ _ _ _ _ _ (at-q .q .given .1) (at-block .block .ensures)))
+    let words = languageIn (args .two) (args .reserved .now) (args .currencies .now) (args .counters .now) in
+    omega (arith, else-numbers words (args .depth) (args .s .now) (args .c) (next .result) (next .ensures) (pre .1 .1) (at-if1 .if1 .left) _ (pre .1 .0 .1) _ _ _ _ _ (done-reads _ _ _ _ _ _ _ _ _ (at-r .r .given .1) (at-expression .expression .ensures)) _ _ _ _ (done-block _ _ _ _ _ _ _ _ _ (at-q .q .given .1) (at-block .block .ensures)) (at-next2 .before .if2 .left) (at-next2 .next2 .result) (at-next2 .next2 .ensures) _ _ _ _ (done-block _ _ _ _ _ _ _ _ _ (at-p .p .given .1) (at-block2 .block2 .ensures)), if-numbers words (args .depth) (args .s .now) (args .c) (next .result) (next .ensures) (pre .1 .1) (at-if1 .if1 .left) _ (pre .1 .0 .1) _ _ _ _ _ (done-reads _ _ _ _ _ _ _ _ _ (at-r .r .given .1) (at-expression .expression .ensures)) _ _ _ _ (done-block _ _ _ _ _ _ _ _ _ (at-q .q .given .1) (at-block .block .ensures)))
 
 conditional-same-length-5 : (t : ℕ) → conditional-lts.Need-same-length-5 (
+  next-reads.Asked,
+  next-reads.Learnt,
   expression-reads.Asked,
   expression-reads.Learnt,
   block-below t,
@@ -1152,16 +1170,16 @@ conditional-same-length-5 : (t : ℕ) → conditional-lts.Need-same-length-5 (
   branch-reads.Learnt,
   put-reads.Asked,
   put-reads.Learnt,
-  next-reads.Asked,
-  next-reads.Learnt,
 ) (conditional-at t) conditional.Post
 conditional-same-length-5 t c =
     let at-put2 = c .before .before in
     let at-block2 = at-put2 .before .before .before .before .before .before .before .before in
     let at-block = at-block2 .before .before .before .before .before .before .before .before .before .before in
-    at-put2 .put2 .kept .0 ∙ (at-block2 .block2 .kept .1 .1 .1 .1 .1 .1 .0 ∙ (at-block .block .kept .1 .1 .1 .1 .1 .1 .0 ∙ at-block .before .before .before .before .before .before .before .expression .kept .1 .1 .1 .1 .1 .1 .0))
+    at-put2 .put2 .kept .0 ∙ (at-block2 .block2 .kept .1 .1 .1 .1 .1 .1 .1 .0 ∙ (at-block .block .kept .1 .1 .1 .1 .1 .1 .1 .0 ∙ at-block .before .before .before .before .before .before .before .expression .kept .1 .1 .1 .1 .1 .1 .1 .1 .0))
 
 conditional-returns-6 : (t : ℕ) → conditional-lts.Need-returns-6 (
+  next-reads.Asked,
+  next-reads.Learnt,
   expression-reads.Asked,
   expression-reads.Learnt,
   block-below t,
@@ -1172,25 +1190,44 @@ conditional-returns-6 : (t : ℕ) → conditional-lts.Need-returns-6 (
   branch-reads.Learnt,
   put-reads.Asked,
   put-reads.Learnt,
-  next-reads.Asked,
-  next-reads.Learnt,
 ) (conditional-at t) conditional.Post
 conditional-returns-6 t c =
     let at-put2 = c .before .before in
     let at-p = at-put2 .before .before .before .before in
     let at-block2 = at-p .before .before .before .before in
-    let at-next = at-block2 .before .before in
-    let at-q = at-next .before .before .before .before in
+    let at-next2 = at-block2 .before .before in
+    let at-q = at-next2 .before .before .before .before in
     let at-block = at-q .before .before .before .before in
     let at-r = at-block .before .before .before in
     let at-expression = at-r .before .before .before .before in
     let at-if1 = at-expression .before .before in
-    let start = at-if1 .before .before .before .before .before .before in
+    let start = at-if1 .before .before .before .before .before .before .before in
     let args = start .args in
-    let pre = start .pre in
-    else-done (wordsIn (args .reserved .now) (args .currencies .now) (args .counters .now)) (args .depth) (args .s .now) (args .c) (args .d) (pre .1 .1) (pre .1 .2) (at-if1 .if1 .left) _ (pre .1 .0 .1) _ _ _ _ _ (done-reads _ _ _ _ _ _ _ _ _ (at-r .r .given .1) (at-expression .expression .ensures)) _ _ _ _ (done-block _ _ _ _ _ _ _ _ _ (at-q .q .given .1) (at-block .block .ensures)) (at-next .before .if2 .left) (at-next .next .result) (at-next .next .ensures) _ _ _ _ (done-block _ _ _ _ _ _ _ _ _ (at-p .p .given .1) (at-block2 .block2 .ensures)) _ (put-fields _ _ _ _ _ _ _ _ _ _ (at-put2 .before .branch2 .ensures) (at-put2 .put2 .ensures))
+    else-done (languageIn (args .two) (args .reserved .now) (args .currencies .now) (args .counters .now)) (args .depth) (args .s .now) (args .c) (at-if1 .before .next .result) (at-if1 .before .next .ensures) (start .pre .1 .1) (at-if1 .if1 .left) _ (start .pre .1 .0 .1) _ _ _ _ _ (done-reads _ _ _ _ _ _ _ _ _ (at-r .r .given .1) (at-expression .expression .ensures)) _ _ _ _ (done-block _ _ _ _ _ _ _ _ _ (at-q .q .given .1) (at-block .block .ensures)) (at-next2 .before .if2 .left) (at-next2 .next2 .result) (at-next2 .next2 .ensures) _ _ _ _ (done-block _ _ _ _ _ _ _ _ _ (at-p .p .given .1) (at-block2 .block2 .ensures)) _ (put-fields _ _ _ _ _ _ _ _ _ _ (at-put2 .before .branch2 .ensures) (at-put2 .put2 .ensures))
+
+repetition-next-requires : (t : ℕ) → repetition-lts.Need-next-requires (
+  next-reads.Asked,
+  next-reads.Learnt,
+  loop-head-reads.Asked,
+  loop-head-reads.Learnt,
+  number-refusal-reads.Asked,
+  number-refusal-reads.Learnt,
+  expression-reads.Asked,
+  expression-reads.Learnt,
+  block-below t,
+  block.Post,
+  block-refusal-reads.Asked,
+  block-refusal-reads.Learnt,
+  each-reads.Asked,
+  each-reads.Learnt,
+  put-reads.Asked,
+  put-reads.Learnt,
+) (repetition-at t) repetition.Post
+repetition-next-requires t c κs = c .before .before .before .before .before .pre .1 .0 .0
 
 repetition-returns : (t : ℕ) → repetition-lts.Need-returns (
+  next-reads.Asked,
+  next-reads.Learnt,
   loop-head-reads.Asked,
   loop-head-reads.Learnt,
   number-refusal-reads.Asked,
@@ -1207,11 +1244,13 @@ repetition-returns : (t : ℕ) → repetition-lts.Need-returns (
   put-reads.Learnt,
 ) (repetition-at t) repetition.Post
 repetition-returns t c =
-    let start = c .before .before .before .before .before .before in
+    let start = c .before .before .before .before .before .before .before in
     let args = start .args in
-    for-0 (args .reserved .now) (args .currencies .now) (args .counters .now) (args .depth) (args .s .now) (args .c) (args .d) (start .pre .1 .1) (start .pre .1 .2) (c .if1 .taken)
+    for-0 (args .two) (args .reserved .now) (args .currencies .now) (args .counters .now) (args .depth) (args .s .now) (args .c) (c .before .next .result) (c .before .next .ensures) (start .pre .1 .1) (c .if1 .taken)
 
 repetition-loop-head-requires : (t : ℕ) → repetition-lts.Need-loop-head-requires (
+  next-reads.Asked,
+  next-reads.Learnt,
   loop-head-reads.Asked,
   loop-head-reads.Learnt,
   number-refusal-reads.Asked,
@@ -1227,9 +1266,11 @@ repetition-loop-head-requires : (t : ℕ) → repetition-lts.Need-loop-head-requ
   put-reads.Asked,
   put-reads.Learnt,
 ) (repetition-at t) repetition.Post
-repetition-loop-head-requires t c κs = c .before .before .before .before .before .before .pre .1 .1 .holds
+repetition-loop-head-requires t c κs = c .before .next .ensures .holds
 
 repetition-enum-known-v : (t : ℕ) → repetition-lts.Need-enum-known-v (
+  next-reads.Asked,
+  next-reads.Learnt,
   loop-head-reads.Asked,
   loop-head-reads.Learnt,
   number-refusal-reads.Asked,
@@ -1248,6 +1289,8 @@ repetition-enum-known-v : (t : ℕ) → repetition-lts.Need-enum-known-v (
 repetition-enum-known-v t c = search needs
 
 repetition-enum-told : (t : ℕ) → repetition-lts.Need-enum-told (
+  next-reads.Asked,
+  next-reads.Learnt,
   loop-head-reads.Asked,
   loop-head-reads.Learnt,
   number-refusal-reads.Asked,
@@ -1266,6 +1309,8 @@ repetition-enum-told : (t : ℕ) → repetition-lts.Need-enum-told (
 repetition-enum-told t c = search needs
 
 repetition-number-refusal-requires : (t : ℕ) → repetition-lts.Need-number-refusal-requires (
+  next-reads.Asked,
+  next-reads.Learnt,
   loop-head-reads.Asked,
   loop-head-reads.Learnt,
   number-refusal-reads.Asked,
@@ -1284,6 +1329,8 @@ repetition-number-refusal-requires : (t : ℕ) → repetition-lts.Need-number-re
 repetition-number-refusal-requires t c κs = search needs
 
 repetition-returns-2 : (t : ℕ) → repetition-lts.Need-returns-2 (
+  next-reads.Asked,
+  next-reads.Learnt,
   loop-head-reads.Asked,
   loop-head-reads.Learnt,
   number-refusal-reads.Asked,
@@ -1301,11 +1348,14 @@ repetition-returns-2 : (t : ℕ) → repetition-lts.Need-returns-2 (
 ) (repetition-at t) repetition.Post
 repetition-returns-2 t c =
     let at-loop-head = c .before .before .before in
-    let start = at-loop-head .before .before .before .before .before .before .before in
+    let at-next = at-loop-head .before .before in
+    let start = at-next .before .before .before .before .before .before in
     let args = start .args in
-    head-refusal-on _ _ _ _ (c .number-refusal .result) _ _ _ _ _ _ (c .before .enum-told .given .1) (at-loop-head .loop-head .ensures) (c .number-refusal .ensures) (for-head-refused (args .reserved .now) (args .currencies .now) (args .counters .now) (args .depth) (args .s .now) (args .c) (args .d) (start .pre .1 .1) (start .pre .1 .2) (at-loop-head .before .if1 .left) _ _)
+    head-refusal-on _ _ _ _ (c .number-refusal .result) _ _ _ _ _ _ (c .before .enum-told .given .1) (at-loop-head .loop-head .ensures) (c .number-refusal .ensures) (for-head-refused (args .two) (args .reserved .now) (args .currencies .now) (args .counters .now) (args .depth) (args .s .now) (args .c) (at-next .next .result) (at-next .next .ensures) (start .pre .1 .1) (at-loop-head .before .if1 .left) _ _)
 
 repetition-sub-expression : (t : ℕ) → repetition-lts.Need-sub-expression (
+  next-reads.Asked,
+  next-reads.Learnt,
   loop-head-reads.Asked,
   loop-head-reads.Learnt,
   number-refusal-reads.Asked,
@@ -1324,6 +1374,8 @@ repetition-sub-expression : (t : ℕ) → repetition-lts.Need-sub-expression (
 repetition-sub-expression t c = omega (arith, c .before .before .before .before .if1 .left)
 
 repetition-expression-requires : (t : ℕ) → repetition-lts.Need-expression-requires (
+  next-reads.Asked,
+  next-reads.Learnt,
   loop-head-reads.Asked,
   loop-head-reads.Learnt,
   number-refusal-reads.Asked,
@@ -1342,12 +1394,15 @@ repetition-expression-requires : (t : ℕ) → repetition-lts.Need-expression-re
 repetition-expression-requires t c κs =
     let at-v = c .before .before in
     let at-loop-head = at-v .before .before in
-    let start = at-loop-head .before .before .before .before .before .before .before in
+    let at-next = at-loop-head .before .before in
+    let start = at-next .before .before .before .before .before .before in
     let args = start .args in
     let pre = start .pre in
-    (for-ready (args .reserved .now) (args .currencies .now) (args .counters .now) (args .depth) (args .s .now) (args .c) (args .d) (pre .1 .1) (pre .1 .2) (at-loop-head .before .if1 .left) _ (head-is _ _ _ _ _ _ (at-v .v .given .1) (at-loop-head .loop-head .ensures)) _ (pre .1 .0 .1), pre .1 .3)
+    (for-ready (args .two) (args .reserved .now) (args .currencies .now) (args .counters .now) (args .depth) (args .s .now) (args .c) (at-next .next .result) (at-next .next .ensures) (pre .1 .1) (at-loop-head .before .if1 .left) _ (head-is _ _ _ _ _ _ (at-v .v .given .1) (at-loop-head .loop-head .ensures)) _ (pre .1 .0 .1), pre .1 .2)
 
 repetition-enum-known-r : (t : ℕ) → repetition-lts.Need-enum-known-r (
+  next-reads.Asked,
+  next-reads.Learnt,
   loop-head-reads.Asked,
   loop-head-reads.Learnt,
   number-refusal-reads.Asked,
@@ -1366,6 +1421,8 @@ repetition-enum-known-r : (t : ℕ) → repetition-lts.Need-enum-known-r (
 repetition-enum-known-r t c = search needs
 
 repetition-enum-told-2 : (t : ℕ) → repetition-lts.Need-enum-told-2 (
+  next-reads.Asked,
+  next-reads.Learnt,
   loop-head-reads.Asked,
   loop-head-reads.Learnt,
   number-refusal-reads.Asked,
@@ -1384,6 +1441,8 @@ repetition-enum-told-2 : (t : ℕ) → repetition-lts.Need-enum-told-2 (
 repetition-enum-told-2 t c = search needs
 
 repetition-same-length : (t : ℕ) → repetition-lts.Need-same-length (
+  next-reads.Asked,
+  next-reads.Learnt,
   loop-head-reads.Asked,
   loop-head-reads.Learnt,
   number-refusal-reads.Asked,
@@ -1399,9 +1458,11 @@ repetition-same-length : (t : ℕ) → repetition-lts.Need-same-length (
   put-reads.Asked,
   put-reads.Learnt,
 ) (repetition-at t) repetition.Post
-repetition-same-length t c = c .before .before .before .before .expression .kept .1 .1 .1 .1 .1 .1 .0
+repetition-same-length t c = c .before .before .before .before .expression .kept .1 .1 .1 .1 .1 .1 .1 .1 .0
 
 repetition-returns-3 : (t : ℕ) → repetition-lts.Need-returns-3 (
+  next-reads.Asked,
+  next-reads.Learnt,
   loop-head-reads.Asked,
   loop-head-reads.Learnt,
   number-refusal-reads.Asked,
@@ -1421,11 +1482,14 @@ repetition-returns-3 t c =
     let at-expression = c .before .before .before .before in
     let at-v = at-expression .before .before .before in
     let at-loop-head = at-v .before .before in
-    let start = at-loop-head .before .before .before .before .before .before .before in
+    let at-next = at-loop-head .before .before in
+    let start = at-next .before .before .before .before .before .before in
     let args = start .args in
-    refused-on _ _ _ _ _ _ _ _ _ _ _ _ (c .enum-told2 .given .1) (at-expression .expression .ensures) (for-refused (args .reserved .now) (args .currencies .now) (args .counters .now) (args .depth) (args .s .now) (args .c) (args .d) (start .pre .1 .1) (start .pre .1 .2) (at-loop-head .before .if1 .left) _ (head-is _ _ _ _ _ _ (at-v .v .given .1) (at-loop-head .loop-head .ensures)) _ _)
+    refused-on _ _ _ _ _ _ _ _ _ _ _ _ (c .enum-told2 .given .1) (at-expression .expression .ensures) (for-refused (args .two) (args .reserved .now) (args .currencies .now) (args .counters .now) (args .depth) (args .s .now) (args .c) (at-next .next .result) (at-next .next .ensures) (start .pre .1 .1) (at-loop-head .before .if1 .left) _ (head-is _ _ _ _ _ _ (at-v .v .given .1) (at-loop-head .loop-head .ensures)) _ _)
 
 repetition-sub-block : (t : ℕ) → repetition-lts.Need-sub-block (
+  next-reads.Asked,
+  next-reads.Learnt,
   loop-head-reads.Asked,
   loop-head-reads.Learnt,
   number-refusal-reads.Asked,
@@ -1444,6 +1508,8 @@ repetition-sub-block : (t : ℕ) → repetition-lts.Need-sub-block (
 repetition-sub-block t c = omega (arith, c .before .before .before .before .before .before .before .before .before .before .before .if1 .left)
 
 repetition-block-requires : (t : ℕ) → repetition-lts.Need-block-requires (
+  next-reads.Asked,
+  next-reads.Learnt,
   loop-head-reads.Asked,
   loop-head-reads.Learnt,
   number-refusal-reads.Asked,
@@ -1464,12 +1530,15 @@ repetition-block-requires t c κs =
     let at-expression = at-r .before .before .before .before in
     let at-v = at-expression .before .before .before in
     let at-loop-head = at-v .before .before in
-    let start = at-loop-head .before .before .before .before .before .before .before in
+    let at-next = at-loop-head .before .before in
+    let start = at-next .before .before .before .before .before .before in
     let pre = start .pre in
     let args = start .args in
-    (omega (arith, pre .0, at-loop-head .before .if1 .left), (for-body-ready (args .reserved .now) (args .currencies .now) (args .counters .now) (args .depth) (args .s .now) (args .c) (args .d) (pre .1 .1) (pre .1 .2) (at-loop-head .before .if1 .left) _ (head-is _ _ _ _ _ _ (at-v .v .given .1) (at-loop-head .loop-head .ensures)) _ (pre .1 .0 .1) _ _ _ _ _ (done-reads _ _ _ _ _ _ _ _ _ (at-r .r .given .1) (at-expression .expression .ensures)), pre .1 .3))
+    (omega (arith, pre .0, at-loop-head .before .if1 .left), (for-body-ready (args .two) (args .reserved .now) (args .currencies .now) (args .counters .now) (args .depth) (args .s .now) (args .c) (at-next .next .result) (at-next .next .ensures) (pre .1 .1) (at-loop-head .before .if1 .left) _ (head-is _ _ _ _ _ _ (at-v .v .given .1) (at-loop-head .loop-head .ensures)) _ (pre .1 .0 .1) _ _ _ _ _ (done-reads _ _ _ _ _ _ _ _ _ (at-r .r .given .1) (at-expression .expression .ensures)), pre .1 .2))
 
 repetition-enum-known-q : (t : ℕ) → repetition-lts.Need-enum-known-q (
+  next-reads.Asked,
+  next-reads.Learnt,
   loop-head-reads.Asked,
   loop-head-reads.Learnt,
   number-refusal-reads.Asked,
@@ -1488,6 +1557,8 @@ repetition-enum-known-q : (t : ℕ) → repetition-lts.Need-enum-known-q (
 repetition-enum-known-q t c = search needs
 
 repetition-enum-told-3 : (t : ℕ) → repetition-lts.Need-enum-told-3 (
+  next-reads.Asked,
+  next-reads.Learnt,
   loop-head-reads.Asked,
   loop-head-reads.Learnt,
   number-refusal-reads.Asked,
@@ -1506,6 +1577,8 @@ repetition-enum-told-3 : (t : ℕ) → repetition-lts.Need-enum-told-3 (
 repetition-enum-told-3 t c = search needs
 
 repetition-block-refusal-requires : (t : ℕ) → repetition-lts.Need-block-refusal-requires (
+  next-reads.Asked,
+  next-reads.Learnt,
   loop-head-reads.Asked,
   loop-head-reads.Learnt,
   number-refusal-reads.Asked,
@@ -1524,6 +1597,8 @@ repetition-block-refusal-requires : (t : ℕ) → repetition-lts.Need-block-refu
 repetition-block-refusal-requires t c κs = search needs
 
 repetition-same-length-2 : (t : ℕ) → repetition-lts.Need-same-length-2 (
+  next-reads.Asked,
+  next-reads.Learnt,
   loop-head-reads.Asked,
   loop-head-reads.Learnt,
   number-refusal-reads.Asked,
@@ -1541,9 +1616,11 @@ repetition-same-length-2 : (t : ℕ) → repetition-lts.Need-same-length-2 (
 ) (repetition-at t) repetition.Post
 repetition-same-length-2 t c =
     let at-block = c .before .before .before .before .before in
-    at-block .block .kept .1 .1 .1 .1 .1 .1 .0 ∙ at-block .before .before .before .before .before .before .before .expression .kept .1 .1 .1 .1 .1 .1 .0
+    at-block .block .kept .1 .1 .1 .1 .1 .1 .1 .0 ∙ at-block .before .before .before .before .before .before .before .expression .kept .1 .1 .1 .1 .1 .1 .1 .1 .0
 
 repetition-returns-4 : (t : ℕ) → repetition-lts.Need-returns-4 (
+  next-reads.Asked,
+  next-reads.Learnt,
   loop-head-reads.Asked,
   loop-head-reads.Learnt,
   number-refusal-reads.Asked,
@@ -1565,12 +1642,14 @@ repetition-returns-4 t c =
     let at-expression = at-r .before .before .before .before in
     let at-v = at-expression .before .before .before in
     let at-loop-head = at-v .before .before in
-    let start = at-loop-head .before .before .before .before .before .before .before in
+    let at-next = at-loop-head .before .before in
+    let start = at-next .before .before .before .before .before .before in
     let args = start .args in
-    let pre = start .pre in
-    block-refusal-on _ _ _ _ _ _ (c .block-refusal .result) _ _ _ _ _ _ (c .before .enum-told3 .given .1) (at-block .block .ensures) (c .block-refusal .ensures) (for-body-refused (args .reserved .now) (args .currencies .now) (args .counters .now) (args .depth) (args .s .now) (args .c) (args .d) (pre .1 .1) (pre .1 .2) (at-loop-head .before .if1 .left) _ (head-is _ _ _ _ _ _ (at-v .v .given .1) (at-loop-head .loop-head .ensures)) _ (pre .1 .0 .1) _ _ _ _ _ (done-reads _ _ _ _ _ _ _ _ _ (at-r .r .given .1) (at-expression .expression .ensures)) _ _)
+    block-refusal-on _ _ _ _ _ _ (c .block-refusal .result) _ _ _ _ _ _ (c .before .enum-told3 .given .1) (at-block .block .ensures) (c .block-refusal .ensures) (for-body-refused (args .two) (args .reserved .now) (args .currencies .now) (args .counters .now) (args .depth) (args .s .now) (args .c) (at-next .next .result) (at-next .next .ensures) (start .pre .1 .1) (at-loop-head .before .if1 .left) _ (head-is _ _ _ _ _ _ (at-v .v .given .1) (at-loop-head .loop-head .ensures)) _ (start .pre .1 .0 .1) _ _ _ _ _ (done-reads _ _ _ _ _ _ _ _ _ (at-r .r .given .1) (at-expression .expression .ensures)) _ _)
 
 repetition-sub-each : (t : ℕ) → repetition-lts.Need-sub-each (
+  next-reads.Asked,
+  next-reads.Learnt,
   loop-head-reads.Asked,
   loop-head-reads.Learnt,
   number-refusal-reads.Asked,
@@ -1593,12 +1672,14 @@ repetition-sub-each t c =
     let at-expression = at-r .before .before .before .before in
     let at-v = at-expression .before .before .before in
     let at-loop-head = at-v .before .before in
-    let start = at-loop-head .before .before .before .before .before .before .before in
+    let at-next = at-loop-head .before .before in
+    let start = at-next .before .before .before .before .before .before in
     let args = start .args in
-    let pre = start .pre in
-    omega (arith, for-numbers (args .reserved .now) (args .currencies .now) (args .counters .now) (args .depth) (args .s .now) (args .c) (args .d) (pre .1 .1) (pre .1 .2) (at-loop-head .before .if1 .left) _ (head-is _ _ _ _ _ _ (at-v .v .given .1) (at-loop-head .loop-head .ensures)) _ (pre .1 .0 .1) _ _ _ _ _ (done-reads _ _ _ _ _ _ _ _ _ (at-r .r .given .1) (at-expression .expression .ensures)) _ _ _ _ (done-block _ _ _ _ _ _ _ _ _ (at-q .q .given .1) (at-block .block .ensures)))
+    omega (arith, for-numbers (args .two) (args .reserved .now) (args .currencies .now) (args .counters .now) (args .depth) (args .s .now) (args .c) (at-next .next .result) (at-next .next .ensures) (start .pre .1 .1) (at-loop-head .before .if1 .left) _ (head-is _ _ _ _ _ _ (at-v .v .given .1) (at-loop-head .loop-head .ensures)) _ (start .pre .1 .0 .1) _ _ _ _ _ (done-reads _ _ _ _ _ _ _ _ _ (at-r .r .given .1) (at-expression .expression .ensures)) _ _ _ _ (done-block _ _ _ _ _ _ _ _ _ (at-q .q .given .1) (at-block .block .ensures)))
 
 repetition-add-each : (t : ℕ) → repetition-lts.Need-add-each (
+  next-reads.Asked,
+  next-reads.Learnt,
   loop-head-reads.Asked,
   loop-head-reads.Learnt,
   number-refusal-reads.Asked,
@@ -1621,12 +1702,14 @@ repetition-add-each t c =
     let at-expression = at-r .before .before .before .before in
     let at-v = at-expression .before .before .before in
     let at-loop-head = at-v .before .before in
-    let start = at-loop-head .before .before .before .before .before .before .before in
+    let at-next = at-loop-head .before .before in
+    let start = at-next .before .before .before .before .before .before in
     let args = start .args in
-    let pre = start .pre in
-    omega (arith, for-numbers (args .reserved .now) (args .currencies .now) (args .counters .now) (args .depth) (args .s .now) (args .c) (args .d) (pre .1 .1) (pre .1 .2) (at-loop-head .before .if1 .left) _ (head-is _ _ _ _ _ _ (at-v .v .given .1) (at-loop-head .loop-head .ensures)) _ (pre .1 .0 .1) _ _ _ _ _ (done-reads _ _ _ _ _ _ _ _ _ (at-r .r .given .1) (at-expression .expression .ensures)) _ _ _ _ (done-block _ _ _ _ _ _ _ _ _ (at-q .q .given .1) (at-block .block .ensures)))
+    omega (arith, for-numbers (args .two) (args .reserved .now) (args .currencies .now) (args .counters .now) (args .depth) (args .s .now) (args .c) (at-next .next .result) (at-next .next .ensures) (start .pre .1 .1) (at-loop-head .before .if1 .left) _ (head-is _ _ _ _ _ _ (at-v .v .given .1) (at-loop-head .loop-head .ensures)) _ (start .pre .1 .0 .1) _ _ _ _ _ (done-reads _ _ _ _ _ _ _ _ _ (at-r .r .given .1) (at-expression .expression .ensures)) _ _ _ _ (done-block _ _ _ _ _ _ _ _ _ (at-q .q .given .1) (at-block .block .ensures)))
 
 repetition-add-each-2 : (t : ℕ) → repetition-lts.Need-add-each-2 (
+  next-reads.Asked,
+  next-reads.Learnt,
   loop-head-reads.Asked,
   loop-head-reads.Learnt,
   number-refusal-reads.Asked,
@@ -1649,12 +1732,14 @@ repetition-add-each-2 t c =
     let at-expression = at-r .before .before .before .before in
     let at-v = at-expression .before .before .before in
     let at-loop-head = at-v .before .before in
-    let start = at-loop-head .before .before .before .before .before .before .before in
+    let at-next = at-loop-head .before .before in
+    let start = at-next .before .before .before .before .before .before in
     let args = start .args in
-    let pre = start .pre in
-    omega (arith, for-numbers (args .reserved .now) (args .currencies .now) (args .counters .now) (args .depth) (args .s .now) (args .c) (args .d) (pre .1 .1) (pre .1 .2) (at-loop-head .before .if1 .left) _ (head-is _ _ _ _ _ _ (at-v .v .given .1) (at-loop-head .loop-head .ensures)) _ (pre .1 .0 .1) _ _ _ _ _ (done-reads _ _ _ _ _ _ _ _ _ (at-r .r .given .1) (at-expression .expression .ensures)) _ _ _ _ (done-block _ _ _ _ _ _ _ _ _ (at-q .q .given .1) (at-block .block .ensures)))
+    omega (arith, for-numbers (args .two) (args .reserved .now) (args .currencies .now) (args .counters .now) (args .depth) (args .s .now) (args .c) (at-next .next .result) (at-next .next .ensures) (start .pre .1 .1) (at-loop-head .before .if1 .left) _ (head-is _ _ _ _ _ _ (at-v .v .given .1) (at-loop-head .loop-head .ensures)) _ (start .pre .1 .0 .1) _ _ _ _ _ (done-reads _ _ _ _ _ _ _ _ _ (at-r .r .given .1) (at-expression .expression .ensures)) _ _ _ _ (done-block _ _ _ _ _ _ _ _ _ (at-q .q .given .1) (at-block .block .ensures)))
 
 repetition-each-requires : (t : ℕ) → repetition-lts.Need-each-requires (
+  next-reads.Asked,
+  next-reads.Learnt,
   loop-head-reads.Asked,
   loop-head-reads.Learnt,
   number-refusal-reads.Asked,
@@ -1670,9 +1755,11 @@ repetition-each-requires : (t : ℕ) → repetition-lts.Need-each-requires (
   put-reads.Asked,
   put-reads.Learnt,
 ) (repetition-at t) repetition.Post
-repetition-each-requires t c κs = start-in (c .before .before .before .before .before .before .before .before .before .before .before .before .before .before .before .before .before .before .before .before .before .before .before .before .before .pre .1 .1 .holds)
+repetition-each-requires t c κs = start-in (c .before .before .before .before .before .before .before .before .before .before .before .before .before .before .before .before .before .before .before .before .next .ensures .holds)
 
 repetition-put-requires : (t : ℕ) → repetition-lts.Need-put-requires (
+  next-reads.Asked,
+  next-reads.Learnt,
   loop-head-reads.Asked,
   loop-head-reads.Learnt,
   number-refusal-reads.Asked,
@@ -1690,7 +1777,9 @@ repetition-put-requires : (t : ℕ) → repetition-lts.Need-put-requires (
 ) (repetition-at t) repetition.Post
 repetition-put-requires t c κs = search needs
 
-repetition-add-t20 : (t : ℕ) → repetition-lts.Need-add-t20 (
+repetition-add-t21 : (t : ℕ) → repetition-lts.Need-add-t21 (
+  next-reads.Asked,
+  next-reads.Learnt,
   loop-head-reads.Asked,
   loop-head-reads.Learnt,
   number-refusal-reads.Asked,
@@ -1706,19 +1795,21 @@ repetition-add-t20 : (t : ℕ) → repetition-lts.Need-add-t20 (
   put-reads.Asked,
   put-reads.Learnt,
 ) (repetition-at t) repetition.Post
-repetition-add-t20 t c =
+repetition-add-t21 t c =
     let at-q = c .before .before .before .before .before .before in
     let at-block = at-q .before .before .before .before in
     let at-r = at-block .before .before .before in
     let at-expression = at-r .before .before .before .before in
     let at-v = at-expression .before .before .before in
     let at-loop-head = at-v .before .before in
-    let start = at-loop-head .before .before .before .before .before .before .before in
+    let at-next = at-loop-head .before .before in
+    let start = at-next .before .before .before .before .before .before in
     let args = start .args in
-    let pre = start .pre in
-    omega (arith, for-numbers (args .reserved .now) (args .currencies .now) (args .counters .now) (args .depth) (args .s .now) (args .c) (args .d) (pre .1 .1) (pre .1 .2) (at-loop-head .before .if1 .left) _ (head-is _ _ _ _ _ _ (at-v .v .given .1) (at-loop-head .loop-head .ensures)) _ (pre .1 .0 .1) _ _ _ _ _ (done-reads _ _ _ _ _ _ _ _ _ (at-r .r .given .1) (at-expression .expression .ensures)) _ _ _ _ (done-block _ _ _ _ _ _ _ _ _ (at-q .q .given .1) (at-block .block .ensures)))
+    omega (arith, for-numbers (args .two) (args .reserved .now) (args .currencies .now) (args .counters .now) (args .depth) (args .s .now) (args .c) (at-next .next .result) (at-next .next .ensures) (start .pre .1 .1) (at-loop-head .before .if1 .left) _ (head-is _ _ _ _ _ _ (at-v .v .given .1) (at-loop-head .loop-head .ensures)) _ (start .pre .1 .0 .1) _ _ _ _ _ (done-reads _ _ _ _ _ _ _ _ _ (at-r .r .given .1) (at-expression .expression .ensures)) _ _ _ _ (done-block _ _ _ _ _ _ _ _ _ (at-q .q .given .1) (at-block .block .ensures)))
 
 repetition-same-length-3 : (t : ℕ) → repetition-lts.Need-same-length-3 (
+  next-reads.Asked,
+  next-reads.Learnt,
   loop-head-reads.Asked,
   loop-head-reads.Learnt,
   number-refusal-reads.Asked,
@@ -1737,9 +1828,11 @@ repetition-same-length-3 : (t : ℕ) → repetition-lts.Need-same-length-3 (
 repetition-same-length-3 t c =
     let at-put = c .before .before in
     let at-block = at-put .before .before .before .before .before .before .before .before in
-    at-put .put .kept .0 ∙ (at-block .block .kept .1 .1 .1 .1 .1 .1 .0 ∙ at-block .before .before .before .before .before .before .before .expression .kept .1 .1 .1 .1 .1 .1 .0)
+    at-put .put .kept .0 ∙ (at-block .block .kept .1 .1 .1 .1 .1 .1 .1 .0 ∙ at-block .before .before .before .before .before .before .before .expression .kept .1 .1 .1 .1 .1 .1 .1 .1 .0)
 
 repetition-returns-5 : (t : ℕ) → repetition-lts.Need-returns-5 (
+  next-reads.Asked,
+  next-reads.Learnt,
   loop-head-reads.Asked,
   loop-head-reads.Learnt,
   number-refusal-reads.Asked,
@@ -1763,30 +1856,12 @@ repetition-returns-5 t c =
     let at-expression = at-r .before .before .before .before in
     let at-v = at-expression .before .before .before in
     let at-loop-head = at-v .before .before in
-    let start = at-loop-head .before .before .before .before .before .before .before in
+    let at-next = at-loop-head .before .before in
+    let start = at-next .before .before .before .before .before .before in
     let args = start .args in
-    let pre = start .pre in
-    for-done (args .reserved .now) (args .currencies .now) (args .counters .now) (args .depth) (args .s .now) (args .c) (args .d) (pre .1 .1) (pre .1 .2) (at-loop-head .before .if1 .left) _ (head-is _ _ _ _ _ _ (at-v .v .given .1) (at-loop-head .loop-head .ensures)) _ (pre .1 .0 .1) _ _ _ _ _ (done-reads _ _ _ _ _ _ _ _ _ (at-r .r .given .1) (at-expression .expression .ensures)) _ _ _ _ (done-block _ _ _ _ _ _ _ _ _ (at-q .q .given .1) (at-block .block .ensures)) _ (put-fields _ _ _ _ _ _ _ _ _ _ (at-put .before .each .ensures) (at-put .put .ensures))
-
-statement-next-requires : (t : ℕ) → statement-lts.Need-next-requires (
-  next-reads.Asked,
-  next-reads.Learnt,
-  begun-reads.Asked,
-  begun-reads.Learnt,
-  conditional-below t,
-  conditional.Post,
-  repetition-below t,
-  repetition.Post,
-  paid-reads.Asked,
-  paid-reads.Learnt,
-  ended-reads.Asked,
-  ended-reads.Learnt,
-) (statement-at t) statement′.Post
-statement-next-requires t c κs = c .before .before .before .before .before .pre .1 .0 .0
+    for-done (args .two) (args .reserved .now) (args .currencies .now) (args .counters .now) (args .depth) (args .s .now) (args .c) (at-next .next .result) (at-next .next .ensures) (start .pre .1 .1) (at-loop-head .before .if1 .left) _ (head-is _ _ _ _ _ _ (at-v .v .given .1) (at-loop-head .loop-head .ensures)) _ (start .pre .1 .0 .1) _ _ _ _ _ (done-reads _ _ _ _ _ _ _ _ _ (at-r .r .given .1) (at-expression .expression .ensures)) _ _ _ _ (done-block _ _ _ _ _ _ _ _ _ (at-q .q .given .1) (at-block .block .ensures)) _ (put-fields _ _ _ _ _ _ _ _ _ _ (at-put .before .each .ensures) (at-put .put .ensures))
 
 statement-begun-requires : (t : ℕ) → statement-lts.Need-begun-requires (
-  next-reads.Asked,
-  next-reads.Learnt,
   begun-reads.Asked,
   begun-reads.Learnt,
   conditional-below t,
@@ -1799,13 +1874,10 @@ statement-begun-requires : (t : ℕ) → statement-lts.Need-begun-requires (
   ended-reads.Learnt,
 ) (statement-at t) statement′.Post
 statement-begun-requires t c κs =
-    let at-next = c .before .before in
-    let start = at-next .before .before .before .before .before .before in
-    (start .pre .1 .0, at-next .next .ensures, c .before .match .keys1, start .pre .1 .1)
+    let start = c .before .before .before .before .before .before .before in
+    (start .pre .1 .0, c .before .match .keys1, start .pre .1 .1)
 
 statement-conditional-requires : (t : ℕ) → statement-lts.Need-conditional-requires (
-  next-reads.Asked,
-  next-reads.Learnt,
   begun-reads.Asked,
   begun-reads.Learnt,
   conditional-below t,
@@ -1818,13 +1890,10 @@ statement-conditional-requires : (t : ℕ) → statement-lts.Need-conditional-re
   ended-reads.Learnt,
 ) (statement-at t) statement′.Post
 statement-conditional-requires t c κs =
-    let at-next = c .before .before in
-    let pre = at-next .before .before .before .before .before .before .pre in
-    (omega (arith, pre .0), (pre .1 .0, at-next .next .ensures, c .before .match .keys2, pre .1 .1))
+    let pre = c .before .before .before .before .before .before .before .pre in
+    (omega (arith, pre .0), (pre .1 .0, c .before .match .keys2, pre .1 .1))
 
 statement-repetition-requires : (t : ℕ) → statement-lts.Need-repetition-requires (
-  next-reads.Asked,
-  next-reads.Learnt,
   begun-reads.Asked,
   begun-reads.Learnt,
   conditional-below t,
@@ -1837,13 +1906,10 @@ statement-repetition-requires : (t : ℕ) → statement-lts.Need-repetition-requ
   ended-reads.Learnt,
 ) (statement-at t) statement′.Post
 statement-repetition-requires t c κs =
-    let at-next = c .before .before in
-    let pre = at-next .before .before .before .before .before .before .pre in
-    (omega (arith, pre .0), (pre .1 .0, at-next .next .ensures, c .before .match .keys3, pre .1 .1))
+    let pre = c .before .before .before .before .before .before .before .pre in
+    (omega (arith, pre .0), (pre .1 .0, c .before .match .keys3, pre .1 .1))
 
 statement-paid-requires : (t : ℕ) → statement-lts.Need-paid-requires (
-  next-reads.Asked,
-  next-reads.Learnt,
   begun-reads.Asked,
   begun-reads.Learnt,
   conditional-below t,
@@ -1856,13 +1922,10 @@ statement-paid-requires : (t : ℕ) → statement-lts.Need-paid-requires (
   ended-reads.Learnt,
 ) (statement-at t) statement′.Post
 statement-paid-requires t c κs =
-    let at-next = c .before .before in
-    let start = at-next .before .before .before .before .before .before in
-    (start .pre .1 .0, at-next .next .ensures, c .before .match .keys4, start .pre .1 .1)
+    let start = c .before .before .before .before .before .before .before in
+    (start .pre .1 .0, c .before .match .keys4, start .pre .1 .1)
 
 statement-ended-requires : (t : ℕ) → statement-lts.Need-ended-requires (
-  next-reads.Asked,
-  next-reads.Learnt,
   begun-reads.Asked,
   begun-reads.Learnt,
   conditional-below t,
@@ -1875,12 +1938,10 @@ statement-ended-requires : (t : ℕ) → statement-lts.Need-ended-requires (
   ended-reads.Learnt,
 ) (statement-at t) statement′.Post
 statement-ended-requires t c κs =
-    let start = c .before .before .before .before .before .before .before .before in
+    let start = c .before .before .before .before .before .before .before in
     (start .pre .1 .0, start .pre .1 .1)
 
 statement-same-length : (t : ℕ) → statement-lts.Need-same-length (
-  next-reads.Asked,
-  next-reads.Learnt,
   begun-reads.Asked,
   begun-reads.Learnt,
   conditional-below t,
@@ -1895,8 +1956,6 @@ statement-same-length : (t : ℕ) → statement-lts.Need-same-length (
 statement-same-length t c = search needs
 
 statement-returns : (t : ℕ) → statement-lts.Need-returns (
-  next-reads.Asked,
-  next-reads.Learnt,
   begun-reads.Asked,
   begun-reads.Learnt,
   conditional-below t,
@@ -1911,13 +1970,11 @@ statement-returns : (t : ℕ) → statement-lts.Need-returns (
 statement-returns t c =
     let at-begun = c .before .before in
     let at-match = at-begun .before .before in
-    let start = at-match .before .before .before .before .before .before .before in
+    let start = at-match .before .before .before .before .before .before in
     let args = start .args in
-    meets-as _ _ _ _ _ (at-begun .begun .result) _ (stat-name (wordsIn (args .reserved .now) (args .currencies .now) (args .counters .now)) (args .s .now) (args .c) (start .pre .1 .0 .0) (args .depth) (at-match .match .keys1)) (at-begun .begun .ensures)
+    meets-as _ _ _ _ _ (at-begun .begun .result) _ (stat-name (languageIn (args .two) (args .reserved .now) (args .currencies .now) (args .counters .now)) (args .s .now) (args .c) (start .pre .1 .0 .0) (args .depth) (at-match .match .keys1)) (at-begun .begun .ensures)
 
 statement-same-length-2 : (t : ℕ) → statement-lts.Need-same-length-2 (
-  next-reads.Asked,
-  next-reads.Learnt,
   begun-reads.Asked,
   begun-reads.Learnt,
   conditional-below t,
@@ -1932,8 +1989,6 @@ statement-same-length-2 : (t : ℕ) → statement-lts.Need-same-length-2 (
 statement-same-length-2 t c = search needs
 
 statement-returns-2 : (t : ℕ) → statement-lts.Need-returns-2 (
-  next-reads.Asked,
-  next-reads.Learnt,
   begun-reads.Asked,
   begun-reads.Learnt,
   conditional-below t,
@@ -1948,13 +2003,11 @@ statement-returns-2 : (t : ℕ) → statement-lts.Need-returns-2 (
 statement-returns-2 t c =
     let at-conditional = c .before .before in
     let at-match = at-conditional .before .before in
-    let start = at-match .before .before .before .before .before .before .before in
+    let start = at-match .before .before .before .before .before .before in
     let args = start .args in
-    meets-as _ _ _ _ _ (at-conditional .conditional .result) _ (stat-if (wordsIn (args .reserved .now) (args .currencies .now) (args .counters .now)) (args .s .now) (args .c) (start .pre .1 .0 .0) (args .depth) (at-match .match .keys2)) (at-conditional .conditional .ensures)
+    meets-as _ _ _ _ _ (at-conditional .conditional .result) _ (stat-if (languageIn (args .two) (args .reserved .now) (args .currencies .now) (args .counters .now)) (args .s .now) (args .c) (start .pre .1 .0 .0) (args .depth) (at-match .match .keys2)) (at-conditional .conditional .ensures)
 
 statement-same-length-3 : (t : ℕ) → statement-lts.Need-same-length-3 (
-  next-reads.Asked,
-  next-reads.Learnt,
   begun-reads.Asked,
   begun-reads.Learnt,
   conditional-below t,
@@ -1969,8 +2022,6 @@ statement-same-length-3 : (t : ℕ) → statement-lts.Need-same-length-3 (
 statement-same-length-3 t c = search needs
 
 statement-returns-3 : (t : ℕ) → statement-lts.Need-returns-3 (
-  next-reads.Asked,
-  next-reads.Learnt,
   begun-reads.Asked,
   begun-reads.Learnt,
   conditional-below t,
@@ -1985,13 +2036,11 @@ statement-returns-3 : (t : ℕ) → statement-lts.Need-returns-3 (
 statement-returns-3 t c =
     let at-repetition = c .before .before in
     let at-match = at-repetition .before .before in
-    let start = at-match .before .before .before .before .before .before .before in
+    let start = at-match .before .before .before .before .before .before in
     let args = start .args in
-    meets-as _ _ _ _ _ (at-repetition .repetition .result) _ (stat-for (wordsIn (args .reserved .now) (args .currencies .now) (args .counters .now)) (args .s .now) (args .c) (start .pre .1 .0 .0) (args .depth) (at-match .match .keys3)) (at-repetition .repetition .ensures)
+    meets-as _ _ _ _ _ (at-repetition .repetition .result) _ (stat-for (languageIn (args .two) (args .reserved .now) (args .currencies .now) (args .counters .now)) (args .s .now) (args .c) (start .pre .1 .0 .0) (args .depth) (at-match .match .keys3)) (at-repetition .repetition .ensures)
 
 statement-same-length-4 : (t : ℕ) → statement-lts.Need-same-length-4 (
-  next-reads.Asked,
-  next-reads.Learnt,
   begun-reads.Asked,
   begun-reads.Learnt,
   conditional-below t,
@@ -2006,8 +2055,6 @@ statement-same-length-4 : (t : ℕ) → statement-lts.Need-same-length-4 (
 statement-same-length-4 t c = search needs
 
 statement-returns-4 : (t : ℕ) → statement-lts.Need-returns-4 (
-  next-reads.Asked,
-  next-reads.Learnt,
   begun-reads.Asked,
   begun-reads.Learnt,
   conditional-below t,
@@ -2022,13 +2069,11 @@ statement-returns-4 : (t : ℕ) → statement-lts.Need-returns-4 (
 statement-returns-4 t c =
     let at-paid = c .before .before in
     let at-match = at-paid .before .before in
-    let start = at-match .before .before .before .before .before .before .before in
+    let start = at-match .before .before .before .before .before .before in
     let args = start .args in
-    meets-as _ _ _ _ _ (at-paid .paid .result) _ (stat-pays (wordsIn (args .reserved .now) (args .currencies .now) (args .counters .now)) (args .s .now) (args .c) (start .pre .1 .0 .0) (args .depth) (at-match .match .keys4)) (at-paid .paid .ensures)
+    meets-as _ _ _ _ _ (at-paid .paid .result) _ (stat-pays (languageIn (args .two) (args .reserved .now) (args .currencies .now) (args .counters .now)) (args .s .now) (args .c) (start .pre .1 .0 .0) (args .depth) (at-match .match .keys4)) (at-paid .paid .ensures)
 
 statement-same-length-5 : (t : ℕ) → statement-lts.Need-same-length-5 (
-  next-reads.Asked,
-  next-reads.Learnt,
   begun-reads.Asked,
   begun-reads.Learnt,
   conditional-below t,
@@ -2043,8 +2088,6 @@ statement-same-length-5 : (t : ℕ) → statement-lts.Need-same-length-5 (
 statement-same-length-5 t c = search needs
 
 statement-returns-5 : (t : ℕ) → statement-lts.Need-returns-5 (
-  next-reads.Asked,
-  next-reads.Learnt,
   begun-reads.Asked,
   begun-reads.Learnt,
   conditional-below t,
@@ -2059,10 +2102,10 @@ statement-returns-5 : (t : ℕ) → statement-lts.Need-returns-5 (
 statement-returns-5 t c =
     let at-ended = c .before .before in
     let at-match = at-ended .before .before in
-    let start = at-match .before .before .before .before .before .before .before in
+    let start = at-match .before .before .before .before .before .before in
     let args = start .args in
     let r = at-match .match .rest in
-    meets-as _ _ _ _ _ (at-ended .ended .result) _ (stat-ended (wordsIn (args .reserved .now) (args .currencies .now) (args .counters .now)) (args .s .now) (args .c) (start .pre .1 .0 .0) (args .depth) (r .0 .0 .0 .1) (r .0 .0 .1) (r .0 .1) (r .1)) (at-ended .ended .ensures)
+    meets-as _ _ _ _ _ (at-ended .ended .result) _ (stat-ended (languageIn (args .two) (args .reserved .now) (args .currencies .now) (args .counters .now)) (args .s .now) (args .c) (start .pre .1 .0 .0) (args .depth) (r .0 .0 .0 .1) (r .0 .0 .1) (r .0 .1) (r .1)) (at-ended .ended .ensures)
 
 pub +block+conditional+repetition+statement-spec : {M : Type 1} → statement M
 +block+conditional+repetition+statement-spec =
@@ -2098,6 +2141,8 @@ pub +block+conditional+repetition+statement-spec : {M : Type 1} → statement M
     (block-loop-less t)
     (block-loop-again t))
     (λ t. conditional-lts.spec (
+      next-reads.Asked,
+      next-reads.Learnt,
       expression-reads.Asked,
       expression-reads.Learnt,
       block-below t,
@@ -2108,11 +2153,10 @@ pub +block+conditional+repetition+statement-spec : {M : Type 1} → statement M
       branch-reads.Learnt,
       put-reads.Asked,
       put-reads.Learnt,
-      next-reads.Asked,
-      next-reads.Learnt,
     )
     (conditional-at t)
     conditional.Post
+    (conditional-next-requires t)
     (conditional-returns t)
     (conditional-sub-expression t)
     (conditional-expression-requires t)
@@ -2132,10 +2176,10 @@ pub +block+conditional+repetition+statement-spec : {M : Type 1} → statement M
     (conditional-add-branch-2 t)
     (conditional-branch-requires t)
     (conditional-put-requires t)
-    (conditional-add-t31 t)
+    (conditional-add-t32 t)
     (conditional-same-length-3 t)
     (conditional-returns-4 t)
-    (conditional-next-requires t)
+    (conditional-next-requires-2 t)
     (conditional-sub-block-2 t)
     (conditional-block-requires-2 t)
     (conditional-enum-known-p t)
@@ -2150,10 +2194,12 @@ pub +block+conditional+repetition+statement-spec : {M : Type 1} → statement M
     (conditional-add-branch-6 t)
     (conditional-branch-requires-2 t)
     (conditional-put-requires-2 t)
-    (conditional-add-t22 t)
+    (conditional-add-t23 t)
     (conditional-same-length-5 t)
     (conditional-returns-6 t))
     (λ t. repetition-lts.spec (
+      next-reads.Asked,
+      next-reads.Learnt,
       loop-head-reads.Asked,
       loop-head-reads.Learnt,
       number-refusal-reads.Asked,
@@ -2171,6 +2217,7 @@ pub +block+conditional+repetition+statement-spec : {M : Type 1} → statement M
     )
     (repetition-at t)
     repetition.Post
+    (repetition-next-requires t)
     (repetition-returns t)
     (repetition-loop-head-requires t)
     (repetition-enum-known-v t)
@@ -2195,12 +2242,10 @@ pub +block+conditional+repetition+statement-spec : {M : Type 1} → statement M
     (repetition-add-each-2 t)
     (repetition-each-requires t)
     (repetition-put-requires t)
-    (repetition-add-t20 t)
+    (repetition-add-t21 t)
     (repetition-same-length-3 t)
     (repetition-returns-5 t))
     λ t. statement-lts.spec (
-      next-reads.Asked,
-      next-reads.Learnt,
       begun-reads.Asked,
       begun-reads.Learnt,
       conditional-below t,
@@ -2214,7 +2259,6 @@ pub +block+conditional+repetition+statement-spec : {M : Type 1} → statement M
     )
     (statement-at t)
     statement′.Post
-    (statement-next-requires t)
     (statement-begun-requires t)
     (statement-conditional-requires t)
     (statement-repetition-requires t)

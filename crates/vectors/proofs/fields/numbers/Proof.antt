@@ -1,11 +1,11 @@
--- The loop's place stays between the two ends, no number is put behind the ninth, and what is left of the part falls.
+-- The loop's place stays between the two ends, no number is put behind the tenth, and what is left of the part falls.
 use Prim.Native.Nat.{_≤_, _-_}
 use borrow.Author.Needs.{needs}
 use Rattle.vectors.proofs.fields.numbers.Statement.{statement}
 use Rattle.vectors.proofs.fields.numbers.Tie as tie
 
 abbrev Inv-loop : tie.InvT-loop
-Inv-loop s at end out₀ i₀ k₀ out i k = ((at ≤ i) × (i ≤ end)) × (k ≤ 9)
+Inv-loop s at end out₀ i₀ k₀ out i k = ((at ≤ i) × (i ≤ end)) × (k ≤ 10)
 
 abbrev μ-loop : tie.MeasureT-loop
 μ-loop s at end out₀ i₀ k₀ out i k = end - i

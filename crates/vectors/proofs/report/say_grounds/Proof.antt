@@ -5,10 +5,10 @@ use Rattle.vectors.proofs.report.say_grounds.Statement.{statement}
 use Rattle.vectors.proofs.report.say_grounds.Tie as tie
 
 abbrev Inv-loop : tie.InvT-loop
-Inv-loop tally g₀ g = g ≤ 21
+Inv-loop tally g₀ g = g ≤ 27
 
 abbrev μ-loop : tie.MeasureT-loop
-μ-loop tally g₀ g = 21 - g
+μ-loop tally g₀ g = 27 - g
 
 loop-holds : tie.Need-loop-holds Inv-loop μ-loop
 loop-holds c = search needs

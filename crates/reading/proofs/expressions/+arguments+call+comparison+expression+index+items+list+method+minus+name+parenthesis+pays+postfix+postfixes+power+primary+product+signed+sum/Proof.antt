@@ -5,62 +5,70 @@ use borrow.Fn.Kinds.{In}
 use borrow.Fn.PlainCycle.{Measures, is, falls, and}
 use Rattle.reading.proofs.expressions.arguments.Reads as arguments
 use Rattle.reading.proofs.expressions.arguments.Kinds as arguments-kinds
-use Rattle.reading.proofs.expressions.+arguments+call+comparison+expression+index+items+list+method+name+parenthesis+pays+postfix+postfixes+power+primary+product+sum.Lts-arguments as arguments-lts
+use Rattle.reading.proofs.expressions.+arguments+call+comparison+expression+index+items+list+method+minus+name+parenthesis+pays+postfix+postfixes+power+primary+product+signed+sum.Lts-arguments as arguments-lts
 use Rattle.reading.proofs.expressions.call.Reads as call
 use Rattle.reading.proofs.expressions.call.Kinds as call-kinds
-use Rattle.reading.proofs.expressions.+arguments+call+comparison+expression+index+items+list+method+name+parenthesis+pays+postfix+postfixes+power+primary+product+sum.Lts-call as call-lts
+use Rattle.reading.proofs.expressions.+arguments+call+comparison+expression+index+items+list+method+minus+name+parenthesis+pays+postfix+postfixes+power+primary+product+signed+sum.Lts-call as call-lts
 use Rattle.reading.proofs.expressions.comparison.Reads as comparison
 use Rattle.reading.proofs.expressions.comparison.Kinds as comparison-kinds
-use Rattle.reading.proofs.expressions.+arguments+call+comparison+expression+index+items+list+method+name+parenthesis+pays+postfix+postfixes+power+primary+product+sum.Lts-comparison as comparison-lts
+use Rattle.reading.proofs.expressions.+arguments+call+comparison+expression+index+items+list+method+minus+name+parenthesis+pays+postfix+postfixes+power+primary+product+signed+sum.Lts-comparison as comparison-lts
 use Rattle.reading.proofs.expressions.expression.Reads as expression
 use Rattle.reading.proofs.expressions.expression.Kinds as expression-kinds
-use Rattle.reading.proofs.expressions.+arguments+call+comparison+expression+index+items+list+method+name+parenthesis+pays+postfix+postfixes+power+primary+product+sum.Lts-expression as expression-lts
+use Rattle.reading.proofs.expressions.+arguments+call+comparison+expression+index+items+list+method+minus+name+parenthesis+pays+postfix+postfixes+power+primary+product+signed+sum.Lts-expression as expression-lts
 use Rattle.reading.proofs.expressions.index.Reads as index
 use Rattle.reading.proofs.expressions.index.Kinds as index-kinds
-use Rattle.reading.proofs.expressions.+arguments+call+comparison+expression+index+items+list+method+name+parenthesis+pays+postfix+postfixes+power+primary+product+sum.Lts-index as index-lts
+use Rattle.reading.proofs.expressions.+arguments+call+comparison+expression+index+items+list+method+minus+name+parenthesis+pays+postfix+postfixes+power+primary+product+signed+sum.Lts-index as index-lts
 use Rattle.reading.proofs.expressions.items.Reads as items
 use Rattle.reading.proofs.expressions.items.Kinds as items-kinds
-use Rattle.reading.proofs.expressions.+arguments+call+comparison+expression+index+items+list+method+name+parenthesis+pays+postfix+postfixes+power+primary+product+sum.Lts-items as items-lts
+use Rattle.reading.proofs.expressions.+arguments+call+comparison+expression+index+items+list+method+minus+name+parenthesis+pays+postfix+postfixes+power+primary+product+signed+sum.Lts-items as items-lts
 use Rattle.reading.proofs.expressions.list.Reads as list
 use Rattle.reading.proofs.expressions.list.Kinds as list-kinds
-use Rattle.reading.proofs.expressions.+arguments+call+comparison+expression+index+items+list+method+name+parenthesis+pays+postfix+postfixes+power+primary+product+sum.Lts-list as list-lts
+use Rattle.reading.proofs.expressions.+arguments+call+comparison+expression+index+items+list+method+minus+name+parenthesis+pays+postfix+postfixes+power+primary+product+signed+sum.Lts-list as list-lts
 use Rattle.reading.proofs.expressions.method.Reads as method
 use Rattle.reading.proofs.expressions.method.Kinds as method-kinds
-use Rattle.reading.proofs.expressions.+arguments+call+comparison+expression+index+items+list+method+name+parenthesis+pays+postfix+postfixes+power+primary+product+sum.Lts-method as method-lts
+use Rattle.reading.proofs.expressions.+arguments+call+comparison+expression+index+items+list+method+minus+name+parenthesis+pays+postfix+postfixes+power+primary+product+signed+sum.Lts-method as method-lts
+use Rattle.reading.proofs.expressions.minus.Reads as minus
+use Rattle.reading.proofs.expressions.minus.Kinds as minus-kinds
+use Rattle.reading.proofs.expressions.+arguments+call+comparison+expression+index+items+list+method+minus+name+parenthesis+pays+postfix+postfixes+power+primary+product+signed+sum.Lts-minus as minus-lts
 use Rattle.reading.proofs.expressions.name.Reads as name
 use Rattle.reading.proofs.expressions.name.Kinds as name-kinds
-use Rattle.reading.proofs.expressions.+arguments+call+comparison+expression+index+items+list+method+name+parenthesis+pays+postfix+postfixes+power+primary+product+sum.Lts-name as name-lts
+use Rattle.reading.proofs.expressions.+arguments+call+comparison+expression+index+items+list+method+minus+name+parenthesis+pays+postfix+postfixes+power+primary+product+signed+sum.Lts-name as name-lts
 use Rattle.reading.proofs.expressions.parenthesis.Reads as parenthesis
 use Rattle.reading.proofs.expressions.parenthesis.Kinds as parenthesis-kinds
-use Rattle.reading.proofs.expressions.+arguments+call+comparison+expression+index+items+list+method+name+parenthesis+pays+postfix+postfixes+power+primary+product+sum.Lts-parenthesis as parenthesis-lts
+use Rattle.reading.proofs.expressions.+arguments+call+comparison+expression+index+items+list+method+minus+name+parenthesis+pays+postfix+postfixes+power+primary+product+signed+sum.Lts-parenthesis as parenthesis-lts
 use Rattle.reading.proofs.expressions.pays.Reads as pays
 use Rattle.reading.proofs.expressions.pays.Kinds as pays-kinds
-use Rattle.reading.proofs.expressions.+arguments+call+comparison+expression+index+items+list+method+name+parenthesis+pays+postfix+postfixes+power+primary+product+sum.Lts-pays as pays-lts
+use Rattle.reading.proofs.expressions.+arguments+call+comparison+expression+index+items+list+method+minus+name+parenthesis+pays+postfix+postfixes+power+primary+product+signed+sum.Lts-pays as pays-lts
 use Rattle.reading.proofs.expressions.postfix.Reads as postfix
 use Rattle.reading.proofs.expressions.postfix.Kinds as postfix-kinds
-use Rattle.reading.proofs.expressions.+arguments+call+comparison+expression+index+items+list+method+name+parenthesis+pays+postfix+postfixes+power+primary+product+sum.Lts-postfix as postfix-lts
+use Rattle.reading.proofs.expressions.+arguments+call+comparison+expression+index+items+list+method+minus+name+parenthesis+pays+postfix+postfixes+power+primary+product+signed+sum.Lts-postfix as postfix-lts
 use Rattle.reading.proofs.expressions.postfixes.Reads as postfixes
 use Rattle.reading.proofs.expressions.postfixes.Kinds as postfixes-kinds
-use Rattle.reading.proofs.expressions.+arguments+call+comparison+expression+index+items+list+method+name+parenthesis+pays+postfix+postfixes+power+primary+product+sum.Lts-postfixes as postfixes-lts
+use Rattle.reading.proofs.expressions.+arguments+call+comparison+expression+index+items+list+method+minus+name+parenthesis+pays+postfix+postfixes+power+primary+product+signed+sum.Lts-postfixes as postfixes-lts
 use Rattle.reading.proofs.expressions.power.Reads as power
 use Rattle.reading.proofs.expressions.power.Kinds as power-kinds
-use Rattle.reading.proofs.expressions.+arguments+call+comparison+expression+index+items+list+method+name+parenthesis+pays+postfix+postfixes+power+primary+product+sum.Lts-power as power-lts
+use Rattle.reading.proofs.expressions.+arguments+call+comparison+expression+index+items+list+method+minus+name+parenthesis+pays+postfix+postfixes+power+primary+product+signed+sum.Lts-power as power-lts
 use Rattle.reading.proofs.expressions.primary.Reads as primary
 use Rattle.reading.proofs.expressions.primary.Kinds as primary-kinds
-use Rattle.reading.proofs.expressions.+arguments+call+comparison+expression+index+items+list+method+name+parenthesis+pays+postfix+postfixes+power+primary+product+sum.Lts-primary as primary-lts
+use Rattle.reading.proofs.expressions.+arguments+call+comparison+expression+index+items+list+method+minus+name+parenthesis+pays+postfix+postfixes+power+primary+product+signed+sum.Lts-primary as primary-lts
 use Rattle.reading.proofs.expressions.product.Reads as product
 use Rattle.reading.proofs.expressions.product.Kinds as product-kinds
-use Rattle.reading.proofs.expressions.+arguments+call+comparison+expression+index+items+list+method+name+parenthesis+pays+postfix+postfixes+power+primary+product+sum.Lts-product as product-lts
+use Rattle.reading.proofs.expressions.+arguments+call+comparison+expression+index+items+list+method+minus+name+parenthesis+pays+postfix+postfixes+power+primary+product+signed+sum.Lts-product as product-lts
+use Rattle.reading.proofs.expressions.signed.Reads as signed
+use Rattle.reading.proofs.expressions.signed.Kinds as signed-kinds
+use Rattle.reading.proofs.expressions.+arguments+call+comparison+expression+index+items+list+method+minus+name+parenthesis+pays+postfix+postfixes+power+primary+product+signed+sum.Lts-signed as signed-lts
 use Rattle.reading.proofs.expressions.sum.Reads as sum
 use Rattle.reading.proofs.expressions.sum.Kinds as sum-kinds
-use Rattle.reading.proofs.expressions.+arguments+call+comparison+expression+index+items+list+method+name+parenthesis+pays+postfix+postfixes+power+primary+product+sum.Lts-sum as sum-lts
+use Rattle.reading.proofs.expressions.+arguments+call+comparison+expression+index+items+list+method+minus+name+parenthesis+pays+postfix+postfixes+power+primary+product+signed+sum.Lts-sum as sum-lts
 use Rattle.reading.proofs.atoms.atom_at.Reads as atom-at-reads
 use Rattle.reading.proofs.atoms.constant_at.Reads as constant-at-reads
+use Rattle.reading.proofs.atoms.lone_at.Reads as lone-at-reads
 use Rattle.reading.proofs.atoms.next.Reads as next-reads
 use Rattle.reading.proofs.atoms.take.Reads as take-reads
 use Rattle.reading.proofs.atoms.variable_at.Reads as variable-at-reads
 use Rattle.reading.proofs.calling.call_fault.Reads as call-fault-reads
 use Rattle.reading.proofs.calling.follow.Reads as follow-reads
+use Rattle.reading.proofs.calling.negative.Reads as negative-reads
 use Rattle.reading.proofs.calling.payday_at.Reads as payday-at-reads
 use Rattle.reading.proofs.calling.refusal.Reads as refusal-reads
 use Rattle.reading.proofs.calling.refused.Reads as refused-reads
@@ -69,33 +77,36 @@ use Rattle.reading.proofs.calling.special.Reads as special-reads
 use Rattle.reading.proofs.calling.stops_pays.Reads as stops-pays-reads
 use Rattle.reading.proofs.calls.call_of.Reads as call-of-reads
 use Rattle.reading.proofs.calls.method_of.Reads as method-of-reads
+use Rattle.reading.proofs.powers.step.Reads as step-reads
 use Rattle.reading.proofs.records.join.Reads as join-reads
 use Rattle.reading.proofs.records.plain.Reads as plain-reads
 use Rattle.reading.proofs.records.put.Reads as put-reads
 use Rattle.reading.proofs.signs.is_comparator.Reads as is-comparator-reads
-use Rattle.reading.proofs.signs.is_joint.Reads as is-joint-reads
+use Rattle.reading.proofs.signs.is_looser.Reads as is-looser-reads
 use Rattle.reading.proofs.signs.is_postfix.Reads as is-postfix-reads
 use Rattle.reading.proofs.signs.is_power.Reads as is-power-reads
 use Rattle.reading.proofs.signs.is_product.Reads as is-product-reads
 use Rattle.reading.proofs.signs.is_sum.Reads as is-sum-reads
-use Rattle.reading.proofs.expressions.+arguments+call+comparison+expression+index+items+list+method+name+parenthesis+pays+postfix+postfixes+power+primary+product+sum.{statement}
-use Rattle.reading.proofs.expressions.+arguments+call+comparison+expression+index+items+list+method+name+parenthesis+pays+postfix+postfixes+power+primary+product+sum.Tie.{close}
+use Rattle.reading.proofs.signs.is_tighter.Reads as is-tighter-reads
+use Rattle.reading.proofs.expressions.+arguments+call+comparison+expression+index+items+list+method+minus+name+parenthesis+pays+postfix+postfixes+power+primary+product+signed+sum.{statement}
+use Rattle.reading.proofs.expressions.+arguments+call+comparison+expression+index+items+list+method+minus+name+parenthesis+pays+postfix+postfixes+power+primary+product+signed+sum.Tie.{close}
 use native.Mathlib.Omega.{arith}
 use lib.ListN.{length}
-use Rattle.reading.specs.Meets.{toksAt, wordsIn, tokenAt, Ready}
+use Rattle.reading.specs.Meets.{toksAt, languageIn, tokenAt, Ready}
 use borrow.Author.Tests.{not-true, not-false}
-use mathlib.Core.Bool.{_||_}
 use mathlib.Core.List.{List}
-use mathlib.Core.Path.{_≡_, refl, sym, _∙_}
+use mathlib.Core.Path.{_≡_, refl, sym, ap, _∙_}
 use Rattle.grammar.specs.Trees.{Tree}
-use Rattle.grammar.specs.Readers.{Out, is as isSign}
+use Rattle.grammar.specs.Readers.{Out, Reader}
 use Rattle.grammar.specs.Grammar as G
-use Rattle.reading.proofs.StepLaws.{done-reads, refused-on, meets-as, follow-ready, put-fields, bind-refused, reads-as, read-numbers, Compares, compare-less, compare-first, compare-ready, compare-refused, compare-numbers, compare-last, compare-alone, compare-none, compare-next, parenthesis-deep, parenthesis-refused, parenthesis-open, parenthesis-closed, prim-paren, prim-plus-0, prim-plus, prim-list, prim-pays, prim-atom, prim-name, prim-minus-number, prim-minus-0, prim-minus, negate-reads, inner-sized}
-use Rattle.reading.proofs.ChainLaws.{power-level, product-level, sum-level, joint-level, chain-exit, Pending, pend-first, pend-next, pend-ready, pend-refused, pend-numbers, pend-chain, pend-less}
-use Rattle.grammar.proofs.SizeLaws.{primary-size, sum-size}
+use Rattle.reading.proofs.StepLaws.{done-reads, refused-on, meets-as, follow-ready, put-fields, behind-read, lone-no, lone-yes, minus-lone, minus-0, minus-deep, reads-as, comparison-gates, Compares, compare-less, compare-first, compare-ready, compare-refused, compare-numbers, compare-last, compare-alone, compare-none, compare-next, parenthesis-deep, parenthesis-refused, parenthesis-open, parenthesis-closed, prim-paren, prim-plus-0, prim-plus, prim-list, prim-pays, prim-atom, prim-name, prim-minus, inner-sized}
+use Rattle.grammar.proofs.KindLaws.{primary-low}
+use Rattle.reading.proofs.PowerLaws.{signed-left, signed-right, Powers, powers-first, powers-ready, powers-refused, powers-numbers, powers-exit, powers-less, powers-next}
+use Rattle.reading.proofs.ChainLaws.{power-level, product-level, sum-level, product-gates, sum-gates, sum-short, plusOrMinus, timesOrBy, tighter, looser, tighter-level, looser-level, tighter-some, looser-some, Nests, nests-as, nest-ready, nest-refused, nest-numbers, nest-holds, nest-less, nest-tighter, nest-whole-numbers, nest-exit, nest-looser, chain-exit, Pending, pend-as, pend-next, pend-ready, pend-refused, pend-numbers, pend-chain, pend-less}
+use Rattle.grammar.proofs.SizeLaws.{primary-size, signed-size}
 use mathlib.Core.Logic.{inl, inr}
-use Rattle.reading.specs.Signs.{jointSign, sumSign, productSign, powerSign}
-use Rattle.reading.specs.Turns.{itemsBy, inner}
+use Rattle.reading.specs.Signs.{tighterSign, looserSign, sumSign, productSign}
+use Rattle.reading.specs.Turns.{powerAt, productOr, sumOr, comparisonOr, expressionOr, itemsBy, inner}
 use Rattle.grammar.proofs.GrammarLaws.{primary-law}
 use Rattle.reading.proofs.ItemLaws.{ItemChain, items-start, items-exit, items-ready, items-refused, items-numbers, items-wrong, items-less, items-next, done-items, items-refused-on, refusal-on, closed-code, parts-refusal, follows-as, shown-inside, arguments-no, arguments-0, arguments-ready, arguments-refused, arguments-done, arguments-within, call-refused, call-faulty, call-done, list-0, list-ready, list-refused, list-numbers, list-after, list-done, list-tops, PayChain, pay-start, pay-ready, pay-refused, pay-numbers, pay-less, pay-next, pays-0, pays-ready, pays-refused, pays-done}
 use Rattle.grammar.specs.Grammar.{primary as primaryG, methodOf, indexOf, postfixTurn}
@@ -103,55 +114,61 @@ use Rattle.reading.proofs.HoldLaws.{start-in, end-in, takes-as}
 use Rattle.reading.proofs.PostfixLaws.{turns-as, onward-done, ready-behind, each-inner, index-refuses, index-open, index-numbers, index-reads, method-unnamed, method-ready, method-refuses, method-none, method-numbers, method-reads, postfix-dot, postfix-low, postfix-index, postfix-fewer, postfix-ready, PostChain, post-enter, post-exit, post-refused, post-more, above, name-refuses, name-numbers, name-reads, name-special, name-call, sign-no, sign-yes}
 
 abbrev μ-arguments : Measures 5 arguments-kinds.ps ℕ
-μ-arguments κs a = 32 * (a .1 .1 .1 .1 .1 .0) + 0
+μ-arguments κs a = 32 * (a .1 .1 .1 .1 .1 .1 .0) + 0
 
 abbrev μ-call : Measures 5 call-kinds.ps ℕ
-μ-call κs a = 32 * (a .1 .1 .1 .1 .1 .1 .1 .0) + 3
+μ-call κs a = 32 * (a .1 .1 .1 .1 .1 .1 .1 .1 .0) + 3
 
 abbrev μ-comparison : Measures 5 comparison-kinds.ps ℕ
-μ-comparison κs a = 32 * (a .1 .1 .1 .1 .1 .0) + 9
+μ-comparison κs a = 32 * (a .1 .1 .1 .1 .1 .1 .1 .0) + 9
 
 abbrev μ-expression : Measures 5 expression-kinds.ps ℕ
-μ-expression κs a = 32 * (a .1 .1 .1 .1 .1 .0) + 10
+μ-expression κs a = 32 * (a .1 .1 .1 .1 .1 .1 .1 .0) + 10
 
 abbrev μ-index : Measures 5 index-kinds.ps ℕ
-μ-index κs a = 32 * (a .1 .1 .1 .1 .1 .1 .0) + 12
+μ-index κs a = 32 * (a .1 .1 .1 .1 .1 .1 .1 .0) + 12
 
 abbrev μ-items : Measures 5 items-kinds.ps ℕ
-μ-items κs a = 32 * (a .1 .1 .1 .1 .1 .1 .0) + 11
+μ-items κs a = 32 * (a .1 .1 .1 .1 .1 .1 .1 .0) + 11
 
 abbrev μ-list : Measures 5 list-kinds.ps ℕ
-μ-list κs a = 32 * (a .1 .1 .1 .1 .1 .1 .0) + 4
+μ-list κs a = 32 * (a .1 .1 .1 .1 .1 .1 .1 .0) + 4
 
 abbrev μ-method : Measures 5 method-kinds.ps ℕ
-μ-method κs a = 32 * (a .1 .1 .1 .1 .1 .1 .0) + 1
+μ-method κs a = 32 * (a .1 .1 .1 .1 .1 .1 .1 .0) + 1
+
+abbrev μ-minus : Measures 5 minus-kinds.ps ℕ
+μ-minus κs a = 32 * (a .1 .1 .1 .1 .1 .1 .1 .0) + 4
 
 abbrev μ-name : Measures 5 name-kinds.ps ℕ
-μ-name κs a = 32 * (a .1 .1 .1 .1 .1 .1 .0) + 4
+μ-name κs a = 32 * (a .1 .1 .1 .1 .1 .1 .1 .0) + 4
 
 abbrev μ-parenthesis : Measures 5 parenthesis-kinds.ps ℕ
-μ-parenthesis κs a = 32 * (a .1 .1 .1 .1 .1 .1 .0) + 4
+μ-parenthesis κs a = 32 * (a .1 .1 .1 .1 .1 .1 .1 .0) + 4
 
 abbrev μ-pays : Measures 5 pays-kinds.ps ℕ
-μ-pays κs a = 32 * (a .1 .1 .1 .1 .1 .1 .0) + 4
+μ-pays κs a = 32 * (a .1 .1 .1 .1 .1 .1 .1 .0) + 4
 
 abbrev μ-postfix : Measures 5 postfix-kinds.ps ℕ
-μ-postfix κs a = 32 * (a .1 .1 .1 .1 .1 .1 .0) + 2
+μ-postfix κs a = 32 * (a .1 .1 .1 .1 .1 .1 .1 .0) + 2
 
 abbrev μ-postfixes : Measures 5 postfixes-kinds.ps ℕ
-μ-postfixes κs a = 32 * (a .1 .1 .1 .1 .1 .1 .0) + 3
+μ-postfixes κs a = 32 * (a .1 .1 .1 .1 .1 .1 .1 .0) + 3
 
 abbrev μ-power : Measures 5 power-kinds.ps ℕ
-μ-power κs a = 32 * (a .1 .1 .1 .1 .1 .0) + 6
+μ-power κs a = 32 * (a .1 .1 .1 .1 .1 .1 .0) + 6
 
 abbrev μ-primary : Measures 5 primary-kinds.ps ℕ
-μ-primary κs a = 32 * (a .1 .1 .1 .1 .1 .0) + 5
+μ-primary κs a = 32 * (a .1 .1 .1 .1 .1 .1 .0) + 5
 
 abbrev μ-product : Measures 5 product-kinds.ps ℕ
-μ-product κs a = 32 * (a .1 .1 .1 .1 .1 .0) + 7
+μ-product κs a = 32 * (a .1 .1 .1 .1 .1 .1 .1 .0) + 7
+
+abbrev μ-signed : Measures 5 signed-kinds.ps ℕ
+μ-signed κs a = 32 * (a .1 .1 .1 .1 .1 .1 .0) + 13
 
 abbrev μ-sum : Measures 5 sum-kinds.ps ℕ
-μ-sum κs a = 32 * (a .1 .1 .1 .1 .1 .0) + 8
+μ-sum κs a = 32 * (a .1 .1 .1 .1 .1 .1 .1 .0) + 8
 
 abbrev arguments-at : ℕ → In 5 arguments-kinds.ps
 arguments-at t = and 5 arguments-kinds.ps (is 5 arguments-kinds.ps μ-arguments t) arguments.Pre
@@ -206,6 +223,12 @@ method-at t = and 5 method-kinds.ps (is 5 method-kinds.ps μ-method t) method.Pr
 abbrev method-below : ℕ → In 5 method-kinds.ps
 method-below t = and 5 method-kinds.ps (falls 5 method-kinds.ps _<_ μ-method t) method.Pre
 
+abbrev minus-at : ℕ → In 5 minus-kinds.ps
+minus-at t = and 5 minus-kinds.ps (is 5 minus-kinds.ps μ-minus t) minus.Pre
+
+abbrev minus-below : ℕ → In 5 minus-kinds.ps
+minus-below t = and 5 minus-kinds.ps (falls 5 minus-kinds.ps _<_ μ-minus t) minus.Pre
+
 abbrev name-at : ℕ → In 5 name-kinds.ps
 name-at t = and 5 name-kinds.ps (is 5 name-kinds.ps μ-name t) name.Pre
 
@@ -257,6 +280,12 @@ product-at t = and 5 product-kinds.ps (is 5 product-kinds.ps μ-product t) produ
 abbrev product-below : ℕ → In 5 product-kinds.ps
 product-below t = and 5 product-kinds.ps (falls 5 product-kinds.ps _<_ μ-product t) product.Pre
 
+abbrev signed-at : ℕ → In 5 signed-kinds.ps
+signed-at t = and 5 signed-kinds.ps (is 5 signed-kinds.ps μ-signed t) signed.Pre
+
+abbrev signed-below : ℕ → In 5 signed-kinds.ps
+signed-below t = and 5 signed-kinds.ps (falls 5 signed-kinds.ps _<_ μ-signed t) signed.Pre
+
 abbrev sum-at : ℕ → In 5 sum-kinds.ps
 sum-at t = and 5 sum-kinds.ps (is 5 sum-kinds.ps μ-sum t) sum.Pre
 
@@ -272,7 +301,7 @@ arguments-returns : (t : ℕ) → arguments-lts.Need-returns (
 arguments-returns t c =
     let start = c .before .before .before .before .before .before .before in
     let args = start .args in
-    arguments-no (wordsIn (args .reserved .now) (args .currencies .now) (args .counters .now)) (args .depth) (args .s .now) (args .c) (start .pre .1 .0 .0) (c .if1 .taken)
+    arguments-no (languageIn (args .two) (args .reserved .now) (args .currencies .now) (args .counters .now)) (args .depth) (args .s .now) (args .c) (start .pre .1 .0 .0) (c .if1 .taken)
 
 arguments-returns-2 : (t : ℕ) → arguments-lts.Need-returns-2 (
   next-reads.Asked,
@@ -283,7 +312,7 @@ arguments-returns-2 : (t : ℕ) → arguments-lts.Need-returns-2 (
 arguments-returns-2 t c =
     let start = c .before .before .before .before .before .before .before .before in
     let args = start .args in
-    arguments-0 (wordsIn (args .reserved .now) (args .currencies .now) (args .counters .now)) (args .depth) (args .s .now) (args .c) (start .pre .1 .0 .0) (c .before .if1 .left) (c .if2 .taken)
+    arguments-0 (languageIn (args .two) (args .reserved .now) (args .currencies .now) (args .counters .now)) (args .depth) (args .s .now) (args .c) (start .pre .1 .0 .0) (c .before .if1 .left) (c .if2 .taken)
 
 arguments-next-requires : (t : ℕ) → arguments-lts.Need-next-requires (
   next-reads.Asked,
@@ -312,7 +341,7 @@ arguments-items-requires t c κs =
     let start = at-if2 .before .before .before .before .before .before .before .before in
     let pre = start .pre in
     let args = start .args in
-    (omega (arith, pre .0, at-if2 .if2 .left), (arguments-ready (wordsIn (args .reserved .now) (args .currencies .now) (args .counters .now)) (args .depth) (args .s .now) (args .c) (pre .1 .0 .0) (at-if2 .before .if1 .left) (at-if2 .if2 .left) (c .before .next .result) (c .before .next .ensures) _ (pre .1 .0 .1), pre .1 .1, inl refl))
+    (omega (arith, pre .0, at-if2 .if2 .left), (arguments-ready (languageIn (args .two) (args .reserved .now) (args .currencies .now) (args .counters .now)) (args .depth) (args .s .now) (args .c) (pre .1 .0 .0) (at-if2 .before .if1 .left) (at-if2 .if2 .left) (c .before .next .result) (c .before .next .ensures) _ (pre .1 .0 .1), pre .1 .1, inl refl))
 
 arguments-enum-known-r : (t : ℕ) → arguments-lts.Need-enum-known-r (
   next-reads.Asked,
@@ -336,7 +365,7 @@ arguments-same-length : (t : ℕ) → arguments-lts.Need-same-length (
   items-below t,
   items.Post,
 ) (arguments-at t) arguments.Post
-arguments-same-length t c = c .before .before .before .before .items .kept .1 .1 .1 .1 .1 .1 .1 .0
+arguments-same-length t c = c .before .before .before .before .items .kept .1 .1 .1 .1 .1 .1 .1 .1 .0
 
 arguments-returns-3 : (t : ℕ) → arguments-lts.Need-returns-3 (
   next-reads.Asked,
@@ -350,7 +379,7 @@ arguments-returns-3 t c =
     let at-if1 = at-next .before .before in
     let start = at-if1 .before .before .before .before .before .before .before in
     let args = start .args in
-    items-refused-on _ _ _ _ _ _ _ _ _ _ _ _ (c .enum-told .given .1) (at-items .items .ensures .0) (arguments-refused (wordsIn (args .reserved .now) (args .currencies .now) (args .counters .now)) (args .depth) (args .s .now) (args .c) (start .pre .1 .0 .0) (at-if1 .if1 .left) (at-next .before .if2 .left) (at-next .next .result) (at-next .next .ensures) _ _)
+    items-refused-on _ _ _ _ _ _ _ _ _ _ _ _ (c .enum-told .given .1) (at-items .items .ensures .0) (arguments-refused (languageIn (args .two) (args .reserved .now) (args .currencies .now) (args .counters .now)) (args .depth) (args .s .now) (args .c) (start .pre .1 .0 .0) (at-if1 .if1 .left) (at-next .before .if2 .left) (at-next .next .result) (at-next .next .ensures) _ _)
 
 arguments-next-requires-2 : (t : ℕ) → arguments-lts.Need-next-requires-2 (
   next-reads.Asked,
@@ -366,7 +395,7 @@ arguments-same-length-2 : (t : ℕ) → arguments-lts.Need-same-length-2 (
   items-below t,
   items.Post,
 ) (arguments-at t) arguments.Post
-arguments-same-length-2 t c = c .before .before .before .before .before .before .items .kept .1 .1 .1 .1 .1 .1 .1 .0
+arguments-same-length-2 t c = c .before .before .before .before .before .before .items .kept .1 .1 .1 .1 .1 .1 .1 .1 .0
 
 arguments-returns-4 : (t : ℕ) → arguments-lts.Need-returns-4 (
   next-reads.Asked,
@@ -381,7 +410,7 @@ arguments-returns-4 t c =
     let at-if1 = at-next .before .before in
     let start = at-if1 .before .before .before .before .before .before .before in
     let args = start .args in
-    arguments-done (wordsIn (args .reserved .now) (args .currencies .now) (args .counters .now)) (args .depth) (args .s .now) (args .c) (start .pre .1 .0 .0) (at-if1 .if1 .left) (at-next .before .if2 .left) (at-next .next .result) (at-next .next .ensures) _ _ _ _ _ _ _ (done-items _ _ _ _ _ _ _ _ _ _ (at-r .r .given .1) (at-items .items .ensures .0)) (closed-code _ _ _ _ _ _ (at-r .r .given .1) (at-items .items .ensures .1)) (c .next2 .result) (c .next2 .ensures)
+    arguments-done (languageIn (args .two) (args .reserved .now) (args .currencies .now) (args .counters .now)) (args .depth) (args .s .now) (args .c) (start .pre .1 .0 .0) (at-if1 .if1 .left) (at-next .before .if2 .left) (at-next .next .result) (at-next .next .ensures) _ _ _ _ _ _ _ (done-items _ _ _ _ _ _ _ _ _ _ (at-r .r .given .1) (at-items .items .ensures .0)) (closed-code _ _ _ _ _ _ (at-r .r .given .1) (at-items .items .ensures .1)) (c .next2 .result) (c .next2 .ensures)
 
 call-arguments-requires : (t : ℕ) → call-lts.Need-arguments-requires (
   arguments-below t,
@@ -453,7 +482,7 @@ call-same-length : (t : ℕ) → call-lts.Need-same-length (
   put-reads.Asked,
   put-reads.Learnt,
 ) (call-at t) call.Post
-call-same-length t c = c .before .before .before .before .before .arguments .kept .1 .1 .1 .1 .1 .1 .0
+call-same-length t c = c .before .before .before .before .before .arguments .kept .1 .1 .1 .1 .1 .1 .1 .0
 
 call-returns : (t : ℕ) → call-lts.Need-returns (
   arguments-below t,
@@ -472,7 +501,7 @@ call-returns t c =
     let start = at-arguments .before .before .before .before .before .before .before in
     let args = start .args in
     let pre = start .pre in
-    refusal-on _ _ _ _ _ _ (c .refusal .result) _ _ _ _ _ _ (c .before .enum-told .given .1) (at-arguments .arguments .ensures) (c .refusal .ensures) (call-refused (wordsIn (args .reserved .now) (args .currencies .now) (args .counters .now)) (args .depth) (tokenAt (args .s .now) (args .c)) (args .kind) (pre .1 .4) (pre .1 .5) (pre .1 .6) (args .s .now) (args .d) _ _)
+    refusal-on _ _ _ _ _ _ (c .refusal .result) _ _ _ _ _ _ (c .before .enum-told .given .1) (at-arguments .arguments .ensures) (c .refusal .ensures) (call-refused (languageIn (args .two) (args .reserved .now) (args .currencies .now) (args .counters .now)) (args .depth) (tokenAt (args .s .now) (args .c)) (args .kind) (pre .1 .4) (pre .1 .5) (pre .1 .6) (args .s .now) (args .d) _ _)
 
 call-call-fault-requires : (t : ℕ) → call-lts.Need-call-fault-requires (
   arguments-below t,
@@ -500,7 +529,7 @@ call-same-length-2 : (t : ℕ) → call-lts.Need-same-length-2 (
   put-reads.Asked,
   put-reads.Learnt,
 ) (call-at t) call.Post
-call-same-length-2 t c = c .before .before .before .before .before .before .before .arguments .kept .1 .1 .1 .1 .1 .1 .0
+call-same-length-2 t c = c .before .before .before .before .before .before .before .arguments .kept .1 .1 .1 .1 .1 .1 .1 .0
 
 call-returns-2 : (t : ℕ) → call-lts.Need-returns-2 (
   arguments-below t,
@@ -520,7 +549,7 @@ call-returns-2 t c =
     let start = at-arguments .before .before .before .before .before .before .before in
     let args = start .args in
     let pre = start .pre in
-    call-faulty (wordsIn (args .reserved .now) (args .currencies .now) (args .counters .now)) (args .depth) (tokenAt (args .s .now) (args .c)) (args .kind) (pre .1 .4) (pre .1 .5) (pre .1 .6) (args .s .now) (args .d) _ _ _ _ _ _ _ (done-items _ _ _ _ _ _ _ _ _ _ (at-r .r .given .1) (at-arguments .arguments .ensures)) _ (c .before .call-fault .ensures) (c .if1 .taken)
+    call-faulty (languageIn (args .two) (args .reserved .now) (args .currencies .now) (args .counters .now)) (args .depth) (tokenAt (args .s .now) (args .c)) (args .kind) (pre .1 .4) (pre .1 .5) (pre .1 .6) (args .s .now) (args .d) _ _ _ _ _ _ _ (done-items _ _ _ _ _ _ _ _ _ _ (at-r .r .given .1) (at-arguments .arguments .ensures)) _ (c .before .call-fault .ensures) (c .if1 .taken)
 
 call-sub-plain : (t : ℕ) → call-lts.Need-sub-plain (
   arguments-below t,
@@ -539,7 +568,7 @@ call-sub-plain t c =
     let at-arguments = at-r .before .before .before .before in
     let start = at-arguments .before .before .before .before .before .before .before in
     let args = start .args in
-    omega (arith, arguments-within (wordsIn (args .reserved .now) (args .currencies .now) (args .counters .now)) (args .depth) (args .s .now) (args .d) _ _ _ _ _ _ _ (done-items _ _ _ _ _ _ _ _ _ _ (at-r .r .given .1) (at-arguments .arguments .ensures)) (start .pre .1 .0 .1))
+    omega (arith, arguments-within (languageIn (args .two) (args .reserved .now) (args .currencies .now) (args .counters .now)) (args .depth) (args .s .now) (args .d) _ _ _ _ _ _ _ (done-items _ _ _ _ _ _ _ _ _ _ (at-r .r .given .1) (at-arguments .arguments .ensures)) (start .pre .1 .0 .1))
 
 call-add-plain : (t : ℕ) → call-lts.Need-add-plain (
   arguments-below t,
@@ -558,7 +587,7 @@ call-add-plain t c =
     let at-arguments = at-r .before .before .before .before in
     let start = at-arguments .before .before .before .before .before .before .before in
     let args = start .args in
-    omega (arith, arguments-within (wordsIn (args .reserved .now) (args .currencies .now) (args .counters .now)) (args .depth) (args .s .now) (args .d) _ _ _ _ _ _ _ (done-items _ _ _ _ _ _ _ _ _ _ (at-r .r .given .1) (at-arguments .arguments .ensures)) (start .pre .1 .0 .1))
+    omega (arith, arguments-within (languageIn (args .two) (args .reserved .now) (args .currencies .now) (args .counters .now)) (args .depth) (args .s .now) (args .d) _ _ _ _ _ _ _ (done-items _ _ _ _ _ _ _ _ _ _ (at-r .r .given .1) (at-arguments .arguments .ensures)) (start .pre .1 .0 .1))
 
 call-plain-requires : (t : ℕ) → call-lts.Need-plain-requires (
   arguments-below t,
@@ -588,7 +617,7 @@ call-put-requires : (t : ℕ) → call-lts.Need-put-requires (
 ) (call-at t) call.Post
 call-put-requires t c κs = search needs
 
-call-add-t24 : (t : ℕ) → call-lts.Need-add-t24 (
+call-add-t25 : (t : ℕ) → call-lts.Need-add-t25 (
   arguments-below t,
   arguments.Post,
   refusal-reads.Asked,
@@ -600,12 +629,12 @@ call-add-t24 : (t : ℕ) → call-lts.Need-add-t24 (
   put-reads.Asked,
   put-reads.Learnt,
 ) (call-at t) call.Post
-call-add-t24 t c =
+call-add-t25 t c =
     let at-r = c .before .before .before .before .before .before .before .before in
     let at-arguments = at-r .before .before .before .before in
     let start = at-arguments .before .before .before .before .before .before .before in
     let args = start .args in
-    omega (arith, arguments-within (wordsIn (args .reserved .now) (args .currencies .now) (args .counters .now)) (args .depth) (args .s .now) (args .d) _ _ _ _ _ _ _ (done-items _ _ _ _ _ _ _ _ _ _ (at-r .r .given .1) (at-arguments .arguments .ensures)) (start .pre .1 .0 .1))
+    omega (arith, arguments-within (languageIn (args .two) (args .reserved .now) (args .currencies .now) (args .counters .now)) (args .depth) (args .s .now) (args .d) _ _ _ _ _ _ _ (done-items _ _ _ _ _ _ _ _ _ _ (at-r .r .given .1) (at-arguments .arguments .ensures)) (start .pre .1 .0 .1))
 
 call-same-length-3 : (t : ℕ) → call-lts.Need-same-length-3 (
   arguments-below t,
@@ -621,7 +650,7 @@ call-same-length-3 : (t : ℕ) → call-lts.Need-same-length-3 (
 ) (call-at t) call.Post
 call-same-length-3 t c =
     let at-put = c .before .before in
-    at-put .put .kept .0 ∙ at-put .before .before .before .before .before .before .before .before .before .before .arguments .kept .1 .1 .1 .1 .1 .1 .0
+    at-put .put .kept .0 ∙ at-put .before .before .before .before .before .before .before .before .before .before .arguments .kept .1 .1 .1 .1 .1 .1 .1 .0
 
 call-returns-3 : (t : ℕ) → call-lts.Need-returns-3 (
   arguments-below t,
@@ -643,13 +672,13 @@ call-returns-3 t c =
     let start = at-arguments .before .before .before .before .before .before .before in
     let args = start .args in
     let pre = start .pre in
-    call-done (wordsIn (args .reserved .now) (args .currencies .now) (args .counters .now)) (args .depth) (tokenAt (args .s .now) (args .c)) (args .kind) (pre .1 .4) (pre .1 .5) (pre .1 .6) (args .s .now) (args .d) _ _ _ _ _ _ _ (done-items _ _ _ _ _ _ _ _ _ _ (at-r .r .given .1) (at-arguments .arguments .ensures)) _ (at-if1 .before .call-fault .ensures) (at-if1 .if1 .left) _ (put-fields _ _ _ _ _ _ _ _ _ _ (at-put .before .plain .ensures) (at-put .put .ensures))
+    call-done (languageIn (args .two) (args .reserved .now) (args .currencies .now) (args .counters .now)) (args .depth) (tokenAt (args .s .now) (args .c)) (args .kind) (pre .1 .4) (pre .1 .5) (pre .1 .6) (args .s .now) (args .d) _ _ _ _ _ _ _ (done-items _ _ _ _ _ _ _ _ _ _ (at-r .r .given .1) (at-arguments .arguments .ensures)) _ (at-if1 .before .call-fault .ensures) (at-if1 .if1 .left) _ (put-fields _ _ _ _ _ _ _ _ _ _ (at-put .before .plain .ensures) (at-put .put .ensures))
 
 abbrev comparison-Inv-loop : comparison-lts.InvT-loop
-comparison-Inv-loop s reserved currencies counters c depth out₀ n at₀ m₀ sign₀ out at m sign = (length out ≡ length out₀) × Compares (G.primary (wordsIn reserved currencies counters) depth) s at₀ n out₀ sign at m out
+comparison-Inv-loop s two alone reserved currencies counters c depth out₀ n at₀ m₀ sign₀ out at m sign = (length out ≡ length out₀) × Compares alone (sumOr alone (languageIn two reserved currencies counters) depth) s at₀ n out₀ sign at m out
 
 abbrev comparison-μ-loop : comparison-lts.MeasureT-loop
-comparison-μ-loop s reserved currencies counters c depth out₀ n at₀ m₀ sign₀ out at m sign = 1 - sign
+comparison-μ-loop s two alone reserved currencies counters c depth out₀ n at₀ m₀ sign₀ out at m sign = 1 - sign
 
 comparison-loop-holds : (t : ℕ) → comparison-lts.Need-loop-holds (
   sum-below t,
@@ -664,9 +693,8 @@ comparison-loop-holds : (t : ℕ) → comparison-lts.Need-loop-holds (
 comparison-loop-holds t c =
     let start = c .before .before .before .before .before in
     let args = start .args in
-    let words = wordsIn (args .reserved .now) (args .currencies .now) (args .counters .now) in
-    let reader = G.primary words (args .depth) in
-    (refl, compare-first reader (sum-size reader (primary-size words (args .depth))) (args .s .now) (args .c) (args .n) (args .out .now) (start .pre .1 .0))
+    let words = languageIn (args .two) (args .reserved .now) (args .currencies .now) (args .counters .now) in
+    (refl, compare-first (args .alone) ((sumOr (args .alone) words (args .depth))) (sum-short words (args .depth) (args .alone)) (args .s .now) (args .c) (args .n) (args .out .now) (start .pre .1 .0))
 
 comparison-sum-requires : (t : ℕ) → comparison-lts.Need-sum-requires (
   sum-below t,
@@ -682,9 +710,8 @@ comparison-sum-requires t c κs =
     let start = c .before .before .before .before .before .before .before in
     let pre = start .pre in
     let args = start .args in
-    let words = wordsIn (args .reserved .now) (args .currencies .now) (args .counters .now) in
-    let reader = G.primary words (args .depth) in
-    (omega (arith, pre .0), (compare-ready reader (sum-size reader (primary-size words (args .depth))) (args .s .now) (args .c) (args .n) (args .out .now) (pre .1 .0) _ _ _ _ (c .before .loop .inv .1), pre .1 .1))
+    let words = languageIn (args .two) (args .reserved .now) (args .currencies .now) (args .counters .now) in
+    (omega (arith, pre .0), (compare-ready (args .alone) ((sumOr (args .alone) words (args .depth))) (sum-short words (args .depth) (args .alone)) (args .s .now) (args .c) (args .n) (args .out .now) (pre .1 .0) _ _ _ _ (c .before .loop .inv .1), pre .1 .1))
 
 comparison-enum-known-r : (t : ℕ) → comparison-lts.Need-enum-known-r (
   sum-below t,
@@ -722,7 +749,7 @@ comparison-same-length : (t : ℕ) → comparison-lts.Need-same-length (
 ) (comparison-at t) comparison.Post comparison-Inv-loop comparison-μ-loop
 comparison-same-length t c =
     let at-sum = c .before .before .before .before in
-    at-sum .sum .kept .1 .1 .1 .1 .1 .1 .0 ∙ at-sum .before .before .loop .inv .0
+    at-sum .sum .kept .1 .1 .1 .1 .1 .1 .1 .1 .0 ∙ at-sum .before .before .loop .inv .0
 
 comparison-returns : (t : ℕ) → comparison-lts.Need-returns (
   sum-below t,
@@ -739,9 +766,8 @@ comparison-returns t c =
     let at-loop = at-sum .before .before in
     let start = at-loop .before .before .before .before .before .before in
     let args = start .args in
-    let words = wordsIn (args .reserved .now) (args .currencies .now) (args .counters .now) in
-    let reader = G.primary words (args .depth) in
-    refused-on _ _ _ _ _ _ _ _ _ _ _ _ (c .enum-told .given .1) (at-sum .sum .ensures) (compare-refused reader (sum-size reader (primary-size words (args .depth))) (args .s .now) (args .c) (args .n) (args .out .now) (start .pre .1 .0) _ _ _ _ (at-loop .loop .inv .1) _ _)
+    let words = languageIn (args .two) (args .reserved .now) (args .currencies .now) (args .counters .now) in
+    refused-on _ _ _ _ _ _ _ _ _ _ _ _ (c .enum-told .given .1) (at-sum .sum .ensures) (λ e. (ap (λ (q : Reader Tree). q (toksAt (args .s .now) (args .c .start))) (comparison-gates (args .alone) words (args .depth))) ∙ compare-refused (args .alone) ((sumOr (args .alone) words (args .depth))) (sum-short words (args .depth) (args .alone)) (args .s .now) (args .c) (args .n) (args .out .now) (start .pre .1 .0) _ _ _ _ (at-loop .loop .inv .1) _ _ e)
 
 comparison-join-requires : (t : ℕ) → comparison-lts.Need-join-requires (
   sum-below t,
@@ -759,9 +785,8 @@ comparison-join-requires t c κs =
     let at-loop = at-sum .before .before in
     let start = at-loop .before .before .before .before .before .before in
     let args = start .args in
-    let words = wordsIn (args .reserved .now) (args .currencies .now) (args .counters .now) in
-    let reader = G.primary words (args .depth) in
-    compare-numbers reader (sum-size reader (primary-size words (args .depth))) (args .s .now) (args .c) (args .n) (args .out .now) (start .pre .1 .0) _ _ _ _ (at-loop .loop .inv .1) _ _ _ _ (done-reads _ _ _ _ _ _ _ _ _ (at-r .r .given .1) (at-sum .sum .ensures))
+    let words = languageIn (args .two) (args .reserved .now) (args .currencies .now) (args .counters .now) in
+    compare-numbers (args .alone) ((sumOr (args .alone) words (args .depth))) (sum-short words (args .depth) (args .alone)) (args .s .now) (args .c) (args .n) (args .out .now) (start .pre .1 .0) _ _ _ _ (at-loop .loop .inv .1) _ _ _ _ (done-reads _ _ _ _ _ _ _ _ _ (at-r .r .given .1) (at-sum .sum .ensures))
 
 comparison-same-length-2 : (t : ℕ) → comparison-lts.Need-same-length-2 (
   sum-below t,
@@ -776,7 +801,7 @@ comparison-same-length-2 : (t : ℕ) → comparison-lts.Need-same-length-2 (
 comparison-same-length-2 t c =
     let at-join = c .before .before .before in
     let at-sum = at-join .before .before .before .before .before .before .before in
-    at-join .join .kept .0 ∙ (at-sum .sum .kept .1 .1 .1 .1 .1 .1 .0 ∙ at-sum .before .before .loop .inv .0)
+    at-join .join .kept .0 ∙ (at-sum .sum .kept .1 .1 .1 .1 .1 .1 .1 .1 .0 ∙ at-sum .before .before .loop .inv .0)
 
 comparison-returns-2 : (t : ℕ) → comparison-lts.Need-returns-2 (
   sum-below t,
@@ -795,9 +820,8 @@ comparison-returns-2 t c =
     let at-loop = at-sum .before .before in
     let start = at-loop .before .before .before .before .before .before in
     let args = start .args in
-    let words = wordsIn (args .reserved .now) (args .currencies .now) (args .counters .now) in
-    let reader = G.primary words (args .depth) in
-    compare-last reader (sum-size reader (primary-size words (args .depth))) (args .s .now) (args .c) (args .n) (args .out .now) (start .pre .1 .0) _ _ _ _ (at-loop .loop .inv .1) _ _ _ _ (done-reads _ _ _ _ _ _ _ _ _ (at-r .r .given .1) (at-sum .sum .ensures)) (at-join .join .result) _ (at-join .join .ensures) (c .if1 .taken)
+    let words = languageIn (args .two) (args .reserved .now) (args .currencies .now) (args .counters .now) in
+    reads-as _ _ _ _ _ _ _ _ _ (ap (λ (q : Reader Tree). q (toksAt (args .s .now) (args .c .start))) (comparison-gates (args .alone) words (args .depth))) (compare-last (args .alone) ((sumOr (args .alone) words (args .depth))) (sum-short words (args .depth) (args .alone)) (args .s .now) (args .c) (args .n) (args .out .now) (start .pre .1 .0) _ _ _ _ (at-loop .loop .inv .1) _ _ _ _ (done-reads _ _ _ _ _ _ _ _ _ (at-r .r .given .1) (at-sum .sum .ensures)) (at-join .join .result) _ (at-join .join .ensures) (c .if1 .taken))
 
 comparison-is-comparator-requires : (t : ℕ) → comparison-lts.Need-is-comparator-requires (
   sum-below t,
@@ -824,7 +848,7 @@ comparison-same-length-3 : (t : ℕ) → comparison-lts.Need-same-length-3 (
 comparison-same-length-3 t c =
     let at-join = c .before .before .before .before .before in
     let at-sum = at-join .before .before .before .before .before .before .before in
-    at-join .join .kept .0 ∙ (at-sum .sum .kept .1 .1 .1 .1 .1 .1 .0 ∙ at-sum .before .before .loop .inv .0)
+    at-join .join .kept .0 ∙ (at-sum .sum .kept .1 .1 .1 .1 .1 .1 .1 .1 .0 ∙ at-sum .before .before .loop .inv .0)
 
 comparison-returns-3 : (t : ℕ) → comparison-lts.Need-returns-3 (
   sum-below t,
@@ -844,9 +868,8 @@ comparison-returns-3 t c =
     let at-loop = at-sum .before .before in
     let start = at-loop .before .before .before .before .before .before in
     let args = start .args in
-    let words = wordsIn (args .reserved .now) (args .currencies .now) (args .counters .now) in
-    let reader = G.primary words (args .depth) in
-    compare-none reader (sum-size reader (primary-size words (args .depth))) (args .s .now) (args .c) (args .n) (args .out .now) (start .pre .1 .0) _ _ _ _ (at-loop .loop .inv .1) _ _ _ _ (done-reads _ _ _ _ _ _ _ _ _ (at-r .r .given .1) (at-sum .sum .ensures)) (at-join .join .result) _ (at-join .join .ensures) (at-if1 .if1 .left) (sym (c .before .is-comparator .ensures) ∙ not-true _ (c .if2 .taken))
+    let words = languageIn (args .two) (args .reserved .now) (args .currencies .now) (args .counters .now) in
+    reads-as _ _ _ _ _ _ _ _ _ (ap (λ (q : Reader Tree). q (toksAt (args .s .now) (args .c .start))) (comparison-gates (args .alone) words (args .depth))) (compare-none (args .alone) ((sumOr (args .alone) words (args .depth))) (sum-short words (args .depth) (args .alone)) (args .s .now) (args .c) (args .n) (args .out .now) (start .pre .1 .0) _ _ _ _ (at-loop .loop .inv .1) _ _ _ _ (done-reads _ _ _ _ _ _ _ _ _ (at-r .r .given .1) (at-sum .sum .ensures)) (at-join .join .result) _ (at-join .join .ensures) (at-if1 .if1 .left) (sym (c .before .is-comparator .ensures) ∙ not-true _ (c .if2 .taken)))
 
 comparison-next-requires : (t : ℕ) → comparison-lts.Need-next-requires (
   sum-below t,
@@ -866,9 +889,8 @@ comparison-next-requires t c κs =
     let at-loop = at-sum .before .before in
     let start = at-loop .before .before .before .before .before .before in
     let args = start .args in
-    let words = wordsIn (args .reserved .now) (args .currencies .now) (args .counters .now) in
-    let reader = G.primary words (args .depth) in
-    (compare-alone reader (sum-size reader (primary-size words (args .depth))) (args .s .now) (args .c) (args .n) (args .out .now) (start .pre .1 .0) _ _ _ _ (at-loop .loop .inv .1) _ _ _ _ (done-reads _ _ _ _ _ _ _ _ _ (at-r .r .given .1) (at-sum .sum .ensures)) (at-join .join .result) _ (at-join .join .ensures) (at-if1 .if1 .left)) .holds
+    let words = languageIn (args .two) (args .reserved .now) (args .currencies .now) (args .counters .now) in
+    (compare-alone (args .alone) ((sumOr (args .alone) words (args .depth))) (sum-short words (args .depth) (args .alone)) (args .s .now) (args .c) (args .n) (args .out .now) (start .pre .1 .0) _ _ _ _ (at-loop .loop .inv .1) _ _ _ _ (done-reads _ _ _ _ _ _ _ _ _ (at-r .r .given .1) (at-sum .sum .ensures)) (at-join .join .result) _ (at-join .join .ensures) (at-if1 .if1 .left)) .holds
 
 comparison-loop-less : (t : ℕ) → comparison-lts.Need-loop-less (
   sum-below t,
@@ -882,7 +904,7 @@ comparison-loop-less : (t : ℕ) → comparison-lts.Need-loop-less (
 ) (comparison-at t) comparison.Post comparison-Inv-loop comparison-μ-loop
 comparison-loop-less t c =
     let at-is-comparator = c .before .before in
-    compare-less _ _ (at-is-comparator .before .if1 .left) (sym (at-is-comparator .is-comparator .ensures) ∙ not-false _ (c .before .if2 .left))
+    compare-less (at-is-comparator .before .before .before .before .before .before .before .before .before .before .before .before .before .before .before .before .before .before .before .args .alone) _ _ (at-is-comparator .before .if1 .left) (sym (at-is-comparator .is-comparator .ensures) ∙ not-false _ (c .before .if2 .left))
 
 comparison-loop-again : (t : ℕ) → comparison-lts.Need-loop-again (
   sum-below t,
@@ -903,56 +925,61 @@ comparison-loop-again t c =
     let start = at-loop .before .before .before .before .before .before in
     let join = at-join .join in
     let args = start .args in
-    let words = wordsIn (args .reserved .now) (args .currencies .now) (args .counters .now) in
-    let reader = G.primary words (args .depth) in
-    (join .kept .0 ∙ (at-sum .sum .kept .1 .1 .1 .1 .1 .1 .0 ∙ at-loop .loop .inv .0), compare-next reader (sum-size reader (primary-size words (args .depth))) (args .s .now) (args .c) (args .n) (args .out .now) (start .pre .1 .0) _ _ _ _ (at-loop .loop .inv .1) _ _ _ _ (done-reads _ _ _ _ _ _ _ _ _ (at-r .r .given .1) (at-sum .sum .ensures)) (join .result) _ (join .ensures) (at-is-comparator .before .if1 .left) (sym (at-is-comparator .is-comparator .ensures) ∙ not-false _ (c .before .if2 .left)) (c .next .result) (c .next .ensures))
+    let words = languageIn (args .two) (args .reserved .now) (args .currencies .now) (args .counters .now) in
+    (join .kept .0 ∙ (at-sum .sum .kept .1 .1 .1 .1 .1 .1 .1 .1 .0 ∙ at-loop .loop .inv .0), compare-next (args .alone) ((sumOr (args .alone) words (args .depth))) (sum-short words (args .depth) (args .alone)) (args .s .now) (args .c) (args .n) (args .out .now) (start .pre .1 .0) _ _ _ _ (at-loop .loop .inv .1) _ _ _ _ (done-reads _ _ _ _ _ _ _ _ _ (at-r .r .given .1) (at-sum .sum .ensures)) (join .result) _ (join .ensures) (at-is-comparator .before .if1 .left) (sym (at-is-comparator .is-comparator .ensures) ∙ not-false _ (c .before .if2 .left)) (c .next .result) (c .next .ensures))
 
 abbrev expression-Inv-loop : expression-lts.InvT-loop
-expression-Inv-loop s reserved currencies counters c depth out₀ n at₀ m₀ sign₀ out at m sign = (length out ≡ length out₀) × Pending (λ u. isSign "and" u || isSign "or" u) jointSign (G.comparison (G.primary (wordsIn reserved currencies counters) depth)) s (at₀ .start) (G.expression (G.primary (wordsIn reserved currencies counters) depth) (toksAt s (at₀ .start))) n out₀ sign at m out
+expression-Inv-loop s two alone reserved currencies counters c depth out₀ n at₀ m₀ sign₀ tight₀ from₀ place₀ out at m sign tight from place = (length out ≡ length out₀) × Nests (looser two alone) (tighter two alone) (looserSign two alone) (tighterSign two alone) (comparisonOr alone (languageIn two reserved currencies counters) depth) s (at₀ .start) (expressionOr alone (languageIn two reserved currencies counters) depth (toksAt s (at₀ .start))) n out₀ sign tight from place at m out
 
 abbrev expression-μ-loop : expression-lts.MeasureT-loop
-expression-μ-loop s reserved currencies counters c depth out₀ n at₀ m₀ sign₀ out at m sign = length (toksAt s (at .start))
+expression-μ-loop s two alone reserved currencies counters c depth out₀ n at₀ m₀ sign₀ tight₀ from₀ place₀ out at m sign tight from place = length (toksAt s (at .start))
 
 expression-loop-holds : (t : ℕ) → expression-lts.Need-loop-holds (
   comparison-below t,
   comparison.Post,
   join-reads.Asked,
   join-reads.Learnt,
-  is-joint-reads.Asked,
-  is-joint-reads.Learnt,
+  is-tighter-reads.Asked,
+  is-tighter-reads.Learnt,
   next-reads.Asked,
   next-reads.Learnt,
+  is-looser-reads.Asked,
+  is-looser-reads.Learnt,
 ) (expression-at t) expression.Post expression-Inv-loop expression-μ-loop
-unfolding G.expression
 expression-loop-holds t c =
     let start = c .before .before .before .before .before in
     let args = start .args in
-    (refl, pend-first (joint-level (wordsIn (args .reserved .now) (args .currencies .now) (args .counters .now)) (args .depth)) (args .s .now) (args .c) (args .n) (args .out .now) (start .pre .1 .0))
+    (refl, nests-as (args .two) (args .alone) (args .reserved .now) (args .currencies .now) (args .counters .now) (args .depth) (args .s .now) (args .c) (args .n) (args .out .now) (start .pre .1 .0))
 
 expression-comparison-requires : (t : ℕ) → expression-lts.Need-comparison-requires (
   comparison-below t,
   comparison.Post,
   join-reads.Asked,
   join-reads.Learnt,
-  is-joint-reads.Asked,
-  is-joint-reads.Learnt,
+  is-tighter-reads.Asked,
+  is-tighter-reads.Learnt,
   next-reads.Asked,
   next-reads.Learnt,
+  is-looser-reads.Asked,
+  is-looser-reads.Learnt,
 ) (expression-at t) expression.Post expression-Inv-loop expression-μ-loop
 expression-comparison-requires t c κs =
     let start = c .before .before .before .before .before .before .before in
     let args = start .args in
-    (omega (arith, start .pre .0), (pend-ready (joint-level (wordsIn (args .reserved .now) (args .currencies .now) (args .counters .now)) (args .depth)) (args .s .now) _ _ _ _ _ _ _ _ (c .before .loop .inv .1), start .pre .1 .1))
+    let words = languageIn (args .two) (args .reserved .now) (args .currencies .now) (args .counters .now) in
+    (omega (arith, start .pre .0), (nest-ready (looser-level words (args .depth) (args .two) (args .alone)) (tighter-level words (args .depth) (args .two) (args .alone)) (args .s .now) _ _ _ _ _ _ _ _ _ _ _ (c .before .loop .inv .1), start .pre .1 .1))
 
 expression-enum-known-r : (t : ℕ) → expression-lts.Need-enum-known-r (
   comparison-below t,
   comparison.Post,
   join-reads.Asked,
   join-reads.Learnt,
-  is-joint-reads.Asked,
-  is-joint-reads.Learnt,
+  is-tighter-reads.Asked,
+  is-tighter-reads.Learnt,
   next-reads.Asked,
   next-reads.Learnt,
+  is-looser-reads.Asked,
+  is-looser-reads.Learnt,
 ) (expression-at t) expression.Post expression-Inv-loop expression-μ-loop
 expression-enum-known-r t c = search needs
 
@@ -961,10 +988,12 @@ expression-enum-told : (t : ℕ) → expression-lts.Need-enum-told (
   comparison.Post,
   join-reads.Asked,
   join-reads.Learnt,
-  is-joint-reads.Asked,
-  is-joint-reads.Learnt,
+  is-tighter-reads.Asked,
+  is-tighter-reads.Learnt,
   next-reads.Asked,
   next-reads.Learnt,
+  is-looser-reads.Asked,
+  is-looser-reads.Learnt,
 ) (expression-at t) expression.Post expression-Inv-loop expression-μ-loop
 expression-enum-told t c = search needs
 
@@ -973,103 +1002,81 @@ expression-same-length : (t : ℕ) → expression-lts.Need-same-length (
   comparison.Post,
   join-reads.Asked,
   join-reads.Learnt,
-  is-joint-reads.Asked,
-  is-joint-reads.Learnt,
+  is-tighter-reads.Asked,
+  is-tighter-reads.Learnt,
   next-reads.Asked,
   next-reads.Learnt,
+  is-looser-reads.Asked,
+  is-looser-reads.Learnt,
 ) (expression-at t) expression.Post expression-Inv-loop expression-μ-loop
 expression-same-length t c =
     let at-comparison = c .before .before .before .before in
-    at-comparison .comparison .kept .1 .1 .1 .1 .1 .1 .0 ∙ at-comparison .before .before .loop .inv .0
+    at-comparison .comparison .kept .1 .1 .1 .1 .1 .1 .1 .1 .0 ∙ at-comparison .before .before .loop .inv .0
 
 expression-returns : (t : ℕ) → expression-lts.Need-returns (
   comparison-below t,
   comparison.Post,
   join-reads.Asked,
   join-reads.Learnt,
-  is-joint-reads.Asked,
-  is-joint-reads.Learnt,
+  is-tighter-reads.Asked,
+  is-tighter-reads.Learnt,
   next-reads.Asked,
   next-reads.Learnt,
+  is-looser-reads.Asked,
+  is-looser-reads.Learnt,
 ) (expression-at t) expression.Post expression-Inv-loop expression-μ-loop
 expression-returns t c =
     let at-comparison = c .before .before .before .before in
     let at-loop = at-comparison .before .before in
     let args = at-loop .before .before .before .before .before .before .args in
-    refused-on _ _ _ _ _ _ _ _ _ _ _ _ (c .enum-told .given .1) (at-comparison .comparison .ensures) (pend-refused (joint-level (wordsIn (args .reserved .now) (args .currencies .now) (args .counters .now)) (args .depth)) (args .s .now) _ _ _ _ _ _ _ _ (at-loop .loop .inv .1) _ _)
+    let words = languageIn (args .two) (args .reserved .now) (args .currencies .now) (args .counters .now) in
+    refused-on _ _ _ _ _ _ _ _ _ _ _ _ (c .enum-told .given .1) (at-comparison .comparison .ensures) (nest-refused (looser-level words (args .depth) (args .two) (args .alone)) (tighter-level words (args .depth) (args .two) (args .alone)) (args .s .now) _ _ _ _ _ _ _ _ _ _ _ (at-loop .loop .inv .1) _ _)
 
 expression-join-requires : (t : ℕ) → expression-lts.Need-join-requires (
   comparison-below t,
   comparison.Post,
   join-reads.Asked,
   join-reads.Learnt,
-  is-joint-reads.Asked,
-  is-joint-reads.Learnt,
+  is-tighter-reads.Asked,
+  is-tighter-reads.Learnt,
   next-reads.Asked,
   next-reads.Learnt,
+  is-looser-reads.Asked,
+  is-looser-reads.Learnt,
 ) (expression-at t) expression.Post expression-Inv-loop expression-μ-loop
 expression-join-requires t c κs =
     let at-r = c .before .before in
     let at-comparison = at-r .before .before .before .before in
     let at-loop = at-comparison .before .before in
     let args = at-loop .before .before .before .before .before .before .args in
-    pend-numbers (joint-level (wordsIn (args .reserved .now) (args .currencies .now) (args .counters .now)) (args .depth)) (args .s .now) _ _ _ _ _ _ _ _ (at-loop .loop .inv .1) _ _ _ _ (done-reads _ _ _ _ _ _ _ _ _ (at-r .r .given .1) (at-comparison .comparison .ensures))
+    let words = languageIn (args .two) (args .reserved .now) (args .currencies .now) (args .counters .now) in
+    nest-numbers (looser-level words (args .depth) (args .two) (args .alone)) (tighter-level words (args .depth) (args .two) (args .alone)) (args .s .now) _ _ _ _ _ _ _ _ _ _ _ (at-loop .loop .inv .1) _ _ _ _ (done-reads _ _ _ _ _ _ _ _ _ (at-r .r .given .1) (at-comparison .comparison .ensures))
 
-expression-is-joint-requires : (t : ℕ) → expression-lts.Need-is-joint-requires (
+expression-is-tighter-requires : (t : ℕ) → expression-lts.Need-is-tighter-requires (
   comparison-below t,
   comparison.Post,
   join-reads.Asked,
   join-reads.Learnt,
-  is-joint-reads.Asked,
-  is-joint-reads.Learnt,
+  is-tighter-reads.Asked,
+  is-tighter-reads.Learnt,
   next-reads.Asked,
   next-reads.Learnt,
+  is-looser-reads.Asked,
+  is-looser-reads.Learnt,
 ) (expression-at t) expression.Post expression-Inv-loop expression-μ-loop
-expression-is-joint-requires t c κs = search needs
-
-expression-same-length-2 : (t : ℕ) → expression-lts.Need-same-length-2 (
-  comparison-below t,
-  comparison.Post,
-  join-reads.Asked,
-  join-reads.Learnt,
-  is-joint-reads.Asked,
-  is-joint-reads.Learnt,
-  next-reads.Asked,
-  next-reads.Learnt,
-) (expression-at t) expression.Post expression-Inv-loop expression-μ-loop
-expression-same-length-2 t c =
-    let at-join = c .before .before .before .before in
-    let at-comparison = at-join .before .before .before .before .before .before .before in
-    at-join .join .kept .0 ∙ (at-comparison .comparison .kept .1 .1 .1 .1 .1 .1 .0 ∙ at-comparison .before .before .loop .inv .0)
-
-expression-returns-2 : (t : ℕ) → expression-lts.Need-returns-2 (
-  comparison-below t,
-  comparison.Post,
-  join-reads.Asked,
-  join-reads.Learnt,
-  is-joint-reads.Asked,
-  is-joint-reads.Learnt,
-  next-reads.Asked,
-  next-reads.Learnt,
-) (expression-at t) expression.Post expression-Inv-loop expression-μ-loop
-expression-returns-2 t c =
-    let at-join = c .before .before .before .before in
-    let at-r = at-join .before .before .before in
-    let at-comparison = at-r .before .before .before .before in
-    let at-loop = at-comparison .before .before in
-    let args = at-loop .before .before .before .before .before .before .args in
-    let words = wordsIn (args .reserved .now) (args .currencies .now) (args .counters .now) in
-    chain-exit (joint-level words (args .depth)) (args .s .now) _ _ _ _ _ _ _ _ (pend-chain (joint-level words (args .depth)) (args .s .now) _ _ _ _ _ _ _ _ (at-loop .loop .inv .1) _ _ _ _ (done-reads _ _ _ _ _ _ _ _ _ (at-r .r .given .1) (at-comparison .comparison .ensures)) (at-join .join .result) _ (at-join .join .ensures)) (sym (c .before .is-joint .ensures) ∙ not-true _ (c .if1 .taken))
+expression-is-tighter-requires t c κs = search needs
 
 expression-next-requires : (t : ℕ) → expression-lts.Need-next-requires (
   comparison-below t,
   comparison.Post,
   join-reads.Asked,
   join-reads.Learnt,
-  is-joint-reads.Asked,
-  is-joint-reads.Learnt,
+  is-tighter-reads.Asked,
+  is-tighter-reads.Learnt,
   next-reads.Asked,
   next-reads.Learnt,
+  is-looser-reads.Asked,
+  is-looser-reads.Learnt,
 ) (expression-at t) expression.Post expression-Inv-loop expression-μ-loop
 expression-next-requires t c κs =
     let at-join = c .before .before .before .before in
@@ -1077,46 +1084,197 @@ expression-next-requires t c κs =
     let at-comparison = at-r .before .before .before .before in
     let at-loop = at-comparison .before .before in
     let args = at-loop .before .before .before .before .before .before .args in
-    (pend-chain (joint-level (wordsIn (args .reserved .now) (args .currencies .now) (args .counters .now)) (args .depth)) (args .s .now) _ _ _ _ _ _ _ _ (at-loop .loop .inv .1) _ _ _ _ (done-reads _ _ _ _ _ _ _ _ _ (at-r .r .given .1) (at-comparison .comparison .ensures)) (at-join .join .result) _ (at-join .join .ensures)) .holds
+    let words = languageIn (args .two) (args .reserved .now) (args .currencies .now) (args .counters .now) in
+    nest-holds (looser-level words (args .depth) (args .two) (args .alone)) (tighter-level words (args .depth) (args .two) (args .alone)) (args .s .now) _ _ _ _ _ _ _ _ _ _ _ (at-loop .loop .inv .1) _ _ _ _ (done-reads _ _ _ _ _ _ _ _ _ (at-r .r .given .1) (at-comparison .comparison .ensures)) (at-join .join .result) _ (at-join .join .ensures)
 
 expression-loop-less : (t : ℕ) → expression-lts.Need-loop-less (
   comparison-below t,
   comparison.Post,
   join-reads.Asked,
   join-reads.Learnt,
-  is-joint-reads.Asked,
-  is-joint-reads.Learnt,
+  is-tighter-reads.Asked,
+  is-tighter-reads.Learnt,
   next-reads.Asked,
   next-reads.Learnt,
+  is-looser-reads.Asked,
+  is-looser-reads.Learnt,
 ) (expression-at t) expression.Post expression-Inv-loop expression-μ-loop
 expression-loop-less t c =
-    let at-is-joint = c .before .before in
-    let at-r = at-is-joint .before .before .before .before .before .before in
+    let at-is-tighter = c .before .before in
+    let at-r = at-is-tighter .before .before .before .before .before .before in
     let at-comparison = at-r .before .before .before .before in
     let at-loop = at-comparison .before .before in
     let args = at-loop .before .before .before .before .before .before .args in
-    pend-less (joint-level (wordsIn (args .reserved .now) (args .currencies .now) (args .counters .now)) (args .depth)) (args .s .now) _ _ _ _ _ _ _ _ (at-loop .loop .inv .1) _ _ _ _ (done-reads _ _ _ _ _ _ _ _ _ (at-r .r .given .1) (at-comparison .comparison .ensures)) (sym (at-is-joint .is-joint .ensures) ∙ not-false _ (c .before .if1 .left)) (c .next .result) (c .next .ensures)
+    let words = languageIn (args .two) (args .reserved .now) (args .currencies .now) (args .counters .now) in
+    nest-less (looser-level words (args .depth) (args .two) (args .alone)) (tighter-level words (args .depth) (args .two) (args .alone)) (args .s .now) _ _ _ _ _ _ _ _ _ _ _ (at-loop .loop .inv .1) _ _ _ _ (done-reads _ _ _ _ _ _ _ _ _ (at-r .r .given .1) (at-comparison .comparison .ensures)) (tighter-some words (args .depth) (args .two) (args .alone) _ (sym (at-is-tighter .is-tighter .ensures) ∙ c .before .if1 .taken)) (c .next .result) (c .next .ensures)
 
 expression-loop-again : (t : ℕ) → expression-lts.Need-loop-again (
   comparison-below t,
   comparison.Post,
   join-reads.Asked,
   join-reads.Learnt,
-  is-joint-reads.Asked,
-  is-joint-reads.Learnt,
+  is-tighter-reads.Asked,
+  is-tighter-reads.Learnt,
   next-reads.Asked,
   next-reads.Learnt,
+  is-looser-reads.Asked,
+  is-looser-reads.Learnt,
 ) (expression-at t) expression.Post expression-Inv-loop expression-μ-loop
 expression-loop-again t c =
-    let at-is-joint = c .before .before in
-    let at-join = at-is-joint .before .before .before in
+    let at-is-tighter = c .before .before in
+    let at-join = at-is-tighter .before .before .before in
     let at-r = at-join .before .before .before in
     let at-comparison = at-r .before .before .before .before in
     let at-loop = at-comparison .before .before in
     let join = at-join .join in
     let args = at-loop .before .before .before .before .before .before .args in
-    let words = wordsIn (args .reserved .now) (args .currencies .now) (args .counters .now) in
-    (join .kept .0 ∙ (at-comparison .comparison .kept .1 .1 .1 .1 .1 .1 .0 ∙ at-loop .loop .inv .0), pend-next (joint-level words (args .depth)) (args .s .now) _ _ _ _ _ _ _ _ (pend-chain (joint-level words (args .depth)) (args .s .now) _ _ _ _ _ _ _ _ (at-loop .loop .inv .1) _ _ _ _ (done-reads _ _ _ _ _ _ _ _ _ (at-r .r .given .1) (at-comparison .comparison .ensures)) (join .result) _ (join .ensures)) (sym (at-is-joint .is-joint .ensures) ∙ not-false _ (c .before .if1 .left)) (c .next .result) (c .next .ensures))
+    let words = languageIn (args .two) (args .reserved .now) (args .currencies .now) (args .counters .now) in
+    (join .kept .0 ∙ (at-comparison .comparison .kept .1 .1 .1 .1 .1 .1 .1 .1 .0 ∙ at-loop .loop .inv .0), nest-tighter (looser-level words (args .depth) (args .two) (args .alone)) (tighter-level words (args .depth) (args .two) (args .alone)) (args .s .now) _ _ _ _ _ _ _ _ _ _ _ (at-loop .loop .inv .1) _ _ _ _ (done-reads _ _ _ _ _ _ _ _ _ (at-r .r .given .1) (at-comparison .comparison .ensures)) (join .result) _ (join .ensures) (sym (at-is-tighter .is-tighter .ensures) ∙ c .before .if1 .taken) (c .next .result) (c .next .ensures))
+
+expression-join-requires-2 : (t : ℕ) → expression-lts.Need-join-requires-2 (
+  comparison-below t,
+  comparison.Post,
+  join-reads.Asked,
+  join-reads.Learnt,
+  is-tighter-reads.Asked,
+  is-tighter-reads.Learnt,
+  next-reads.Asked,
+  next-reads.Learnt,
+  is-looser-reads.Asked,
+  is-looser-reads.Learnt,
+) (expression-at t) expression.Post expression-Inv-loop expression-μ-loop
+expression-join-requires-2 t c κs =
+    let at-is-tighter = c .before .before in
+    let at-join = at-is-tighter .before .before .before in
+    let at-r = at-join .before .before .before in
+    let at-comparison = at-r .before .before .before .before in
+    let at-loop = at-comparison .before .before in
+    let args = at-loop .before .before .before .before .before .before .args in
+    let words = languageIn (args .two) (args .reserved .now) (args .currencies .now) (args .counters .now) in
+    nest-whole-numbers (looser-level words (args .depth) (args .two) (args .alone)) (tighter-level words (args .depth) (args .two) (args .alone)) (args .s .now) _ _ _ _ _ _ _ _ _ _ _ (at-loop .loop .inv .1) _ _ _ _ (done-reads _ _ _ _ _ _ _ _ _ (at-r .r .given .1) (at-comparison .comparison .ensures)) (at-join .join .result) _ (at-join .join .ensures) (sym (at-is-tighter .is-tighter .ensures) ∙ c .before .if1 .left)
+
+expression-is-looser-requires : (t : ℕ) → expression-lts.Need-is-looser-requires (
+  comparison-below t,
+  comparison.Post,
+  join-reads.Asked,
+  join-reads.Learnt,
+  is-tighter-reads.Asked,
+  is-tighter-reads.Learnt,
+  next-reads.Asked,
+  next-reads.Learnt,
+  is-looser-reads.Asked,
+  is-looser-reads.Learnt,
+) (expression-at t) expression.Post expression-Inv-loop expression-μ-loop
+expression-is-looser-requires t c κs = search needs
+
+expression-same-length-2 : (t : ℕ) → expression-lts.Need-same-length-2 (
+  comparison-below t,
+  comparison.Post,
+  join-reads.Asked,
+  join-reads.Learnt,
+  is-tighter-reads.Asked,
+  is-tighter-reads.Learnt,
+  next-reads.Asked,
+  next-reads.Learnt,
+  is-looser-reads.Asked,
+  is-looser-reads.Learnt,
+) (expression-at t) expression.Post expression-Inv-loop expression-μ-loop
+expression-same-length-2 t c =
+    let at-join2 = c .before .before .before .before in
+    let at-join = at-join2 .before .before .before .before .before .before in
+    let at-comparison = at-join .before .before .before .before .before .before .before in
+    at-join2 .join2 .kept .0 ∙ (at-join .join .kept .0 ∙ (at-comparison .comparison .kept .1 .1 .1 .1 .1 .1 .1 .1 .0 ∙ at-comparison .before .before .loop .inv .0))
+
+expression-returns-2 : (t : ℕ) → expression-lts.Need-returns-2 (
+  comparison-below t,
+  comparison.Post,
+  join-reads.Asked,
+  join-reads.Learnt,
+  is-tighter-reads.Asked,
+  is-tighter-reads.Learnt,
+  next-reads.Asked,
+  next-reads.Learnt,
+  is-looser-reads.Asked,
+  is-looser-reads.Learnt,
+) (expression-at t) expression.Post expression-Inv-loop expression-μ-loop
+expression-returns-2 t c =
+    let at-join2 = c .before .before .before .before in
+    let at-if1 = at-join2 .before .before in
+    let at-join = at-if1 .before .before .before .before in
+    let at-r = at-join .before .before .before in
+    let at-comparison = at-r .before .before .before .before in
+    let at-loop = at-comparison .before .before in
+    let args = at-loop .before .before .before .before .before .before .args in
+    let words = languageIn (args .two) (args .reserved .now) (args .currencies .now) (args .counters .now) in
+    nest-exit (looser-level words (args .depth) (args .two) (args .alone)) (tighter-level words (args .depth) (args .two) (args .alone)) (args .s .now) _ _ _ _ _ _ _ _ _ _ _ (at-loop .loop .inv .1) _ _ _ _ (done-reads _ _ _ _ _ _ _ _ _ (at-r .r .given .1) (at-comparison .comparison .ensures)) (at-join .join .result) _ (at-join .join .ensures) (sym (at-if1 .before .is-tighter .ensures) ∙ at-if1 .if1 .left) (at-join2 .join2 .result) _ (at-join2 .join2 .ensures) (sym (c .before .is-looser .ensures) ∙ not-true _ (c .if2 .taken))
+
+expression-next-requires-2 : (t : ℕ) → expression-lts.Need-next-requires-2 (
+  comparison-below t,
+  comparison.Post,
+  join-reads.Asked,
+  join-reads.Learnt,
+  is-tighter-reads.Asked,
+  is-tighter-reads.Learnt,
+  next-reads.Asked,
+  next-reads.Learnt,
+  is-looser-reads.Asked,
+  is-looser-reads.Learnt,
+) (expression-at t) expression.Post expression-Inv-loop expression-μ-loop
+expression-next-requires-2 t c κs =
+    let at-join = c .before .before .before .before .before .before .before .before .before .before in
+    let at-r = at-join .before .before .before in
+    let at-comparison = at-r .before .before .before .before in
+    let at-loop = at-comparison .before .before in
+    let args = at-loop .before .before .before .before .before .before .args in
+    let words = languageIn (args .two) (args .reserved .now) (args .currencies .now) (args .counters .now) in
+    nest-holds (looser-level words (args .depth) (args .two) (args .alone)) (tighter-level words (args .depth) (args .two) (args .alone)) (args .s .now) _ _ _ _ _ _ _ _ _ _ _ (at-loop .loop .inv .1) _ _ _ _ (done-reads _ _ _ _ _ _ _ _ _ (at-r .r .given .1) (at-comparison .comparison .ensures)) (at-join .join .result) _ (at-join .join .ensures)
+
+expression-loop-less-2 : (t : ℕ) → expression-lts.Need-loop-less-2 (
+  comparison-below t,
+  comparison.Post,
+  join-reads.Asked,
+  join-reads.Learnt,
+  is-tighter-reads.Asked,
+  is-tighter-reads.Learnt,
+  next-reads.Asked,
+  next-reads.Learnt,
+  is-looser-reads.Asked,
+  is-looser-reads.Learnt,
+) (expression-at t) expression.Post expression-Inv-loop expression-μ-loop
+expression-loop-less-2 t c =
+    let at-is-looser = c .before .before in
+    let at-r = at-is-looser .before .before .before .before .before .before .before .before .before .before .before .before in
+    let at-comparison = at-r .before .before .before .before in
+    let at-loop = at-comparison .before .before in
+    let args = at-loop .before .before .before .before .before .before .args in
+    let words = languageIn (args .two) (args .reserved .now) (args .currencies .now) (args .counters .now) in
+    nest-less (looser-level words (args .depth) (args .two) (args .alone)) (tighter-level words (args .depth) (args .two) (args .alone)) (args .s .now) _ _ _ _ _ _ _ _ _ _ _ (at-loop .loop .inv .1) _ _ _ _ (done-reads _ _ _ _ _ _ _ _ _ (at-r .r .given .1) (at-comparison .comparison .ensures)) (looser-some words (args .depth) (args .two) (args .alone) _ (sym (at-is-looser .is-looser .ensures) ∙ not-false _ (c .before .if2 .left))) (c .next2 .result) (c .next2 .ensures)
+
+expression-loop-again-2 : (t : ℕ) → expression-lts.Need-loop-again-2 (
+  comparison-below t,
+  comparison.Post,
+  join-reads.Asked,
+  join-reads.Learnt,
+  is-tighter-reads.Asked,
+  is-tighter-reads.Learnt,
+  next-reads.Asked,
+  next-reads.Learnt,
+  is-looser-reads.Asked,
+  is-looser-reads.Learnt,
+) (expression-at t) expression.Post expression-Inv-loop expression-μ-loop
+expression-loop-again-2 t c =
+    let at-is-looser = c .before .before in
+    let at-join2 = at-is-looser .before .before .before in
+    let at-if1 = at-join2 .before .before in
+    let at-join = at-if1 .before .before .before .before in
+    let at-r = at-join .before .before .before in
+    let at-comparison = at-r .before .before .before .before in
+    let at-loop = at-comparison .before .before in
+    let join2 = at-join2 .join2 in
+    let join = at-join .join in
+    let args = at-loop .before .before .before .before .before .before .args in
+    let words = languageIn (args .two) (args .reserved .now) (args .currencies .now) (args .counters .now) in
+    (join2 .kept .0 ∙ (join .kept .0 ∙ (at-comparison .comparison .kept .1 .1 .1 .1 .1 .1 .1 .1 .0 ∙ at-loop .loop .inv .0)), nest-looser (looser-level words (args .depth) (args .two) (args .alone)) (tighter-level words (args .depth) (args .two) (args .alone)) (args .s .now) _ _ _ _ _ _ _ _ _ _ _ (at-loop .loop .inv .1) _ _ _ _ (done-reads _ _ _ _ _ _ _ _ _ (at-r .r .given .1) (at-comparison .comparison .ensures)) (join .result) _ (join .ensures) (sym (at-if1 .before .is-tighter .ensures) ∙ at-if1 .if1 .left) (join2 .result) _ (join2 .ensures) (sym (at-is-looser .is-looser .ensures) ∙ not-false _ (c .before .if2 .left)) (c .next2 .result) (c .next2 .ensures))
 
 index-expression-requires : (t : ℕ) → index-lts.Need-expression-requires (
   expression-below t,
@@ -1179,8 +1337,8 @@ index-returns : (t : ℕ) → index-lts.Need-returns (
 index-returns t c =
     let at-expression = c .before .before .before .before in
     let args = at-expression .before .before .before .before .before .before .before .args in
-    let words = wordsIn (args .reserved .now) (args .currencies .now) (args .counters .now) in
-    index-refuses (primaryG words (args .depth)) (primary-law words (args .depth)) (primary-size words (args .depth)) (args .place) (args .s .now) (args .c) (args .n) (args .m) (args .out .now) _ (at-expression .expression .result) _ _ (c .enum-told .given .1) (at-expression .expression .ensures)
+    let words = languageIn (args .two) (args .reserved .now) (args .currencies .now) (args .counters .now) in
+    index-refuses words (primaryG words (args .depth)) (primary-law words (args .depth)) (primary-size words (args .depth)) (args .place) (args .s .now) (args .c) (args .n) (args .m) (args .out .now) _ (at-expression .expression .result) _ _ (c .enum-told .given .1) (at-expression .expression .ensures)
 
 index-take-requires : (t : ℕ) → index-lts.Need-take-requires (
   expression-below t,
@@ -1247,8 +1405,8 @@ index-returns-2 t c =
     let at-r = at-take .before .before in
     let at-expression = at-r .before .before .before .before in
     let args = at-expression .before .before .before .before .before .before .before .args in
-    let words = wordsIn (args .reserved .now) (args .currencies .now) (args .counters .now) in
-    index-open (primaryG words (args .depth)) (primary-law words (args .depth)) (primary-size words (args .depth)) (args .place) (args .s .now) (args .c) (args .n) (args .m) (args .out .now) _ _ _ _ (done-reads _ _ _ _ (at-expression .expression .result) _ _ _ _ (at-r .r .given .1) (at-expression .expression .ensures)) (at-take .take .result) _ (c .enum-told2 .given .1) (at-take .take .ensures) (args .out .now)
+    let words = languageIn (args .two) (args .reserved .now) (args .currencies .now) (args .counters .now) in
+    index-open words (primaryG words (args .depth)) (primary-law words (args .depth)) (primary-size words (args .depth)) (args .place) (args .s .now) (args .c) (args .n) (args .m) (args .out .now) _ _ _ _ (done-reads _ _ _ _ (at-expression .expression .result) _ _ _ _ (at-r .r .given .1) (at-expression .expression .ensures)) (at-take .take .result) _ (c .enum-told2 .given .1) (at-take .take .ensures) (args .out .now)
 
 index-sub-plain : (t : ℕ) → index-lts.Need-sub-plain (
   expression-below t,
@@ -1267,8 +1425,8 @@ index-sub-plain t c =
     let at-expression = at-r .before .before .before .before in
     let start = at-expression .before .before .before .before .before .before .before in
     let args = start .args in
-    let words = wordsIn (args .reserved .now) (args .currencies .now) (args .counters .now) in
-    omega (arith, index-numbers (primaryG words (args .depth)) (primary-law words (args .depth)) (primary-size words (args .depth)) (args .place) (args .s .now) (args .c) (args .n) (args .m) (args .out .now) _ _ _ _ (done-reads _ _ _ _ (at-expression .expression .result) _ _ _ _ (at-r .r .given .1) (at-expression .expression .ensures)) (start .pre .1 .0 .1) (start .pre .1 .2) (at-take .take .result) _ (at-e .e .given .1) (at-take .take .ensures))
+    let words = languageIn (args .two) (args .reserved .now) (args .currencies .now) (args .counters .now) in
+    omega (arith, index-numbers words (primaryG words (args .depth)) (primary-law words (args .depth)) (primary-size words (args .depth)) (args .place) (args .s .now) (args .c) (args .n) (args .m) (args .out .now) _ _ _ _ (done-reads _ _ _ _ (at-expression .expression .result) _ _ _ _ (at-r .r .given .1) (at-expression .expression .ensures)) (start .pre .1 .0 .1) (start .pre .1 .2) (at-take .take .result) _ (at-e .e .given .1) (at-take .take .ensures))
 
 index-add-plain : (t : ℕ) → index-lts.Need-add-plain (
   expression-below t,
@@ -1287,8 +1445,8 @@ index-add-plain t c =
     let at-expression = at-r .before .before .before .before in
     let start = at-expression .before .before .before .before .before .before .before in
     let args = start .args in
-    let words = wordsIn (args .reserved .now) (args .currencies .now) (args .counters .now) in
-    omega (arith, index-numbers (primaryG words (args .depth)) (primary-law words (args .depth)) (primary-size words (args .depth)) (args .place) (args .s .now) (args .c) (args .n) (args .m) (args .out .now) _ _ _ _ (done-reads _ _ _ _ (at-expression .expression .result) _ _ _ _ (at-r .r .given .1) (at-expression .expression .ensures)) (start .pre .1 .0 .1) (start .pre .1 .2) (at-take .take .result) _ (at-e .e .given .1) (at-take .take .ensures))
+    let words = languageIn (args .two) (args .reserved .now) (args .currencies .now) (args .counters .now) in
+    omega (arith, index-numbers words (primaryG words (args .depth)) (primary-law words (args .depth)) (primary-size words (args .depth)) (args .place) (args .s .now) (args .c) (args .n) (args .m) (args .out .now) _ _ _ _ (done-reads _ _ _ _ (at-expression .expression .result) _ _ _ _ (at-r .r .given .1) (at-expression .expression .ensures)) (start .pre .1 .0 .1) (start .pre .1 .2) (at-take .take .result) _ (at-e .e .given .1) (at-take .take .ensures))
 
 index-plain-requires : (t : ℕ) → index-lts.Need-plain-requires (
   expression-below t,
@@ -1314,7 +1472,7 @@ index-put-requires : (t : ℕ) → index-lts.Need-put-requires (
 ) (index-at t) index.Post
 index-put-requires t c κs = search needs
 
-index-add-t22 : (t : ℕ) → index-lts.Need-add-t22 (
+index-add-t23 : (t : ℕ) → index-lts.Need-add-t23 (
   expression-below t,
   expression.Post,
   take-reads.Asked,
@@ -1324,15 +1482,15 @@ index-add-t22 : (t : ℕ) → index-lts.Need-add-t22 (
   put-reads.Asked,
   put-reads.Learnt,
 ) (index-at t) index.Post
-index-add-t22 t c =
+index-add-t23 t c =
     let at-e = c .before .before .before .before .before .before in
     let at-take = at-e .before .before in
     let at-r = at-take .before .before in
     let at-expression = at-r .before .before .before .before in
     let start = at-expression .before .before .before .before .before .before .before in
     let args = start .args in
-    let words = wordsIn (args .reserved .now) (args .currencies .now) (args .counters .now) in
-    omega (arith, index-numbers (primaryG words (args .depth)) (primary-law words (args .depth)) (primary-size words (args .depth)) (args .place) (args .s .now) (args .c) (args .n) (args .m) (args .out .now) _ _ _ _ (done-reads _ _ _ _ (at-expression .expression .result) _ _ _ _ (at-r .r .given .1) (at-expression .expression .ensures)) (start .pre .1 .0 .1) (start .pre .1 .2) (at-take .take .result) _ (at-e .e .given .1) (at-take .take .ensures))
+    let words = languageIn (args .two) (args .reserved .now) (args .currencies .now) (args .counters .now) in
+    omega (arith, index-numbers words (primaryG words (args .depth)) (primary-law words (args .depth)) (primary-size words (args .depth)) (args .place) (args .s .now) (args .c) (args .n) (args .m) (args .out .now) _ _ _ _ (done-reads _ _ _ _ (at-expression .expression .result) _ _ _ _ (at-r .r .given .1) (at-expression .expression .ensures)) (start .pre .1 .0 .1) (start .pre .1 .2) (at-take .take .result) _ (at-e .e .given .1) (at-take .take .ensures))
 
 index-same-length-3 : (t : ℕ) → index-lts.Need-same-length-3 (
   expression-below t,
@@ -1364,14 +1522,14 @@ index-returns-3 t c =
     let at-expression = at-r .before .before .before .before in
     let start = at-expression .before .before .before .before .before .before .before in
     let args = start .args in
-    let words = wordsIn (args .reserved .now) (args .currencies .now) (args .counters .now) in
-    index-reads (primaryG words (args .depth)) (primary-law words (args .depth)) (primary-size words (args .depth)) (args .place) (args .s .now) (args .c) (args .n) (args .m) (args .out .now) _ _ _ _ (done-reads _ _ _ _ (at-expression .expression .result) _ _ _ _ (at-r .r .given .1) (at-expression .expression .ensures)) (start .pre .1 .0 .1) (start .pre .1 .2) (at-take .take .result) _ (at-e .e .given .1) (at-take .take .ensures) _ (put-fields _ _ _ _ _ _ _ _ _ _ (at-put .before .plain .ensures) (at-put .put .ensures))
+    let words = languageIn (args .two) (args .reserved .now) (args .currencies .now) (args .counters .now) in
+    index-reads words (primaryG words (args .depth)) (primary-law words (args .depth)) (primary-size words (args .depth)) (args .place) (args .s .now) (args .c) (args .n) (args .m) (args .out .now) _ _ _ _ (done-reads _ _ _ _ (at-expression .expression .result) _ _ _ _ (at-r .r .given .1) (at-expression .expression .ensures)) (start .pre .1 .0 .1) (start .pre .1 .2) (at-take .take .result) _ (at-e .e .given .1) (at-take .take .ensures) _ (put-fields _ _ _ _ _ _ _ _ _ _ (at-put .before .plain .ensures) (at-put .put .ensures))
 
 abbrev items-Inv-loop : items-lts.InvT-loop
-items-Inv-loop s reserved currencies counters close depth out₀ n at₀ m₀ count₀ texts₀ out at m count texts = (length out ≡ length out₀) × ItemChain close (G.primary (wordsIn reserved currencies counters) depth) s (itemsBy close (G.primary (wordsIn reserved currencies counters) depth) (toksAt s (at₀ .start))) n out₀ at m count texts out
+items-Inv-loop s two reserved currencies counters close depth out₀ n at₀ m₀ count₀ texts₀ out at m count texts = (length out ≡ length out₀) × ItemChain (languageIn two reserved currencies counters) close (G.primary (languageIn two reserved currencies counters) depth) s (itemsBy (languageIn two reserved currencies counters) close (G.primary (languageIn two reserved currencies counters) depth) (toksAt s (at₀ .start))) n out₀ at m count texts out
 
 abbrev items-μ-loop : items-lts.MeasureT-loop
-items-μ-loop s reserved currencies counters close depth out₀ n at₀ m₀ count₀ texts₀ out at m count texts = length (toksAt s (at .start))
+items-μ-loop s two reserved currencies counters close depth out₀ n at₀ m₀ count₀ texts₀ out at m count texts = length (toksAt s (at .start))
 
 items-loop-holds : (t : ℕ) → items-lts.Need-loop-holds (
   expression-below t,
@@ -1386,8 +1544,8 @@ items-loop-holds : (t : ℕ) → items-lts.Need-loop-holds (
 items-loop-holds t c =
     let start = c .before .before .before .before .before in
     let args = start .args in
-    let words = wordsIn (args .reserved .now) (args .currencies .now) (args .counters .now) in
-    (refl, items-start (args .close) (G.primary words (args .depth)) (primary-law words (args .depth)) (primary-size words (args .depth)) (args .s .now) _ _ _ (start .pre .1 .0))
+    let words = languageIn (args .two) (args .reserved .now) (args .currencies .now) (args .counters .now) in
+    (refl, items-start words (args .close) (G.primary words (args .depth)) (primary-law words (args .depth)) (primary-size words (args .depth)) (args .s .now) _ _ _ (start .pre .1 .0))
 
 items-same-length : (t : ℕ) → items-lts.Need-same-length (
   expression-below t,
@@ -1414,8 +1572,8 @@ items-returns : (t : ℕ) → items-lts.Need-returns (
 items-returns t c =
     let at-loop = c .before .before in
     let args = at-loop .before .before .before .before .before .before .args in
-    let words = wordsIn (args .reserved .now) (args .currencies .now) (args .counters .now) in
-    (items-exit (args .close) (G.primary words (args .depth)) (primary-law words (args .depth)) (primary-size words (args .depth)) (args .s .now) _ _ _ _ _ _ _ _ (at-loop .loop .inv .1) (c .if1 .taken), c .if1 .taken)
+    let words = languageIn (args .two) (args .reserved .now) (args .currencies .now) (args .counters .now) in
+    (items-exit words (args .close) (G.primary words (args .depth)) (primary-law words (args .depth)) (primary-size words (args .depth)) (args .s .now) _ _ _ _ _ _ _ _ (at-loop .loop .inv .1) (c .if1 .taken), c .if1 .taken)
 
 items-expression-requires : (t : ℕ) → items-lts.Need-expression-requires (
   expression-below t,
@@ -1431,8 +1589,8 @@ items-expression-requires t c κs =
     let at-loop = c .before .before .before in
     let start = at-loop .before .before .before .before .before .before in
     let args = start .args in
-    let words = wordsIn (args .reserved .now) (args .currencies .now) (args .counters .now) in
-    (omega (arith, start .pre .0), (items-ready (args .close) (G.primary words (args .depth)) (primary-law words (args .depth)) (primary-size words (args .depth)) (args .s .now) _ _ _ _ _ _ _ _ (at-loop .loop .inv .1), start .pre .1 .1))
+    let words = languageIn (args .two) (args .reserved .now) (args .currencies .now) (args .counters .now) in
+    (omega (arith, start .pre .0), (items-ready words (args .close) (G.primary words (args .depth)) (primary-law words (args .depth)) (primary-size words (args .depth)) (args .s .now) _ _ _ _ _ _ _ _ (at-loop .loop .inv .1), start .pre .1 .1))
 
 items-enum-known-r : (t : ℕ) → items-lts.Need-enum-known-r (
   expression-below t,
@@ -1482,7 +1640,7 @@ items-same-length-2 : (t : ℕ) → items-lts.Need-same-length-2 (
 ) (items-at t) items.Post items-Inv-loop items-μ-loop
 items-same-length-2 t c =
     let at-expression = c .before .before .before .before .before in
-    at-expression .expression .kept .1 .1 .1 .1 .1 .1 .0 ∙ at-expression .before .before .before .before .loop .inv .0
+    at-expression .expression .kept .1 .1 .1 .1 .1 .1 .1 .1 .0 ∙ at-expression .before .before .before .before .loop .inv .0
 
 items-returns-2 : (t : ℕ) → items-lts.Need-returns-2 (
   expression-below t,
@@ -1499,8 +1657,8 @@ items-returns-2 t c =
     let at-if1 = at-expression .before .before in
     let at-loop = at-if1 .before .before in
     let args = at-loop .before .before .before .before .before .before .args in
-    let words = wordsIn (args .reserved .now) (args .currencies .now) (args .counters .now) in
-    parts-refusal _ _ _ _ _ _ (c .refused .result) _ _ _ _ _ _ _ (c .before .enum-told .given .1) (at-expression .expression .ensures) (c .refused .ensures) (items-refused (args .close) (G.primary words (args .depth)) (primary-law words (args .depth)) (primary-size words (args .depth)) (args .s .now) _ _ _ _ _ _ _ _ (at-loop .loop .inv .1) (at-if1 .if1 .left) _ _)
+    let words = languageIn (args .two) (args .reserved .now) (args .currencies .now) (args .counters .now) in
+    parts-refusal _ _ _ _ _ _ (c .refused .result) _ _ _ _ _ _ _ (c .before .enum-told .given .1) (at-expression .expression .ensures) (c .refused .ensures) (items-refused words (args .close) (G.primary words (args .depth)) (primary-law words (args .depth)) (primary-size words (args .depth)) (args .s .now) _ _ _ _ _ _ _ _ (at-loop .loop .inv .1) (at-if1 .if1 .left) _ _)
 
 items-follow-requires : (t : ℕ) → items-lts.Need-follow-requires (
   expression-below t,
@@ -1552,7 +1710,7 @@ items-same-length-3 : (t : ℕ) → items-lts.Need-same-length-3 (
 ) (items-at t) items.Post items-Inv-loop items-μ-loop
 items-same-length-3 t c =
     let at-expression = c .before .before .before .before .before .before .before .before in
-    at-expression .expression .kept .1 .1 .1 .1 .1 .1 .0 ∙ at-expression .before .before .before .before .loop .inv .0
+    at-expression .expression .kept .1 .1 .1 .1 .1 .1 .1 .1 .0 ∙ at-expression .before .before .before .before .loop .inv .0
 
 items-returns-3 : (t : ℕ) → items-lts.Need-returns-3 (
   expression-below t,
@@ -1571,8 +1729,8 @@ items-returns-3 t c =
     let at-if1 = at-expression .before .before in
     let at-loop = at-if1 .before .before in
     let args = at-loop .before .before .before .before .before .before .args in
-    let words = wordsIn (args .reserved .now) (args .currencies .now) (args .counters .now) in
-    (items-wrong (args .close) (G.primary words (args .depth)) (primary-law words (args .depth)) (primary-size words (args .depth)) (args .s .now) _ _ _ _ _ _ _ _ (at-loop .loop .inv .1) (at-if1 .if1 .left) _ _ _ _ (done-reads _ _ _ _ _ _ _ _ _ (at-r .r .given .1) (at-expression .expression .ensures)) _ (follows-as _ _ _ _ _ (c .enum-told2 .given .1) (at-follow .follow .ensures)), tt)
+    let words = languageIn (args .two) (args .reserved .now) (args .currencies .now) (args .counters .now) in
+    (items-wrong words (args .close) (G.primary words (args .depth)) (primary-law words (args .depth)) (primary-size words (args .depth)) (args .s .now) _ _ _ _ _ _ _ _ (at-loop .loop .inv .1) (at-if1 .if1 .left) _ _ _ _ (done-reads _ _ _ _ _ _ _ _ _ (at-r .r .given .1) (at-expression .expression .ensures)) _ (follows-as _ _ _ _ _ (c .enum-told2 .given .1) (at-follow .follow .ensures)), tt)
 
 items-shown-requires : (t : ℕ) → items-lts.Need-shown-requires (
   expression-below t,
@@ -1602,8 +1760,8 @@ items-add-count t c =
     let at-if1 = at-expression .before .before in
     let at-loop = at-if1 .before .before in
     let args = at-loop .before .before .before .before .before .before .args in
-    let words = wordsIn (args .reserved .now) (args .currencies .now) (args .counters .now) in
-    omega (arith, items-numbers (args .close) (G.primary words (args .depth)) (primary-law words (args .depth)) (primary-size words (args .depth)) (args .s .now) _ _ _ _ _ _ _ _ (at-loop .loop .inv .1) (at-if1 .if1 .left) _ _ _ _ (done-reads _ _ _ _ _ _ _ _ _ (at-r .r .given .1) (at-expression .expression .ensures)))
+    let words = languageIn (args .two) (args .reserved .now) (args .currencies .now) (args .counters .now) in
+    omega (arith, items-numbers words (args .close) (G.primary words (args .depth)) (primary-law words (args .depth)) (primary-size words (args .depth)) (args .s .now) _ _ _ _ _ _ _ _ (at-loop .loop .inv .1) (at-if1 .if1 .left) _ _ _ _ (done-reads _ _ _ _ _ _ _ _ _ (at-r .r .given .1) (at-expression .expression .ensures)))
 
 items-loop-less : (t : ℕ) → items-lts.Need-loop-less (
   expression-below t,
@@ -1623,8 +1781,8 @@ items-loop-less t c =
     let at-if1 = at-expression .before .before in
     let at-loop = at-if1 .before .before in
     let args = at-loop .before .before .before .before .before .before .args in
-    let words = wordsIn (args .reserved .now) (args .currencies .now) (args .counters .now) in
-    items-less (args .close) (G.primary words (args .depth)) (primary-law words (args .depth)) (primary-size words (args .depth)) (args .s .now) _ _ _ _ _ _ _ _ (at-loop .loop .inv .1) (at-if1 .if1 .left) _ _ _ _ (done-reads _ _ _ _ _ _ _ _ _ (at-r .r .given .1) (at-expression .expression .ensures)) (at-f .f .given .0 .0) (follows-as _ _ _ _ _ (at-f .f .given .1) (at-follow .follow .ensures))
+    let words = languageIn (args .two) (args .reserved .now) (args .currencies .now) (args .counters .now) in
+    items-less words (args .close) (G.primary words (args .depth)) (primary-law words (args .depth)) (primary-size words (args .depth)) (args .s .now) _ _ _ _ _ _ _ _ (at-loop .loop .inv .1) (at-if1 .if1 .left) _ _ _ _ (done-reads _ _ _ _ _ _ _ _ _ (at-r .r .given .1) (at-expression .expression .ensures)) (at-f .f .given .0 .0) (follows-as _ _ _ _ _ (at-f .f .given .1) (at-follow .follow .ensures))
 
 items-loop-again : (t : ℕ) → items-lts.Need-loop-again (
   expression-below t,
@@ -1644,8 +1802,8 @@ items-loop-again t c =
     let at-if1 = at-expression .before .before in
     let at-loop = at-if1 .before .before in
     let args = at-loop .before .before .before .before .before .before .args in
-    let words = wordsIn (args .reserved .now) (args .currencies .now) (args .counters .now) in
-    (at-expression .expression .kept .1 .1 .1 .1 .1 .1 .0 ∙ at-loop .loop .inv .0, items-next (args .close) (G.primary words (args .depth)) (primary-law words (args .depth)) (primary-size words (args .depth)) (args .s .now) _ _ _ _ _ _ _ _ (at-loop .loop .inv .1) (at-if1 .if1 .left) _ _ _ _ (done-reads _ _ _ _ _ _ _ _ _ (at-r .r .given .1) (at-expression .expression .ensures)) (at-f .f .given .0 .0) (follows-as _ _ _ _ _ (at-f .f .given .1) (at-follow .follow .ensures)) (c .shown .result) (c .shown .ensures))
+    let words = languageIn (args .two) (args .reserved .now) (args .currencies .now) (args .counters .now) in
+    (at-expression .expression .kept .1 .1 .1 .1 .1 .1 .1 .1 .0 ∙ at-loop .loop .inv .0, items-next words (args .close) (G.primary words (args .depth)) (primary-law words (args .depth)) (primary-size words (args .depth)) (args .s .now) _ _ _ _ _ _ _ _ (at-loop .loop .inv .1) (at-if1 .if1 .left) _ _ _ _ (done-reads _ _ _ _ _ _ _ _ _ (at-r .r .given .1) (at-expression .expression .ensures)) (at-f .f .given .0 .0) (follows-as _ _ _ _ _ (at-f .f .given .1) (at-follow .follow .ensures)) (c .shown .result) (c .shown .ensures))
 
 list-returns : (t : ℕ) → list-lts.Need-returns (
   items-below t,
@@ -1664,7 +1822,7 @@ list-returns : (t : ℕ) → list-lts.Need-returns (
 list-returns t c =
     let start = c .before .before .before .before .before .before in
     let args = start .args in
-    list-0 (wordsIn (args .reserved .now) (args .currencies .now) (args .counters .now)) (args .depth) (args .s .now) (args .c) (args .d) (start .pre .1 .1) (start .pre .1 .2) (c .if1 .taken)
+    list-0 (languageIn (args .two) (args .reserved .now) (args .currencies .now) (args .counters .now)) (args .depth) (args .s .now) (args .c) (args .d) (start .pre .1 .1) (start .pre .1 .2) (c .if1 .taken)
 
 list-sub-items : (t : ℕ) → list-lts.Need-sub-items (
   items-below t,
@@ -1700,7 +1858,7 @@ list-items-requires t c κs =
     let start = c .before .before .before .before .before .before .before in
     let pre = start .pre in
     let args = start .args in
-    (omega (arith, pre .0, c .before .if1 .left), (list-ready (wordsIn (args .reserved .now) (args .currencies .now) (args .counters .now)) (args .depth) (args .s .now) (args .c) (args .d) (pre .1 .1) (pre .1 .2) (c .before .if1 .left) _ (pre .1 .0 .1), pre .1 .3, inr refl))
+    (omega (arith, pre .0, c .before .if1 .left), (list-ready (languageIn (args .two) (args .reserved .now) (args .currencies .now) (args .counters .now)) (args .depth) (args .s .now) (args .c) (args .d) (pre .1 .1) (pre .1 .2) (c .before .if1 .left) _ (pre .1 .0 .1), pre .1 .3, inr refl))
 
 list-enum-known-r : (t : ℕ) → list-lts.Need-enum-known-r (
   items-below t,
@@ -1764,7 +1922,7 @@ list-same-length : (t : ℕ) → list-lts.Need-same-length (
   postfixes-below t,
   postfixes.Post,
 ) (list-at t) list.Post
-list-same-length t c = c .before .before .before .before .before .items .kept .1 .1 .1 .1 .1 .1 .1 .0
+list-same-length t c = c .before .before .before .before .before .items .kept .1 .1 .1 .1 .1 .1 .1 .1 .0
 
 list-returns-2 : (t : ℕ) → list-lts.Need-returns-2 (
   items-below t,
@@ -1785,7 +1943,7 @@ list-returns-2 t c =
     let at-if1 = at-items .before .before in
     let start = at-if1 .before .before .before .before .before .before in
     let args = start .args in
-    refusal-on _ _ _ _ _ _ (c .refusal .result) _ _ _ _ _ _ (c .before .enum-told .given .1) (at-items .items .ensures .0) (c .refusal .ensures) (list-refused (wordsIn (args .reserved .now) (args .currencies .now) (args .counters .now)) (args .depth) (args .s .now) (args .c) (args .d) (start .pre .1 .1) (start .pre .1 .2) (at-if1 .if1 .left) _ _)
+    refusal-on _ _ _ _ _ _ (c .refusal .result) _ _ _ _ _ _ (c .before .enum-told .given .1) (at-items .items .ensures .0) (c .refusal .ensures) (list-refused (languageIn (args .two) (args .reserved .now) (args .currencies .now) (args .counters .now)) (args .depth) (args .s .now) (args .c) (args .d) (start .pre .1 .1) (start .pre .1 .2) (at-if1 .if1 .left) _ _)
 
 list-next-requires : (t : ℕ) → list-lts.Need-next-requires (
   items-below t,
@@ -1824,7 +1982,7 @@ list-sub-plain t c =
     let start = at-if1 .before .before .before .before .before .before in
     let args = start .args in
     let pre = start .pre in
-    omega (arith, list-numbers (wordsIn (args .reserved .now) (args .currencies .now) (args .counters .now)) (args .depth) (args .s .now) (args .c) (args .d) (pre .1 .1) (pre .1 .2) (at-if1 .if1 .left) _ (pre .1 .0 .1) _ _ _ _ _ _ (done-items _ _ _ _ _ _ _ _ _ _ (at-r .r .given .1) (at-items .items .ensures .0)))
+    omega (arith, list-numbers (languageIn (args .two) (args .reserved .now) (args .currencies .now) (args .counters .now)) (args .depth) (args .s .now) (args .c) (args .d) (pre .1 .1) (pre .1 .2) (at-if1 .if1 .left) _ (pre .1 .0 .1) _ _ _ _ _ _ (done-items _ _ _ _ _ _ _ _ _ _ (at-r .r .given .1) (at-items .items .ensures .0)))
 
 list-add-plain : (t : ℕ) → list-lts.Need-add-plain (
   items-below t,
@@ -1847,7 +2005,7 @@ list-add-plain t c =
     let start = at-if1 .before .before .before .before .before .before in
     let args = start .args in
     let pre = start .pre in
-    omega (arith, list-numbers (wordsIn (args .reserved .now) (args .currencies .now) (args .counters .now)) (args .depth) (args .s .now) (args .c) (args .d) (pre .1 .1) (pre .1 .2) (at-if1 .if1 .left) _ (pre .1 .0 .1) _ _ _ _ _ _ (done-items _ _ _ _ _ _ _ _ _ _ (at-r .r .given .1) (at-items .items .ensures .0)))
+    omega (arith, list-numbers (languageIn (args .two) (args .reserved .now) (args .currencies .now) (args .counters .now)) (args .depth) (args .s .now) (args .c) (args .d) (pre .1 .1) (pre .1 .2) (at-if1 .if1 .left) _ (pre .1 .0 .1) _ _ _ _ _ _ (done-items _ _ _ _ _ _ _ _ _ _ (at-r .r .given .1) (at-items .items .ensures .0)))
 
 list-plain-requires : (t : ℕ) → list-lts.Need-plain-requires (
   items-below t,
@@ -1902,7 +2060,7 @@ list-add-postfixes t c =
     let start = at-if1 .before .before .before .before .before .before in
     let args = start .args in
     let pre = start .pre in
-    omega (arith, list-numbers (wordsIn (args .reserved .now) (args .currencies .now) (args .counters .now)) (args .depth) (args .s .now) (args .c) (args .d) (pre .1 .1) (pre .1 .2) (at-if1 .if1 .left) _ (pre .1 .0 .1) _ _ _ _ _ _ (done-items _ _ _ _ _ _ _ _ _ _ (at-r .r .given .1) (at-items .items .ensures .0)))
+    omega (arith, list-numbers (languageIn (args .two) (args .reserved .now) (args .currencies .now) (args .counters .now)) (args .depth) (args .s .now) (args .c) (args .d) (pre .1 .1) (pre .1 .2) (at-if1 .if1 .left) _ (pre .1 .0 .1) _ _ _ _ _ _ (done-items _ _ _ _ _ _ _ _ _ _ (at-r .r .given .1) (at-items .items .ensures .0)))
 
 list-postfixes-requires : (t : ℕ) → list-lts.Need-postfixes-requires (
   items-below t,
@@ -1928,7 +2086,7 @@ list-postfixes-requires t c κs =
     let args = start .args in
     let r = at-r .r in
     let items = at-items .items in
-    let words = wordsIn (args .reserved .now) (args .currencies .now) (args .counters .now) in
+    let words = languageIn (args .two) (args .reserved .now) (args .currencies .now) (args .counters .now) in
     (omega (arith, pre .0), (list-after words (args .depth) (args .s .now) (args .c) (args .d) (pre .1 .1) (pre .1 .2) (at-if1 .if1 .left) _ (pre .1 .0 .1) _ _ _ _ _ _ (done-items _ _ _ _ _ _ _ _ _ _ (r .given .1) (items .ensures .0)) (closed-code _ _ _ _ _ _ (r .given .1) (items .ensures .1)) (at-next .next .result) (at-next .next .ensures), pre .1 .3, omega (arith, list-numbers words (args .depth) (args .s .now) (args .c) (args .d) (pre .1 .1) (pre .1 .2) (at-if1 .if1 .left) _ (pre .1 .0 .1) _ _ _ _ _ _ (done-items _ _ _ _ _ _ _ _ _ _ (r .given .1) (items .ensures .0)))))
 
 list-same-length-2 : (t : ℕ) → list-lts.Need-same-length-2 (
@@ -1948,7 +2106,7 @@ list-same-length-2 : (t : ℕ) → list-lts.Need-same-length-2 (
 list-same-length-2 t c =
     let at-postfixes = c .before .before in
     let at-put = at-postfixes .before .before .before .before in
-    at-postfixes .postfixes .kept .1 .1 .1 .1 .1 .1 .1 .0 ∙ (at-put .put .kept .0 ∙ at-put .before .before .before .before .before .before .before .before .before .items .kept .1 .1 .1 .1 .1 .1 .1 .0)
+    at-postfixes .postfixes .kept .1 .1 .1 .1 .1 .1 .1 .1 .0 ∙ (at-put .put .kept .0 ∙ at-put .before .before .before .before .before .before .before .before .before .items .kept .1 .1 .1 .1 .1 .1 .1 .1 .0)
 
 list-returns-3 : (t : ℕ) → list-lts.Need-returns-3 (
   items-below t,
@@ -1976,7 +2134,7 @@ list-returns-3 t c =
     let pre = start .pre in
     let r = at-r .r in
     let items = at-items .items in
-    let words = wordsIn (args .reserved .now) (args .currencies .now) (args .counters .now) in
+    let words = languageIn (args .two) (args .reserved .now) (args .currencies .now) (args .counters .now) in
     meets-as _ _ _ _ _ (at-postfixes .postfixes .result) _ (list-done words (args .depth) (args .s .now) (args .c) (args .d) (pre .1 .1) (pre .1 .2) (at-if1 .if1 .left) _ (pre .1 .0 .1) _ _ _ _ _ _ (done-items _ _ _ _ _ _ _ _ _ _ (r .given .1) (items .ensures .0)) (closed-code _ _ _ _ _ _ (r .given .1) (items .ensures .1)) (at-next .next .result) (at-next .next .ensures)) (at-postfixes .postfixes .ensures _ _ (list-tops words (args .depth) (args .s .now) (args .c) (args .d) (pre .1 .1) (pre .1 .2) (at-if1 .if1 .left) _ (pre .1 .0 .1) _ _ _ _ _ _ (done-items _ _ _ _ _ _ _ _ _ _ (r .given .1) (items .ensures .0)) _ (put-fields _ _ _ _ _ _ _ _ _ _ (at-put .before .plain .ensures) (at-put .put .ensures))))
 
 method-take-requires : (t : ℕ) → method-lts.Need-take-requires (
@@ -2045,8 +2203,8 @@ method-returns t c =
     let at-take = c .before .before in
     let start = at-take .before .before .before .before .before .before in
     let args = start .args in
-    let words = wordsIn (args .reserved .now) (args .currencies .now) (args .counters .now) in
-    method-unnamed (inner words (args .depth)) (inner-sized words (args .depth)) (args .place) (args .s .now) (args .c) (start .pre .1 .0 .0) (args .n) (args .m) (args .out .now) (at-take .take .result) _ (c .enum-told .given .1) (at-take .take .ensures) (args .out .now)
+    let words = languageIn (args .two) (args .reserved .now) (args .currencies .now) (args .counters .now) in
+    method-unnamed words (inner words (args .depth)) (inner-sized words (args .depth)) (args .place) (args .s .now) (args .c) (start .pre .1 .0 .0) (args .n) (args .m) (args .out .now) (at-take .take .result) _ (c .enum-told .given .1) (at-take .take .ensures) (args .out .now)
 
 method-arguments-requires : (t : ℕ) → method-lts.Need-arguments-requires (
   take-reads.Asked,
@@ -2068,8 +2226,8 @@ method-arguments-requires t c κs =
     let start = at-take .before .before .before .before .before .before in
     let args = start .args in
     let pre = start .pre in
-    let words = wordsIn (args .reserved .now) (args .currencies .now) (args .counters .now) in
-    (omega arith, (method-ready (inner words (args .depth)) (inner-sized words (args .depth)) (args .place) (args .s .now) (args .c) (pre .1 .0 .0) (args .n) (args .m) (args .out .now) (at-take .take .result) _ (at-d .d .given .1) (at-take .take .ensures) (pre .1 .0 .1), pre .1 .1))
+    let words = languageIn (args .two) (args .reserved .now) (args .currencies .now) (args .counters .now) in
+    (omega arith, (method-ready words (inner words (args .depth)) (inner-sized words (args .depth)) (args .place) (args .s .now) (args .c) (pre .1 .0 .0) (args .n) (args .m) (args .out .now) (at-take .take .result) _ (at-d .d .given .1) (at-take .take .ensures) (pre .1 .0 .1), pre .1 .1))
 
 method-enum-known-r : (t : ℕ) → method-lts.Need-enum-known-r (
   take-reads.Asked,
@@ -2155,8 +2313,8 @@ method-returns-2 t c =
     let at-take = at-d .before .before in
     let start = at-take .before .before .before .before .before .before in
     let args = start .args in
-    let words = wordsIn (args .reserved .now) (args .currencies .now) (args .counters .now) in
-    method-refuses (inner words (args .depth)) (inner-sized words (args .depth)) (args .place) (args .s .now) (args .c) (start .pre .1 .0 .0) (args .n) (args .m) (args .out .now) (at-take .take .result) _ (at-d .d .given .1) (at-take .take .ensures) _ (at-arguments .arguments .result) (c .refusal .result) _ _ (c .before .enum-told2 .given .1) (c .refusal .ensures) (at-arguments .arguments .ensures)
+    let words = languageIn (args .two) (args .reserved .now) (args .currencies .now) (args .counters .now) in
+    method-refuses words (inner words (args .depth)) (inner-sized words (args .depth)) (args .place) (args .s .now) (args .c) (start .pre .1 .0 .0) (args .n) (args .m) (args .out .now) (at-take .take .result) _ (at-d .d .given .1) (at-take .take .ensures) _ (at-arguments .arguments .result) (c .refusal .result) _ _ (c .before .enum-told2 .given .1) (c .refusal .ensures) (at-arguments .arguments .ensures)
 
 method-cast-a : (t : ℕ) → method-lts.Need-cast-a (
   take-reads.Asked,
@@ -2297,8 +2455,8 @@ method-returns-3 t c =
     let at-take = at-d .before .before in
     let start = at-take .before .before .before .before .before .before in
     let args = start .args in
-    let words = wordsIn (args .reserved .now) (args .currencies .now) (args .counters .now) in
-    method-none (inner words (args .depth)) (inner-sized words (args .depth)) (args .place) (args .s .now) (args .c) (start .pre .1 .0 .0) (args .n) (args .m) (args .out .now) (at-take .take .result) _ (at-d .d .given .1) (at-take .take .ensures) _ _ _ _ _ (done-items _ _ _ _ (at-arguments .arguments .result) _ _ _ _ _ (at-r .r .given .1) (at-arguments .arguments .ensures)) _ (c .before .method-of .ensures) (c .if1 .taken) (args .out .now)
+    let words = languageIn (args .two) (args .reserved .now) (args .currencies .now) (args .counters .now) in
+    method-none words (inner words (args .depth)) (inner-sized words (args .depth)) (args .place) (args .s .now) (args .c) (start .pre .1 .0 .0) (args .n) (args .m) (args .out .now) (at-take .take .result) _ (at-d .d .given .1) (at-take .take .ensures) _ _ _ _ _ (done-items _ _ _ _ (at-arguments .arguments .result) _ _ _ _ _ (at-r .r .given .1) (at-arguments .arguments .ensures)) _ (c .before .method-of .ensures) (c .if1 .taken) (args .out .now)
 
 method-sub-plain : (t : ℕ) → method-lts.Need-sub-plain (
   take-reads.Asked,
@@ -2322,8 +2480,8 @@ method-sub-plain t c =
     let start = at-take .before .before .before .before .before .before in
     let args = start .args in
     let pre = start .pre in
-    let words = wordsIn (args .reserved .now) (args .currencies .now) (args .counters .now) in
-    omega (arith, method-numbers (inner words (args .depth)) (inner-sized words (args .depth)) (args .place) (args .s .now) (args .c) (pre .1 .0 .0) (args .n) (args .m) (args .out .now) (at-take .take .result) _ (at-d .d .given .1) (at-take .take .ensures) _ _ _ _ _ (done-items _ _ _ _ (at-arguments .arguments .result) _ _ _ _ _ (at-r .r .given .1) (at-arguments .arguments .ensures)) (pre .1 .0 .1) (pre .1 .2))
+    let words = languageIn (args .two) (args .reserved .now) (args .currencies .now) (args .counters .now) in
+    omega (arith, method-numbers words (inner words (args .depth)) (inner-sized words (args .depth)) (args .place) (args .s .now) (args .c) (pre .1 .0 .0) (args .n) (args .m) (args .out .now) (at-take .take .result) _ (at-d .d .given .1) (at-take .take .ensures) _ _ _ _ _ (done-items _ _ _ _ (at-arguments .arguments .result) _ _ _ _ _ (at-r .r .given .1) (at-arguments .arguments .ensures)) (pre .1 .0 .1) (pre .1 .2))
 
 method-add-plain : (t : ℕ) → method-lts.Need-add-plain (
   take-reads.Asked,
@@ -2347,8 +2505,8 @@ method-add-plain t c =
     let start = at-take .before .before .before .before .before .before in
     let args = start .args in
     let pre = start .pre in
-    let words = wordsIn (args .reserved .now) (args .currencies .now) (args .counters .now) in
-    omega (arith, method-numbers (inner words (args .depth)) (inner-sized words (args .depth)) (args .place) (args .s .now) (args .c) (pre .1 .0 .0) (args .n) (args .m) (args .out .now) (at-take .take .result) _ (at-d .d .given .1) (at-take .take .ensures) _ _ _ _ _ (done-items _ _ _ _ (at-arguments .arguments .result) _ _ _ _ _ (at-r .r .given .1) (at-arguments .arguments .ensures)) (pre .1 .0 .1) (pre .1 .2))
+    let words = languageIn (args .two) (args .reserved .now) (args .currencies .now) (args .counters .now) in
+    omega (arith, method-numbers words (inner words (args .depth)) (inner-sized words (args .depth)) (args .place) (args .s .now) (args .c) (pre .1 .0 .0) (args .n) (args .m) (args .out .now) (at-take .take .result) _ (at-d .d .given .1) (at-take .take .ensures) _ _ _ _ _ (done-items _ _ _ _ (at-arguments .arguments .result) _ _ _ _ _ (at-r .r .given .1) (at-arguments .arguments .ensures)) (pre .1 .0 .1) (pre .1 .2))
 
 method-add-plain-2 : (t : ℕ) → method-lts.Need-add-plain-2 (
   take-reads.Asked,
@@ -2372,8 +2530,8 @@ method-add-plain-2 t c =
     let start = at-take .before .before .before .before .before .before in
     let args = start .args in
     let pre = start .pre in
-    let words = wordsIn (args .reserved .now) (args .currencies .now) (args .counters .now) in
-    omega (arith, method-numbers (inner words (args .depth)) (inner-sized words (args .depth)) (args .place) (args .s .now) (args .c) (pre .1 .0 .0) (args .n) (args .m) (args .out .now) (at-take .take .result) _ (at-d .d .given .1) (at-take .take .ensures) _ _ _ _ _ (done-items _ _ _ _ (at-arguments .arguments .result) _ _ _ _ _ (at-r .r .given .1) (at-arguments .arguments .ensures)) (pre .1 .0 .1) (pre .1 .2))
+    let words = languageIn (args .two) (args .reserved .now) (args .currencies .now) (args .counters .now) in
+    omega (arith, method-numbers words (inner words (args .depth)) (inner-sized words (args .depth)) (args .place) (args .s .now) (args .c) (pre .1 .0 .0) (args .n) (args .m) (args .out .now) (at-take .take .result) _ (at-d .d .given .1) (at-take .take .ensures) _ _ _ _ _ (done-items _ _ _ _ (at-arguments .arguments .result) _ _ _ _ _ (at-r .r .given .1) (at-arguments .arguments .ensures)) (pre .1 .0 .1) (pre .1 .2))
 
 method-plain-requires : (t : ℕ) → method-lts.Need-plain-requires (
   take-reads.Asked,
@@ -2407,7 +2565,7 @@ method-put-requires : (t : ℕ) → method-lts.Need-put-requires (
 ) (method-at t) method.Post
 method-put-requires t c κs = search needs
 
-method-add-t31 : (t : ℕ) → method-lts.Need-add-t31 (
+method-add-t32 : (t : ℕ) → method-lts.Need-add-t32 (
   take-reads.Asked,
   take-reads.Learnt,
   arguments-below t,
@@ -2421,7 +2579,7 @@ method-add-t31 : (t : ℕ) → method-lts.Need-add-t31 (
   put-reads.Asked,
   put-reads.Learnt,
 ) (method-at t) method.Post
-method-add-t31 t c =
+method-add-t32 t c =
     let at-r = c .before .before .before .before .before .before .before .before .before .before .before in
     let at-arguments = at-r .before .before .before .before in
     let at-d = at-arguments .before .before .before in
@@ -2429,8 +2587,8 @@ method-add-t31 t c =
     let start = at-take .before .before .before .before .before .before in
     let args = start .args in
     let pre = start .pre in
-    let words = wordsIn (args .reserved .now) (args .currencies .now) (args .counters .now) in
-    omega (arith, method-numbers (inner words (args .depth)) (inner-sized words (args .depth)) (args .place) (args .s .now) (args .c) (pre .1 .0 .0) (args .n) (args .m) (args .out .now) (at-take .take .result) _ (at-d .d .given .1) (at-take .take .ensures) _ _ _ _ _ (done-items _ _ _ _ (at-arguments .arguments .result) _ _ _ _ _ (at-r .r .given .1) (at-arguments .arguments .ensures)) (pre .1 .0 .1) (pre .1 .2))
+    let words = languageIn (args .two) (args .reserved .now) (args .currencies .now) (args .counters .now) in
+    omega (arith, method-numbers words (inner words (args .depth)) (inner-sized words (args .depth)) (args .place) (args .s .now) (args .c) (pre .1 .0 .0) (args .n) (args .m) (args .out .now) (at-take .take .result) _ (at-d .d .given .1) (at-take .take .ensures) _ _ _ _ _ (done-items _ _ _ _ (at-arguments .arguments .result) _ _ _ _ _ (at-r .r .given .1) (at-arguments .arguments .ensures)) (pre .1 .0 .1) (pre .1 .2))
 
 method-same-length-3 : (t : ℕ) → method-lts.Need-same-length-3 (
   take-reads.Asked,
@@ -2472,8 +2630,186 @@ method-returns-4 t c =
     let start = at-take .before .before .before .before .before .before in
     let args = start .args in
     let pre = start .pre in
-    let words = wordsIn (args .reserved .now) (args .currencies .now) (args .counters .now) in
-    method-reads (inner words (args .depth)) (inner-sized words (args .depth)) (args .place) (args .s .now) (args .c) (pre .1 .0 .0) (args .n) (args .m) (args .out .now) (at-take .take .result) _ (at-d .d .given .1) (at-take .take .ensures) _ _ _ _ _ (done-items _ _ _ _ (at-arguments .arguments .result) _ _ _ _ _ (at-r .r .given .1) (at-arguments .arguments .ensures)) (pre .1 .0 .1) (pre .1 .2) _ (at-if1 .before .method-of .ensures) (at-if1 .if1 .left) _ (put-fields _ _ _ _ _ _ _ _ _ _ (at-put .before .plain .ensures) (at-put .put .ensures))
+    let words = languageIn (args .two) (args .reserved .now) (args .currencies .now) (args .counters .now) in
+    method-reads words (inner words (args .depth)) (inner-sized words (args .depth)) (args .place) (args .s .now) (args .c) (pre .1 .0 .0) (args .n) (args .m) (args .out .now) (at-take .take .result) _ (at-d .d .given .1) (at-take .take .ensures) _ _ _ _ _ (done-items _ _ _ _ (at-arguments .arguments .result) _ _ _ _ _ (at-r .r .given .1) (at-arguments .arguments .ensures)) (pre .1 .0 .1) (pre .1 .2) _ (at-if1 .before .method-of .ensures) (at-if1 .if1 .left) _ (put-fields _ _ _ _ _ _ _ _ _ _ (at-put .before .plain .ensures) (at-put .put .ensures))
+
+minus-lone-at-requires : (t : ℕ) → minus-lts.Need-lone-at-requires (
+  lone-at-reads.Asked,
+  lone-at-reads.Learnt,
+  signed-below t,
+  signed.Post,
+  negative-reads.Asked,
+  negative-reads.Learnt,
+  constant-at-reads.Asked,
+  constant-at-reads.Learnt,
+) (minus-at t) minus.Post
+minus-lone-at-requires t c κs = c .before .before .before .before .before .pre .1 .1 .holds
+
+minus-enum-known-e : (t : ℕ) → minus-lts.Need-enum-known-e (
+  lone-at-reads.Asked,
+  lone-at-reads.Learnt,
+  signed-below t,
+  signed.Post,
+  negative-reads.Asked,
+  negative-reads.Learnt,
+  constant-at-reads.Asked,
+  constant-at-reads.Learnt,
+) (minus-at t) minus.Post
+minus-enum-known-e t c = search needs
+
+minus-enum-told : (t : ℕ) → minus-lts.Need-enum-told (
+  lone-at-reads.Asked,
+  lone-at-reads.Learnt,
+  signed-below t,
+  signed.Post,
+  negative-reads.Asked,
+  negative-reads.Learnt,
+  constant-at-reads.Asked,
+  constant-at-reads.Learnt,
+) (minus-at t) minus.Post
+minus-enum-told t c = search needs
+
+minus-returns : (t : ℕ) → minus-lts.Need-returns (
+  lone-at-reads.Asked,
+  lone-at-reads.Learnt,
+  signed-below t,
+  signed.Post,
+  negative-reads.Asked,
+  negative-reads.Learnt,
+  constant-at-reads.Asked,
+  constant-at-reads.Learnt,
+) (minus-at t) minus.Post
+minus-returns t c =
+    let at-lone-at = c .before .before .before in
+    let args = at-lone-at .before .before .before .before .before .before .args in
+    minus-0 (languageIn (args .two) (args .reserved .now) (args .currencies .now) (args .counters .now)) (args .s .now) (args .c) (args .d) (args .depth) (lone-no (args .s .now) (args .two) (args .reserved .now) (args .currencies .now) (args .counters .now) (args .d) _ _ (c .before .enum-told .given .1) (at-lone-at .lone-at .ensures)) (c .if1 .taken)
+
+minus-sub-signed : (t : ℕ) → minus-lts.Need-sub-signed (
+  lone-at-reads.Asked,
+  lone-at-reads.Learnt,
+  signed-below t,
+  signed.Post,
+  negative-reads.Asked,
+  negative-reads.Learnt,
+  constant-at-reads.Asked,
+  constant-at-reads.Learnt,
+) (minus-at t) minus.Post
+minus-sub-signed t c = omega (arith, c .if1 .left)
+
+minus-signed-requires : (t : ℕ) → minus-lts.Need-signed-requires (
+  lone-at-reads.Asked,
+  lone-at-reads.Learnt,
+  signed-below t,
+  signed.Post,
+  negative-reads.Asked,
+  negative-reads.Learnt,
+  constant-at-reads.Asked,
+  constant-at-reads.Learnt,
+) (minus-at t) minus.Post
+minus-signed-requires t c κs =
+    let start = c .before .before .before .before .before .before .before .before .before .before in
+    let pre = start .pre in
+    (omega (arith, pre .0, c .before .if1 .left), ((follow-ready _ (start .args .c) (start .args .d) _ (λ z. omega (arith, z, pre .1 .2)) (pre .1 .1) (pre .1 .0)) .0, pre .1 .3))
+
+minus-negative-requires : (t : ℕ) → minus-lts.Need-negative-requires (
+  lone-at-reads.Asked,
+  lone-at-reads.Learnt,
+  signed-below t,
+  signed.Post,
+  negative-reads.Asked,
+  negative-reads.Learnt,
+  constant-at-reads.Asked,
+  constant-at-reads.Learnt,
+) (minus-at t) minus.Post
+minus-negative-requires t c κs =
+    let at-signed = c .before .before .before in
+    let start = at-signed .before .before .before .before .before .before .before .before .before .before .before in
+    let args = start .args in
+    let pre = start .pre in
+    let words = languageIn (args .two) (args .reserved .now) (args .currencies .now) (args .counters .now) in
+    behind-read (args .s .now) (G.signed words (G.primary words (args .depth - 1))) (signed-size words (G.primary words (args .depth - 1)) (primary-size words (args .depth - 1))) (args .d) (args .n) (args .out .now) (at-signed .signed .result) _ ((follow-ready _ (args .c) (args .d) _ (λ z. omega (arith, z, pre .1 .2)) (pre .1 .1) (pre .1 .0)) .1) (at-signed .signed .ensures)
+
+minus-same-length : (t : ℕ) → minus-lts.Need-same-length (
+  lone-at-reads.Asked,
+  lone-at-reads.Learnt,
+  signed-below t,
+  signed.Post,
+  negative-reads.Asked,
+  negative-reads.Learnt,
+  constant-at-reads.Asked,
+  constant-at-reads.Learnt,
+) (minus-at t) minus.Post
+minus-same-length t c =
+    let at-negative = c .before .before in
+    at-negative .negative .kept .1 .1 .0 ∙ at-negative .before .before .before .before .signed .kept .1 .1 .1 .1 .1 .1 .1 .0
+
+minus-returns-2 : (t : ℕ) → minus-lts.Need-returns-2 (
+  lone-at-reads.Asked,
+  lone-at-reads.Learnt,
+  signed-below t,
+  signed.Post,
+  negative-reads.Asked,
+  negative-reads.Learnt,
+  constant-at-reads.Asked,
+  constant-at-reads.Learnt,
+) (minus-at t) minus.Post
+minus-returns-2 t c =
+    let at-negative = c .before .before in
+    let at-signed = at-negative .before .before .before .before in
+    let at-if1 = at-signed .before .before in
+    let at-lone-at = at-if1 .before .before .before in
+    let args = at-lone-at .before .before .before .before .before .before .args in
+    meets-as _ _ _ _ _ (at-negative .negative .result) _ (minus-deep (languageIn (args .two) (args .reserved .now) (args .currencies .now) (args .counters .now)) (args .s .now) (args .c) (args .d) (args .depth) (lone-no (args .s .now) (args .two) (args .reserved .now) (args .currencies .now) (args .counters .now) (args .d) _ _ (at-if1 .before .enum-told .given .1) (at-lone-at .lone-at .ensures)) (at-if1 .if1 .left)) (at-negative .negative .ensures _ _ _ (at-signed .signed .ensures))
+
+minus-constant-at-requires : (t : ℕ) → minus-lts.Need-constant-at-requires (
+  lone-at-reads.Asked,
+  lone-at-reads.Learnt,
+  signed-below t,
+  signed.Post,
+  negative-reads.Asked,
+  negative-reads.Learnt,
+  constant-at-reads.Asked,
+  constant-at-reads.Learnt,
+) (minus-at t) minus.Post
+minus-constant-at-requires t c κs =
+    let at-e = c .before .before in
+    let at-lone-at = at-e .before .before in
+    let start = at-lone-at .before .before .before .before .before .before in
+    let args = start .args in
+    let pre = start .pre in
+    ((follow-ready _ (args .c) (args .d) _ (λ z. omega (arith, z, pre .1 .2)) (pre .1 .1) (pre .1 .0)) .0, (lone-yes (args .s .now) (args .two) (args .reserved .now) (args .currencies .now) (args .counters .now) (args .d) _ _ (at-e .e .given .1) (at-lone-at .lone-at .ensures)) .0, (lone-yes (args .s .now) (args .two) (args .reserved .now) (args .currencies .now) (args .counters .now) (args .d) _ _ (at-e .e .given .1) (at-lone-at .lone-at .ensures)) .1)
+
+minus-same-length-2 : (t : ℕ) → minus-lts.Need-same-length-2 (
+  lone-at-reads.Asked,
+  lone-at-reads.Learnt,
+  signed-below t,
+  signed.Post,
+  negative-reads.Asked,
+  negative-reads.Learnt,
+  constant-at-reads.Asked,
+  constant-at-reads.Learnt,
+) (minus-at t) minus.Post
+minus-same-length-2 t c = search needs
+
+minus-returns-3 : (t : ℕ) → minus-lts.Need-returns-3 (
+  lone-at-reads.Asked,
+  lone-at-reads.Learnt,
+  signed-below t,
+  signed.Post,
+  negative-reads.Asked,
+  negative-reads.Learnt,
+  constant-at-reads.Asked,
+  constant-at-reads.Learnt,
+) (minus-at t) minus.Post
+minus-returns-3 t c =
+    let at-constant-at = c .before .before in
+    let at-e = at-constant-at .before .before .before in
+    let at-lone-at = at-e .before .before in
+    let start = at-lone-at .before .before .before .before .before .before in
+    let args = start .args in
+    let e = at-e .e in
+    let lone-at = at-lone-at .lone-at in
+    meets-as _ _ _ _ _ (at-constant-at .constant-at .result) _ (minus-lone (languageIn (args .two) (args .reserved .now) (args .currencies .now) (args .counters .now)) (args .s .now) (args .c) (args .d) (args .depth) _ (start .pre .1 .1 .holds) ((lone-yes (args .s .now) (args .two) (args .reserved .now) (args .currencies .now) (args .counters .now) (args .d) _ _ (e .given .1) (lone-at .ensures)) .0) ((lone-yes (args .s .now) (args .two) (args .reserved .now) (args .currencies .now) (args .counters .now) (args .d) _ _ (e .given .1) (lone-at .ensures)) .1) ((lone-yes (args .s .now) (args .two) (args .reserved .now) (args .currencies .now) (args .counters .now) (args .d) _ _ (e .given .1) (lone-at .ensures)) .2)) (at-constant-at .constant-at .ensures)
 
 name-cast-a : (t : ℕ) → name-lts.Need-cast-a (
   call-of-reads.Asked,
@@ -2637,7 +2973,7 @@ name-returns t c =
     let at-variable-at = c .before .before .before .before in
     let at-if1 = at-variable-at .before .before in
     let args = at-if1 .before .before .before .before .before .before .before .before .before .before .args in
-    name-refuses (args .reserved .now) (args .currencies .now) (args .counters .now) (inner (wordsIn (args .reserved .now) (args .currencies .now) (args .counters .now)) (args .depth)) (args .s .now) (args .c) (args .d) (args .n) (args .out .now) (at-if1 .before .call-of .result) (at-if1 .before .call-of .ensures) (at-if1 .if1 .taken) _ (at-variable-at .variable-at .result) _ _ (c .enum-told .given .1) (at-variable-at .variable-at .ensures)
+    name-refuses (args .two) (args .reserved .now) (args .currencies .now) (args .counters .now) (inner (languageIn (args .two) (args .reserved .now) (args .currencies .now) (args .counters .now)) (args .depth)) (args .s .now) (args .c) (args .d) (args .n) (args .out .now) (at-if1 .before .call-of .result) (at-if1 .before .call-of .ensures) (at-if1 .if1 .taken) _ (at-variable-at .variable-at .result) _ _ (c .enum-told .given .1) (at-variable-at .variable-at .ensures)
 
 name-postfixes-requires : (t : ℕ) → name-lts.Need-postfixes-requires (
   call-of-reads.Asked,
@@ -2658,7 +2994,7 @@ name-postfixes-requires t c κs =
     let start = at-call-of .before .before .before .before .before .before .before .before .before in
     let args = start .args in
     let pre = start .pre in
-    let g = name-numbers (args .reserved .now) (args .currencies .now) (args .counters .now) (inner (wordsIn (args .reserved .now) (args .currencies .now) (args .counters .now)) (args .depth)) (args .s .now) (args .c) (args .d) (args .n) (args .out .now) (at-call-of .call-of .result) (at-call-of .call-of .ensures) _ _ _ _ (done-reads _ _ _ _ (at-variable-at .variable-at .result) _ _ _ _ (at-r .r .given .1) (at-variable-at .variable-at .ensures)) (pre .1 .0 .1) (pre .1 .1) (pre .1 .2) in
+    let g = name-numbers (args .two) (args .reserved .now) (args .currencies .now) (args .counters .now) (inner (languageIn (args .two) (args .reserved .now) (args .currencies .now) (args .counters .now)) (args .depth)) (args .s .now) (args .c) (args .d) (args .n) (args .out .now) (at-call-of .call-of .result) (at-call-of .call-of .ensures) _ _ _ _ (done-reads _ _ _ _ (at-variable-at .variable-at .result) _ _ _ _ (at-r .r .given .1) (at-variable-at .variable-at .ensures)) (pre .1 .0 .1) (pre .1 .1) (pre .1 .2) in
     (omega arith, (g .0, pre .1 .3, g .1))
 
 name-same-length-2 : (t : ℕ) → name-lts.Need-same-length-2 (
@@ -2693,7 +3029,7 @@ name-returns-2 t c =
     let at-variable-at = at-r .before .before .before .before in
     let at-if1 = at-variable-at .before .before in
     let args = at-if1 .before .before .before .before .before .before .before .before .before .before .args in
-    name-reads (args .reserved .now) (args .currencies .now) (args .counters .now) (inner (wordsIn (args .reserved .now) (args .currencies .now) (args .counters .now)) (args .depth)) (args .s .now) (args .c) (args .d) (args .n) (args .out .now) (at-if1 .before .call-of .result) (at-if1 .before .call-of .ensures) _ _ _ _ (done-reads _ _ _ _ (at-variable-at .variable-at .result) _ _ _ _ (at-r .r .given .1) (at-variable-at .variable-at .ensures)) (at-if1 .if1 .taken) (at-postfixes .postfixes .result) _ (at-postfixes .postfixes .ensures)
+    name-reads (args .two) (args .reserved .now) (args .currencies .now) (args .counters .now) (inner (languageIn (args .two) (args .reserved .now) (args .currencies .now) (args .counters .now)) (args .depth)) (args .s .now) (args .c) (args .d) (args .n) (args .out .now) (at-if1 .before .call-of .result) (at-if1 .before .call-of .ensures) _ _ _ _ (done-reads _ _ _ _ (at-variable-at .variable-at .result) _ _ _ _ (at-r .r .given .1) (at-variable-at .variable-at .ensures)) (at-if1 .if1 .taken) (at-postfixes .postfixes .result) _ (at-postfixes .postfixes .ensures)
 
 name-special-requires : (t : ℕ) → name-lts.Need-special-requires (
   call-of-reads.Asked,
@@ -2744,7 +3080,7 @@ name-returns-3 t c =
     let at-if2 = at-special .before .before in
     let at-call-of = at-if2 .before .before in
     let args = at-call-of .before .before .before .before .before .before .before .before .before .args in
-    name-special (args .reserved .now) (args .currencies .now) (args .counters .now) (inner (wordsIn (args .reserved .now) (args .currencies .now) (args .counters .now)) (args .depth)) (args .s .now) (args .c) (args .d) (args .n) (args .out .now) (at-call-of .call-of .result) (at-call-of .call-of .ensures) (at-if2 .if2 .taken) (at-special .special .result) _ (at-special .special .ensures)
+    name-special (args .two) (args .reserved .now) (args .currencies .now) (args .counters .now) (inner (languageIn (args .two) (args .reserved .now) (args .currencies .now) (args .counters .now)) (args .depth)) (args .s .now) (args .c) (args .d) (args .n) (args .out .now) (at-call-of .call-of .result) (at-call-of .call-of .ensures) (at-if2 .if2 .taken) (at-special .special .result) _ (at-special .special .ensures)
 
 name-call-requires : (t : ℕ) → name-lts.Need-call-requires (
   call-of-reads.Asked,
@@ -2796,7 +3132,7 @@ name-returns-4 t c =
     let at-if2 = at-call .before .before in
     let at-call-of = at-if2 .before .before in
     let args = at-call-of .before .before .before .before .before .before .before .before .before .args in
-    name-call (args .reserved .now) (args .currencies .now) (args .counters .now) (inner (wordsIn (args .reserved .now) (args .currencies .now) (args .counters .now)) (args .depth)) (args .s .now) (args .c) (args .d) (args .n) (args .out .now) (at-call-of .call-of .result) (at-call-of .call-of .ensures) (at-if2 .before .if1 .left) (at-if2 .if2 .left) (at-call .call .result) _ (at-call .call .ensures)
+    name-call (args .two) (args .reserved .now) (args .currencies .now) (args .counters .now) (inner (languageIn (args .two) (args .reserved .now) (args .currencies .now) (args .counters .now)) (args .depth)) (args .s .now) (args .c) (args .d) (args .n) (args .out .now) (at-call-of .call-of .result) (at-call-of .call-of .ensures) (at-if2 .before .if1 .left) (at-if2 .if2 .left) (at-call .call .result) _ (at-call .call .ensures)
 
 parenthesis-returns : (t : ℕ) → parenthesis-lts.Need-returns (
   expression-below t,
@@ -2807,7 +3143,7 @@ parenthesis-returns : (t : ℕ) → parenthesis-lts.Need-returns (
 parenthesis-returns t c =
     let start = c .before .before .before .before .before .before in
     let args = start .args in
-    parenthesis-deep (wordsIn (args .reserved .now) (args .currencies .now) (args .counters .now)) (args .s .now) (args .c) (args .d) (args .n) (args .out .now) (args .depth) (start .pre .1 .1) (λ z. omega (arith, z, start .pre .1 .2)) (c .if1 .taken)
+    parenthesis-deep (languageIn (args .two) (args .reserved .now) (args .currencies .now) (args .counters .now)) (args .s .now) (args .c) (args .d) (args .n) (args .out .now) (args .depth) (start .pre .1 .1) (λ z. omega (arith, z, start .pre .1 .2)) (c .if1 .taken)
 
 parenthesis-sub-expression : (t : ℕ) → parenthesis-lts.Need-sub-expression (
   expression-below t,
@@ -2863,7 +3199,7 @@ parenthesis-returns-2 t c =
     let at-if1 = at-expression .before .before in
     let start = at-if1 .before .before .before .before .before .before in
     let args = start .args in
-    refused-on _ _ _ _ _ _ _ _ _ _ _ _ (c .enum-told .given .1) (at-expression .expression .ensures) (parenthesis-refused (wordsIn (args .reserved .now) (args .currencies .now) (args .counters .now)) (args .s .now) (args .c) (args .d) (args .n) (args .out .now) (args .depth) (start .pre .1 .1) (λ z. omega (arith, z, start .pre .1 .2)) (at-if1 .if1 .left) _ _)
+    refused-on _ _ _ _ _ _ _ _ _ _ _ _ (c .enum-told .given .1) (at-expression .expression .ensures) (parenthesis-refused (languageIn (args .two) (args .reserved .now) (args .currencies .now) (args .counters .now)) (args .s .now) (args .c) (args .d) (args .n) (args .out .now) (args .depth) (start .pre .1 .1) (λ z. omega (arith, z, start .pre .1 .2)) (at-if1 .if1 .left) _ _)
 
 parenthesis-take-requires : (t : ℕ) → parenthesis-lts.Need-take-requires (
   expression-below t,
@@ -2910,7 +3246,7 @@ parenthesis-returns-3 t c =
     let at-if1 = at-expression .before .before in
     let start = at-if1 .before .before .before .before .before .before in
     let args = start .args in
-    parenthesis-open (wordsIn (args .reserved .now) (args .currencies .now) (args .counters .now)) (args .s .now) (args .c) (args .d) (args .n) (args .out .now) (args .depth) (start .pre .1 .1) (λ z. omega (arith, z, start .pre .1 .2)) (at-if1 .if1 .left) _ _ _ _ (done-reads _ _ _ _ _ _ _ _ _ (at-r .r .given .1) (at-expression .expression .ensures)) _ (takes-as _ _ _ (c .before .b .given .1) (at-take .take .ensures))
+    parenthesis-open (languageIn (args .two) (args .reserved .now) (args .currencies .now) (args .counters .now)) (args .s .now) (args .c) (args .d) (args .n) (args .out .now) (args .depth) (start .pre .1 .1) (λ z. omega (arith, z, start .pre .1 .2)) (at-if1 .if1 .left) _ _ _ _ (done-reads _ _ _ _ _ _ _ _ _ (at-r .r .given .1) (at-expression .expression .ensures)) _ (takes-as _ _ _ (c .before .b .given .1) (at-take .take .ensures))
 
 parenthesis-same-length-3 : (t : ℕ) → parenthesis-lts.Need-same-length-3 (
   expression-below t,
@@ -2933,13 +3269,13 @@ parenthesis-returns-4 t c =
     let at-if1 = at-expression .before .before in
     let start = at-if1 .before .before .before .before .before .before in
     let args = start .args in
-    parenthesis-closed (wordsIn (args .reserved .now) (args .currencies .now) (args .counters .now)) (args .s .now) (args .c) (args .d) (args .n) (args .out .now) (args .depth) (start .pre .1 .1) (λ z. omega (arith, z, start .pre .1 .2)) (at-if1 .if1 .left) _ _ _ _ (done-reads _ _ _ _ _ _ _ _ _ (at-r .r .given .1) (at-expression .expression .ensures)) _ (takes-as _ _ _ (c .before .f .given .1) (at-take .take .ensures))
+    parenthesis-closed (languageIn (args .two) (args .reserved .now) (args .currencies .now) (args .counters .now)) (args .s .now) (args .c) (args .d) (args .n) (args .out .now) (args .depth) (start .pre .1 .1) (λ z. omega (arith, z, start .pre .1 .2)) (at-if1 .if1 .left) _ _ _ _ (done-reads _ _ _ _ _ _ _ _ _ (at-r .r .given .1) (at-expression .expression .ensures)) _ (takes-as _ _ _ (c .before .f .given .1) (at-take .take .ensures))
 
 abbrev pays-Inv-loop : pays-lts.InvT-loop
-pays-Inv-loop s reserved currencies counters c depth out₀ n at₀ m₀ count₀ out at m count = (length out ≡ length out₀) × PayChain (wordsIn reserved currencies counters) (G.primary (wordsIn reserved currencies counters) (depth - 1)) s (G.payments (wordsIn reserved currencies counters) (G.primary (wordsIn reserved currencies counters) (depth - 1)) (toksAt s (at₀ .start))) n out₀ at m count out
+pays-Inv-loop s two reserved currencies counters c depth out₀ n at₀ m₀ count₀ out at m count = (length out ≡ length out₀) × PayChain (languageIn two reserved currencies counters) (G.primary (languageIn two reserved currencies counters) (depth - 1)) s (G.payments (languageIn two reserved currencies counters) (G.primary (languageIn two reserved currencies counters) (depth - 1)) (toksAt s (at₀ .start))) n out₀ at m count out
 
 abbrev pays-μ-loop : pays-lts.MeasureT-loop
-pays-μ-loop s reserved currencies counters c depth out₀ n at₀ m₀ count₀ out at m count = length (toksAt s (at .start))
+pays-μ-loop s two reserved currencies counters c depth out₀ n at₀ m₀ count₀ out at m count = length (toksAt s (at .start))
 
 pays-returns : (t : ℕ) → pays-lts.Need-returns (
   stops-pays-reads.Asked,
@@ -2953,7 +3289,7 @@ pays-returns t c =
     let start = c .before .before .before .before .before .before in
     let args = start .args in
     let pre = start .pre in
-    pays-0 (wordsIn (args .reserved .now) (args .currencies .now) (args .counters .now)) (args .depth) (args .s .now) (args .c) (args .d) (pre .1 .0 .0) (pre .1 .1) (pre .1 .2) (c .if1 .taken)
+    pays-0 (languageIn (args .two) (args .reserved .now) (args .currencies .now) (args .counters .now)) (args .depth) (args .s .now) (args .c) (args .d) (pre .1 .0 .0) (pre .1 .1) (pre .1 .2) (c .if1 .taken)
 
 pays-loop-holds : (t : ℕ) → pays-lts.Need-loop-holds (
   stops-pays-reads.Asked,
@@ -2967,7 +3303,7 @@ pays-loop-holds t c =
     let start = c .before .before .before .before .before .before in
     let args = start .args in
     let pre = start .pre in
-    let words = wordsIn (args .reserved .now) (args .currencies .now) (args .counters .now) in
+    let words = languageIn (args .two) (args .reserved .now) (args .currencies .now) (args .counters .now) in
     (refl, pay-start words (G.primary words ((args .depth) - 1)) (primary-law words ((args .depth) - 1)) (primary-size words ((args .depth) - 1)) (args .s .now) _ _ _ (pays-ready words (args .depth) (args .s .now) (args .c) (args .d) (pre .1 .0 .0) (pre .1 .1) (pre .1 .2) _ (pre .1 .0 .1)))
 
 pays-stops-pays-requires : (t : ℕ) → pays-lts.Need-stops-pays-requires (
@@ -2992,7 +3328,7 @@ pays-payday-at-requires t c κs =
     let at-loop = c .before .before .before in
     let start = at-loop .before .before .before .before .before .before .before in
     let args = start .args in
-    let words = wordsIn (args .reserved .now) (args .currencies .now) (args .counters .now) in
+    let words = languageIn (args .two) (args .reserved .now) (args .currencies .now) (args .counters .now) in
     let r = pay-ready words (G.primary words ((args .depth) - 1)) (primary-law words ((args .depth) - 1)) (primary-size words ((args .depth) - 1)) (args .s .now) _ _ _ _ _ _ _ (at-loop .loop .inv .1) in
     (r .0, start .pre .1 .3, r .1)
 
@@ -3023,7 +3359,7 @@ pays-returns-2 t c =
     let start = at-loop .before .before .before .before .before .before .before in
     let args = start .args in
     let pre = start .pre in
-    pays-done (args .reserved .now) (args .counters .now) (args .currencies .now) (args .depth) (args .s .now) (args .c) (args .d) (pre .1 .0 .0) (pre .1 .1) (pre .1 .2) (at-loop .before .if1 .left) _ _ _ _ _ _ (at-loop .loop .inv .1) (sym (at-if2 .before .stops-pays .ensures) ∙ at-if2 .if2 .taken) (at-payday-at .payday-at .result) _ (at-payday-at .payday-at .ensures)
+    pays-done (args .two) (args .reserved .now) (args .counters .now) (args .currencies .now) (args .depth) (args .s .now) (args .c) (args .d) (pre .1 .0 .0) (pre .1 .1) (pre .1 .2) (at-loop .before .if1 .left) _ _ _ _ _ _ (at-loop .loop .inv .1) (sym (at-if2 .before .stops-pays .ensures) ∙ at-if2 .if2 .taken) (at-payday-at .payday-at .result) _ (at-payday-at .payday-at .ensures)
 
 pays-sub-expression : (t : ℕ) → pays-lts.Need-sub-expression (
   stops-pays-reads.Asked,
@@ -3047,7 +3383,7 @@ pays-expression-requires t c κs =
     let at-loop = c .before .before .before in
     let start = at-loop .before .before .before .before .before .before .before in
     let args = start .args in
-    let words = wordsIn (args .reserved .now) (args .currencies .now) (args .counters .now) in
+    let words = languageIn (args .two) (args .reserved .now) (args .currencies .now) (args .counters .now) in
     (omega (arith, start .pre .0, at-loop .before .if1 .left), (pay-ready words (G.primary words ((args .depth) - 1)) (primary-law words ((args .depth) - 1)) (primary-size words ((args .depth) - 1)) (args .s .now) _ _ _ _ _ _ _ (at-loop .loop .inv .1) .0, start .pre .1 .3))
 
 pays-enum-known-r : (t : ℕ) → pays-lts.Need-enum-known-r (
@@ -3080,7 +3416,7 @@ pays-same-length-2 : (t : ℕ) → pays-lts.Need-same-length-2 (
 ) (pays-at t) pays.Post pays-Inv-loop pays-μ-loop
 pays-same-length-2 t c =
     let at-expression = c .before .before .before .before in
-    at-expression .expression .kept .1 .1 .1 .1 .1 .1 .0 ∙ at-expression .before .before .before .before .loop .inv .0
+    at-expression .expression .kept .1 .1 .1 .1 .1 .1 .1 .1 .0 ∙ at-expression .before .before .before .before .loop .inv .0
 
 pays-returns-3 : (t : ℕ) → pays-lts.Need-returns-3 (
   stops-pays-reads.Asked,
@@ -3097,7 +3433,7 @@ pays-returns-3 t c =
     let start = at-loop .before .before .before .before .before .before .before in
     let args = start .args in
     let pre = start .pre in
-    let words = wordsIn (args .reserved .now) (args .currencies .now) (args .counters .now) in
+    let words = languageIn (args .two) (args .reserved .now) (args .currencies .now) (args .counters .now) in
     refused-on _ _ _ _ _ _ _ _ _ _ _ _ (c .enum-told .given .1) (at-expression .expression .ensures) (λ q. pays-refused words (args .depth) (args .s .now) (args .c) (args .d) (pre .1 .0 .0) (pre .1 .1) (pre .1 .2) (at-loop .before .if1 .left) _ _ (pay-refused words (G.primary words ((args .depth) - 1)) (primary-law words ((args .depth) - 1)) (primary-size words ((args .depth) - 1)) (args .s .now) _ _ _ _ _ _ _ (at-loop .loop .inv .1) (sym (at-if2 .before .stops-pays .ensures) ∙ at-if2 .if2 .left) _ _ q))
 
 pays-add-count : (t : ℕ) → pays-lts.Need-add-count (
@@ -3113,7 +3449,7 @@ pays-add-count t c =
     let at-if2 = at-expression .before .before in
     let at-loop = at-if2 .before .before in
     let args = at-loop .before .before .before .before .before .before .before .args in
-    let words = wordsIn (args .reserved .now) (args .currencies .now) (args .counters .now) in
+    let words = languageIn (args .two) (args .reserved .now) (args .currencies .now) (args .counters .now) in
     omega (arith, pay-numbers words (G.primary words ((args .depth) - 1)) (primary-law words ((args .depth) - 1)) (primary-size words ((args .depth) - 1)) (args .s .now) _ _ _ _ _ _ _ (at-loop .loop .inv .1) (sym (at-if2 .before .stops-pays .ensures) ∙ at-if2 .if2 .left) _ _ _ _ (done-reads _ _ _ _ _ _ _ _ _ (c .before .r .given .1) (at-expression .expression .ensures)))
 
 pays-loop-less : (t : ℕ) → pays-lts.Need-loop-less (
@@ -3129,7 +3465,7 @@ pays-loop-less t c =
     let at-if2 = at-expression .before .before in
     let at-loop = at-if2 .before .before in
     let args = at-loop .before .before .before .before .before .before .before .args in
-    let words = wordsIn (args .reserved .now) (args .currencies .now) (args .counters .now) in
+    let words = languageIn (args .two) (args .reserved .now) (args .currencies .now) (args .counters .now) in
     pay-less words (G.primary words ((args .depth) - 1)) (primary-law words ((args .depth) - 1)) (primary-size words ((args .depth) - 1)) (args .s .now) _ _ _ _ _ _ _ (at-loop .loop .inv .1) (sym (at-if2 .before .stops-pays .ensures) ∙ at-if2 .if2 .left) _ _ _ _ (done-reads _ _ _ _ _ _ _ _ _ (c .before .r .given .1) (at-expression .expression .ensures))
 
 pays-loop-again : (t : ℕ) → pays-lts.Need-loop-again (
@@ -3145,8 +3481,8 @@ pays-loop-again t c =
     let at-if2 = at-expression .before .before in
     let at-loop = at-if2 .before .before in
     let args = at-loop .before .before .before .before .before .before .before .args in
-    let words = wordsIn (args .reserved .now) (args .currencies .now) (args .counters .now) in
-    (at-expression .expression .kept .1 .1 .1 .1 .1 .1 .0 ∙ at-loop .loop .inv .0, pay-next words (G.primary words ((args .depth) - 1)) (primary-law words ((args .depth) - 1)) (primary-size words ((args .depth) - 1)) (args .s .now) _ _ _ _ _ _ _ (at-loop .loop .inv .1) (sym (at-if2 .before .stops-pays .ensures) ∙ at-if2 .if2 .left) _ _ _ _ (done-reads _ _ _ _ _ _ _ _ _ (c .before .r .given .1) (at-expression .expression .ensures)))
+    let words = languageIn (args .two) (args .reserved .now) (args .currencies .now) (args .counters .now) in
+    (at-expression .expression .kept .1 .1 .1 .1 .1 .1 .1 .1 .0 ∙ at-loop .loop .inv .0, pay-next words (G.primary words ((args .depth) - 1)) (primary-law words ((args .depth) - 1)) (primary-size words ((args .depth) - 1)) (args .s .now) _ _ _ _ _ _ _ (at-loop .loop .inv .1) (sym (at-if2 .before .stops-pays .ensures) ∙ at-if2 .if2 .left) _ _ _ _ (done-reads _ _ _ _ _ _ _ _ _ (c .before .r .given .1) (at-expression .expression .ensures)))
 
 postfix-next-requires : (t : ℕ) → postfix-lts.Need-next-requires (
   next-reads.Asked,
@@ -3171,7 +3507,7 @@ postfix-method-requires t c κs =
     let start = at-next .before .before .before .before .before .before in
     let args = start .args in
     let pre = start .pre in
-    (omega arith, (postfix-ready (wordsIn (args .reserved .now) (args .currencies .now) (args .counters .now)) (args .depth) (args .place) (args .s .now) (args .c) (at-next .next .result) (pre .1 .0 .0) (at-next .next .ensures) (args .m) (pre .1 .3) (pre .1 .0 .1), pre .1 .1, pre .1 .2))
+    (omega arith, (postfix-ready (languageIn (args .two) (args .reserved .now) (args .currencies .now) (args .counters .now)) (args .depth) (args .place) (args .s .now) (args .c) (at-next .next .result) (pre .1 .0 .0) (at-next .next .ensures) (args .m) (pre .1 .3) (pre .1 .0 .1), pre .1 .1, pre .1 .2))
 
 postfix-same-length : (t : ℕ) → postfix-lts.Need-same-length (
   next-reads.Asked,
@@ -3199,9 +3535,9 @@ postfix-returns t c =
     let args = start .args in
     let next = at-next .next in
     let pre = start .pre in
-    let words = wordsIn (args .reserved .now) (args .currencies .now) (args .counters .now) in
+    let words = languageIn (args .two) (args .reserved .now) (args .currencies .now) (args .counters .now) in
     let inside = inner words (args .depth) in
-    turns-as (args .s .now) (λ x. postfixTurn inside (args .place) x (toksAt (args .s .now) (args .c .start))) (λ x. methodOf inside (args .place) x (toksAt (args .s .now) (next .result .start))) _ _ _ _ (args .c) (next .result) (at-method .method .result) (postfix-dot words (args .depth) (args .place) (args .s .now) (args .c) (next .result) (pre .1 .0 .0) (next .ensures) (at-if1 .if1 .taken)) (omega (arith, postfix-fewer words (args .depth) (args .place) (args .s .now) (args .c) (next .result) (pre .1 .0 .0) (next .ensures) (pre .1 .3))) (at-method .method .ensures)
+    turns-as (args .s .now) (λ x. postfixTurn words inside (args .place) x (toksAt (args .s .now) (args .c .start))) (λ x. methodOf words inside (args .place) x (toksAt (args .s .now) (next .result .start))) _ _ _ _ (args .c) (next .result) (at-method .method .result) (postfix-dot words (args .depth) (args .place) (args .s .now) (args .c) (next .result) (pre .1 .0 .0) (next .ensures) (at-if1 .if1 .taken)) (omega (arith, postfix-fewer words (args .depth) (args .place) (args .s .now) (args .c) (next .result) (pre .1 .0 .0) (next .ensures) (pre .1 .3))) (at-method .method .ensures)
 
 postfix-returns-2 : (t : ℕ) → postfix-lts.Need-returns-2 (
   next-reads.Asked,
@@ -3215,7 +3551,7 @@ postfix-returns-2 t c =
     let at-next = c .before .before .before in
     let start = at-next .before .before .before .before .before .before in
     let args = start .args in
-    postfix-low (wordsIn (args .reserved .now) (args .currencies .now) (args .counters .now)) (args .depth) (args .place) (args .s .now) (args .c) (at-next .next .result) (start .pre .1 .0 .0) (at-next .next .ensures) (start .pre .1 .3) (c .before .if1 .left) (c .if2 .taken) _ _ _ (args .out .now)
+    postfix-low (languageIn (args .two) (args .reserved .now) (args .currencies .now) (args .counters .now)) (args .depth) (args .place) (args .s .now) (args .c) (at-next .next .result) (start .pre .1 .0 .0) (at-next .next .ensures) (start .pre .1 .3) (c .before .if1 .left) (c .if2 .taken) _ _ _ (args .out .now)
 
 postfix-sub-index : (t : ℕ) → postfix-lts.Need-sub-index (
   next-reads.Asked,
@@ -3240,7 +3576,7 @@ postfix-index-requires t c κs =
     let start = at-next .before .before .before .before .before .before in
     let args = start .args in
     let pre = start .pre in
-    (omega (arith, above _ (c .before .if2 .left)), (postfix-ready (wordsIn (args .reserved .now) (args .currencies .now) (args .counters .now)) (args .depth) (args .place) (args .s .now) (args .c) (at-next .next .result) (pre .1 .0 .0) (at-next .next .ensures) (args .m) (pre .1 .3) (pre .1 .0 .1), pre .1 .1, pre .1 .2))
+    (omega (arith, above _ (c .before .if2 .left)), (postfix-ready (languageIn (args .two) (args .reserved .now) (args .currencies .now) (args .counters .now)) (args .depth) (args .place) (args .s .now) (args .c) (at-next .next .result) (pre .1 .0 .0) (at-next .next .ensures) (args .m) (pre .1 .3) (pre .1 .0 .1), pre .1 .1, pre .1 .2))
 
 postfix-same-length-2 : (t : ℕ) → postfix-lts.Need-same-length-2 (
   next-reads.Asked,
@@ -3268,14 +3604,14 @@ postfix-returns-3 t c =
     let args = start .args in
     let next = at-next .next in
     let pre = start .pre in
-    let words = wordsIn (args .reserved .now) (args .currencies .now) (args .counters .now) in
-    turns-as (args .s .now) (λ x. postfixTurn (inner words (args .depth)) (args .place) x (toksAt (args .s .now) (args .c .start))) (λ x. indexOf (primaryG words ((args .depth) - 1)) (args .place) x (toksAt (args .s .now) (next .result .start))) _ _ _ _ (args .c) (next .result) (at-index .index .result) (postfix-index words (args .depth) (args .place) (args .s .now) (args .c) (next .result) (pre .1 .0 .0) (next .ensures) (pre .1 .3) (at-if2 .before .if1 .left) (at-if2 .if2 .left)) (omega (arith, postfix-fewer words (args .depth) (args .place) (args .s .now) (args .c) (next .result) (pre .1 .0 .0) (next .ensures) (pre .1 .3))) (at-index .index .ensures)
+    let words = languageIn (args .two) (args .reserved .now) (args .currencies .now) (args .counters .now) in
+    turns-as (args .s .now) (λ x. postfixTurn words (inner words (args .depth)) (args .place) x (toksAt (args .s .now) (args .c .start))) (λ x. indexOf words (primaryG words ((args .depth) - 1)) (args .place) x (toksAt (args .s .now) (next .result .start))) _ _ _ _ (args .c) (next .result) (at-index .index .result) (postfix-index words (args .depth) (args .place) (args .s .now) (args .c) (next .result) (pre .1 .0 .0) (next .ensures) (pre .1 .3) (at-if2 .before .if1 .left) (at-if2 .if2 .left)) (omega (arith, postfix-fewer words (args .depth) (args .place) (args .s .now) (args .c) (next .result) (pre .1 .0 .0) (next .ensures) (pre .1 .3))) (at-index .index .ensures)
 
 abbrev postfixes-Inv-loop : postfixes-lts.InvT-loop
-postfixes-Inv-loop s reserved currencies counters place depth out₀ n m at₀ k₀ out at k = (length out ≡ length out₀) × Ready s at k × (n < k) × ((R : Out Tree) (o : List ℕ) → PostChain (inner (wordsIn reserved currencies counters) depth) place s R n o at₀ k₀ out₀ → PostChain (inner (wordsIn reserved currencies counters) depth) place s R n o at k out)
+postfixes-Inv-loop s two reserved currencies counters place depth out₀ n m at₀ k₀ out at k = (length out ≡ length out₀) × Ready s at k × (n < k) × ((R : Out Tree) (o : List ℕ) → PostChain (languageIn two reserved currencies counters) (inner (languageIn two reserved currencies counters) depth) place s R n o at₀ k₀ out₀ → PostChain (languageIn two reserved currencies counters) (inner (languageIn two reserved currencies counters) depth) place s R n o at k out)
 
 abbrev postfixes-μ-loop : postfixes-lts.MeasureT-loop
-postfixes-μ-loop s reserved currencies counters place depth out₀ n m at₀ k₀ out at k = length (toksAt s (at .start))
+postfixes-μ-loop s two reserved currencies counters place depth out₀ n m at₀ k₀ out at k = length (toksAt s (at .start))
 
 postfixes-loop-holds : (t : ℕ) → postfixes-lts.Need-loop-holds (
   is-postfix-reads.Asked,
@@ -3312,9 +3648,9 @@ postfixes-returns : (t : ℕ) → postfixes-lts.Need-returns (
 postfixes-returns t c =
     let at-loop = c .before .before in
     let args = at-loop .before .before .before .before .before .before .args in
-    let words = wordsIn (args .reserved .now) (args .currencies .now) (args .counters .now) in
+    let words = languageIn (args .two) (args .reserved .now) (args .currencies .now) (args .counters .now) in
     let inside = inner words (args .depth) in
-    λ x o h. post-exit inside (each-inner words (args .depth)) (args .place) (args .s .now) _ _ o _ _ _ (at-loop .loop .inv .3 _ o (post-enter inside (each-inner words (args .depth)) (args .place) (args .s .now) x _ o _ _ _ h)) (at-loop .loop .inv .1 .0) (sign-no (c .before .is-postfix .result) _ (c .before .is-postfix .ensures) (c .if1 .taken))
+    λ x o h. post-exit words inside (each-inner words (args .depth)) (args .place) (args .s .now) _ _ o _ _ _ (at-loop .loop .inv .3 _ o (post-enter words inside (each-inner words (args .depth)) (args .place) (args .s .now) x _ o _ _ _ h)) (at-loop .loop .inv .1 .0) (sign-no (c .before .is-postfix .result) _ (c .before .is-postfix .ensures) (c .if1 .taken))
 
 postfixes-postfix-requires : (t : ℕ) → postfixes-lts.Need-postfix-requires (
   is-postfix-reads.Asked,
@@ -3351,7 +3687,7 @@ postfixes-same-length-2 : (t : ℕ) → postfixes-lts.Need-same-length-2 (
 ) (postfixes-at t) postfixes.Post postfixes-Inv-loop postfixes-μ-loop
 postfixes-same-length-2 t c =
     let at-postfix = c .before .before .before .before in
-    at-postfix .postfix .kept .1 .1 .1 .1 .1 .1 .1 .0 ∙ at-postfix .before .before .before .before .loop .inv .0
+    at-postfix .postfix .kept .1 .1 .1 .1 .1 .1 .1 .1 .0 ∙ at-postfix .before .before .before .before .loop .inv .0
 
 postfixes-returns-2 : (t : ℕ) → postfixes-lts.Need-returns-2 (
   is-postfix-reads.Asked,
@@ -3363,9 +3699,9 @@ postfixes-returns-2 t c =
     let at-postfix = c .before .before .before .before in
     let at-loop = at-postfix .before .before .before .before in
     let args = at-loop .before .before .before .before .before .before .args in
-    let words = wordsIn (args .reserved .now) (args .currencies .now) (args .counters .now) in
+    let words = languageIn (args .two) (args .reserved .now) (args .currencies .now) (args .counters .now) in
     let inside = inner words (args .depth) in
-    λ x o h. post-refused inside (each-inner words (args .depth)) (args .place) (args .s .now) _ _ o _ _ _ (at-loop .loop .inv .3 _ o (post-enter inside (each-inner words (args .depth)) (args .place) (args .s .now) x _ o _ _ _ h)) (at-postfix .postfix .result) _ (at-postfix .postfix .ensures) _ _ (c .enum-told .given .1)
+    λ x o h. post-refused words inside (each-inner words (args .depth)) (args .place) (args .s .now) _ _ o _ _ _ (at-loop .loop .inv .3 _ o (post-enter words inside (each-inner words (args .depth)) (args .place) (args .s .now) x _ o _ _ _ h)) (at-postfix .postfix .result) _ (at-postfix .postfix .ensures) _ _ (c .enum-told .given .1)
 
 postfixes-loop-less : (t : ℕ) → postfixes-lts.Need-loop-less (
   is-postfix-reads.Asked,
@@ -3389,52 +3725,54 @@ postfixes-loop-again t c =
     let postfix = at-postfix .postfix in
     let r = c .before .r in
     let args = at-loop .before .before .before .before .before .before .args in
-    let words = wordsIn (args .reserved .now) (args .currencies .now) (args .counters .now) in
-    (postfix .kept .1 .1 .1 .1 .1 .1 .1 .0 ∙ at-loop .loop .inv .0, (onward-done _ _ _ (postfix .result) _ _ _ (r .given .1) (postfix .ensures .1)) .0, (onward-done _ _ _ (postfix .result) _ _ _ (r .given .1) (postfix .ensures .1)) .1, λ R o h. post-more (inner words (args .depth)) (each-inner words (args .depth)) (args .place) (args .s .now) R _ o _ _ _ (at-loop .loop .inv .3 R o h) (postfix .result) _ (postfix .ensures) _ _ _ (r .given .1))
+    let words = languageIn (args .two) (args .reserved .now) (args .currencies .now) (args .counters .now) in
+    (postfix .kept .1 .1 .1 .1 .1 .1 .1 .1 .0 ∙ at-loop .loop .inv .0, (onward-done _ _ _ (postfix .result) _ _ _ (r .given .1) (postfix .ensures .1)) .0, (onward-done _ _ _ (postfix .result) _ _ _ (r .given .1) (postfix .ensures .1)) .1, λ R o h. post-more words (inner words (args .depth)) (each-inner words (args .depth)) (args .place) (args .s .now) R _ o _ _ _ (at-loop .loop .inv .3 R o h) (postfix .result) _ (postfix .ensures) _ _ _ (r .given .1))
 
 abbrev power-Inv-loop : power-lts.InvT-loop
-power-Inv-loop s reserved currencies counters c depth out₀ n at₀ m₀ sign₀ out at m sign = (length out ≡ length out₀) × Pending (isSign "**") powerSign (G.primary (wordsIn reserved currencies counters) depth) s (at₀ .start) (G.power (G.primary (wordsIn reserved currencies counters) depth) (toksAt s (at₀ .start))) n out₀ sign at m out
+power-Inv-loop s two reserved currencies counters c depth out₀ n at₀ m₀ fits₀ count₀ out at m fits count = (length out ≡ length out₀) × Powers two (G.primary (languageIn two reserved currencies counters) depth) s (at₀ .start) (powerAt (languageIn two reserved currencies counters) depth (toksAt s (at₀ .start))) n out₀ count fits at m out
 
 abbrev power-μ-loop : power-lts.MeasureT-loop
-power-μ-loop s reserved currencies counters c depth out₀ n at₀ m₀ sign₀ out at m sign = length (toksAt s (at .start))
+power-μ-loop s two reserved currencies counters c depth out₀ n at₀ m₀ fits₀ count₀ out at m fits count = length (toksAt s (at .start))
 
 power-loop-holds : (t : ℕ) → power-lts.Need-loop-holds (
   primary-below t,
   primary.Post,
-  join-reads.Asked,
-  join-reads.Learnt,
   is-power-reads.Asked,
   is-power-reads.Learnt,
+  step-reads.Asked,
+  step-reads.Learnt,
   next-reads.Asked,
   next-reads.Learnt,
 ) (power-at t) power.Post power-Inv-loop power-μ-loop
 power-loop-holds t c =
     let start = c .before .before .before .before .before in
     let args = start .args in
-    (refl, pend-first (power-level (wordsIn (args .reserved .now) (args .currencies .now) (args .counters .now)) (args .depth)) (args .s .now) (args .c) (args .n) (args .out .now) (start .pre .1 .0))
+    let words = languageIn (args .two) (args .reserved .now) (args .currencies .now) (args .counters .now) in
+    (refl, powers-first (power-level words (args .depth)) (primary-low words (args .depth)) (args .s .now) (args .two) (args .reserved .now) (args .currencies .now) (args .counters .now) (args .c) (args .n) (args .out .now) (start .pre .1 .0))
 
 power-primary-requires : (t : ℕ) → power-lts.Need-primary-requires (
   primary-below t,
   primary.Post,
-  join-reads.Asked,
-  join-reads.Learnt,
   is-power-reads.Asked,
   is-power-reads.Learnt,
+  step-reads.Asked,
+  step-reads.Learnt,
   next-reads.Asked,
   next-reads.Learnt,
 ) (power-at t) power.Post power-Inv-loop power-μ-loop
 power-primary-requires t c κs =
     let start = c .before .before .before .before .before .before .before in
     let args = start .args in
-    (omega (arith, start .pre .0), (pend-ready (power-level (wordsIn (args .reserved .now) (args .currencies .now) (args .counters .now)) (args .depth)) (args .s .now) _ _ _ _ _ _ _ _ (c .before .loop .inv .1), start .pre .1 .1))
+    let words = languageIn (args .two) (args .reserved .now) (args .currencies .now) (args .counters .now) in
+    (omega (arith, start .pre .0), (powers-ready (power-level words (args .depth)) (primary-low words (args .depth)) (args .s .now) (args .two) _ _ _ _ _ _ _ _ _ (c .before .loop .inv .1), start .pre .1 .1))
 
 power-enum-known-r : (t : ℕ) → power-lts.Need-enum-known-r (
   primary-below t,
   primary.Post,
-  join-reads.Asked,
-  join-reads.Learnt,
   is-power-reads.Asked,
   is-power-reads.Learnt,
+  step-reads.Asked,
+  step-reads.Learnt,
   next-reads.Asked,
   next-reads.Learnt,
 ) (power-at t) power.Post power-Inv-loop power-μ-loop
@@ -3443,10 +3781,10 @@ power-enum-known-r t c = search needs
 power-enum-told : (t : ℕ) → power-lts.Need-enum-told (
   primary-below t,
   primary.Post,
-  join-reads.Asked,
-  join-reads.Learnt,
   is-power-reads.Asked,
   is-power-reads.Learnt,
+  step-reads.Asked,
+  step-reads.Learnt,
   next-reads.Asked,
   next-reads.Learnt,
 ) (power-at t) power.Post power-Inv-loop power-μ-loop
@@ -3455,24 +3793,24 @@ power-enum-told t c = search needs
 power-same-length : (t : ℕ) → power-lts.Need-same-length (
   primary-below t,
   primary.Post,
-  join-reads.Asked,
-  join-reads.Learnt,
   is-power-reads.Asked,
   is-power-reads.Learnt,
+  step-reads.Asked,
+  step-reads.Learnt,
   next-reads.Asked,
   next-reads.Learnt,
 ) (power-at t) power.Post power-Inv-loop power-μ-loop
 power-same-length t c =
     let at-primary = c .before .before .before .before in
-    at-primary .primary .kept .1 .1 .1 .1 .1 .1 .0 ∙ at-primary .before .before .loop .inv .0
+    at-primary .primary .kept .1 .1 .1 .1 .1 .1 .1 .0 ∙ at-primary .before .before .loop .inv .0
 
 power-returns : (t : ℕ) → power-lts.Need-returns (
   primary-below t,
   primary.Post,
-  join-reads.Asked,
-  join-reads.Learnt,
   is-power-reads.Asked,
   is-power-reads.Learnt,
+  step-reads.Asked,
+  step-reads.Learnt,
   next-reads.Asked,
   next-reads.Learnt,
 ) (power-at t) power.Post power-Inv-loop power-μ-loop
@@ -3480,141 +3818,156 @@ power-returns t c =
     let at-primary = c .before .before .before .before in
     let at-loop = at-primary .before .before in
     let args = at-loop .before .before .before .before .before .before .args in
-    refused-on _ _ _ _ _ _ _ _ _ _ _ _ (c .enum-told .given .1) (at-primary .primary .ensures) (pend-refused (power-level (wordsIn (args .reserved .now) (args .currencies .now) (args .counters .now)) (args .depth)) (args .s .now) _ _ _ _ _ _ _ _ (at-loop .loop .inv .1) _ _)
-
-power-join-requires : (t : ℕ) → power-lts.Need-join-requires (
-  primary-below t,
-  primary.Post,
-  join-reads.Asked,
-  join-reads.Learnt,
-  is-power-reads.Asked,
-  is-power-reads.Learnt,
-  next-reads.Asked,
-  next-reads.Learnt,
-) (power-at t) power.Post power-Inv-loop power-μ-loop
-power-join-requires t c κs =
-    let at-r = c .before .before in
-    let at-primary = at-r .before .before .before .before in
-    let at-loop = at-primary .before .before in
-    let args = at-loop .before .before .before .before .before .before .args in
-    pend-numbers (power-level (wordsIn (args .reserved .now) (args .currencies .now) (args .counters .now)) (args .depth)) (args .s .now) _ _ _ _ _ _ _ _ (at-loop .loop .inv .1) _ _ _ _ (done-reads _ _ _ _ _ _ _ _ _ (at-r .r .given .1) (at-primary .primary .ensures))
+    let words = languageIn (args .two) (args .reserved .now) (args .currencies .now) (args .counters .now) in
+    refused-on _ _ _ _ _ _ _ _ _ _ _ _ (c .enum-told .given .1) (at-primary .primary .ensures) (powers-refused (power-level words (args .depth)) (primary-low words (args .depth)) (args .s .now) (args .two) _ _ _ _ _ _ _ _ _ (at-loop .loop .inv .1) _ _)
 
 power-is-power-requires : (t : ℕ) → power-lts.Need-is-power-requires (
   primary-below t,
   primary.Post,
-  join-reads.Asked,
-  join-reads.Learnt,
   is-power-reads.Asked,
   is-power-reads.Learnt,
+  step-reads.Asked,
+  step-reads.Learnt,
   next-reads.Asked,
   next-reads.Learnt,
 ) (power-at t) power.Post power-Inv-loop power-μ-loop
 power-is-power-requires t c κs = search needs
 
+power-step-requires : (t : ℕ) → power-lts.Need-step-requires (
+  primary-below t,
+  primary.Post,
+  is-power-reads.Asked,
+  is-power-reads.Learnt,
+  step-reads.Asked,
+  step-reads.Learnt,
+  next-reads.Asked,
+  next-reads.Learnt,
+) (power-at t) power.Post power-Inv-loop power-μ-loop
+power-step-requires t c κs =
+    let at-r = c .before .before .before in
+    let at-primary = at-r .before .before .before .before in
+    let at-loop = at-primary .before .before in
+    let args = at-loop .before .before .before .before .before .before .args in
+    let words = languageIn (args .two) (args .reserved .now) (args .currencies .now) (args .counters .now) in
+    powers-numbers (power-level words (args .depth)) (primary-low words (args .depth)) (args .s .now) (args .two) _ _ _ _ _ _ _ _ _ (at-loop .loop .inv .1) _ _ _ _ (done-reads _ _ _ _ _ _ _ _ _ (at-r .r .given .1) (at-primary .primary .ensures))
+
 power-same-length-2 : (t : ℕ) → power-lts.Need-same-length-2 (
   primary-below t,
   primary.Post,
-  join-reads.Asked,
-  join-reads.Learnt,
   is-power-reads.Asked,
   is-power-reads.Learnt,
+  step-reads.Asked,
+  step-reads.Learnt,
   next-reads.Asked,
   next-reads.Learnt,
 ) (power-at t) power.Post power-Inv-loop power-μ-loop
 power-same-length-2 t c =
-    let at-join = c .before .before .before .before in
-    let at-primary = at-join .before .before .before .before .before .before .before in
-    at-join .join .kept .0 ∙ (at-primary .primary .kept .1 .1 .1 .1 .1 .1 .0 ∙ at-primary .before .before .loop .inv .0)
+    let at-step = c .before .before .before in
+    let at-primary = at-step .before .before .before .before .before .before .before .before in
+    at-step .step .kept .0 ∙ (at-primary .primary .kept .1 .1 .1 .1 .1 .1 .1 .0 ∙ at-primary .before .before .loop .inv .0)
 
 power-returns-2 : (t : ℕ) → power-lts.Need-returns-2 (
   primary-below t,
   primary.Post,
-  join-reads.Asked,
-  join-reads.Learnt,
   is-power-reads.Asked,
   is-power-reads.Learnt,
+  step-reads.Asked,
+  step-reads.Learnt,
   next-reads.Asked,
   next-reads.Learnt,
 ) (power-at t) power.Post power-Inv-loop power-μ-loop
 power-returns-2 t c =
-    let at-join = c .before .before .before .before in
-    let at-r = at-join .before .before .before in
+    let at-step = c .before .before .before in
+    let at-is-power = at-step .before .before in
+    let at-r = at-is-power .before .before in
     let at-primary = at-r .before .before .before .before in
     let at-loop = at-primary .before .before in
     let args = at-loop .before .before .before .before .before .before .args in
-    let words = wordsIn (args .reserved .now) (args .currencies .now) (args .counters .now) in
-    chain-exit (power-level words (args .depth)) (args .s .now) _ _ _ _ _ _ _ _ (pend-chain (power-level words (args .depth)) (args .s .now) _ _ _ _ _ _ _ _ (at-loop .loop .inv .1) _ _ _ _ (done-reads _ _ _ _ _ _ _ _ _ (at-r .r .given .1) (at-primary .primary .ensures)) (at-join .join .result) _ (at-join .join .ensures)) (sym (c .before .is-power .ensures) ∙ not-true _ (c .if1 .taken))
+    let words = languageIn (args .two) (args .reserved .now) (args .currencies .now) (args .counters .now) in
+    powers-exit (power-level words (args .depth)) (primary-low words (args .depth)) (args .s .now) (args .two) _ _ _ _ _ _ _ _ _ (at-loop .loop .inv .1) _ _ _ _ (done-reads _ _ _ _ _ _ _ _ _ (at-r .r .given .1) (at-primary .primary .ensures)) _ (at-is-power .is-power .ensures) (at-step .step .result) _ (at-step .step .ensures) (not-true _ (c .if1 .taken))
 
 power-next-requires : (t : ℕ) → power-lts.Need-next-requires (
   primary-below t,
   primary.Post,
-  join-reads.Asked,
-  join-reads.Learnt,
   is-power-reads.Asked,
   is-power-reads.Learnt,
+  step-reads.Asked,
+  step-reads.Learnt,
   next-reads.Asked,
   next-reads.Learnt,
 ) (power-at t) power.Post power-Inv-loop power-μ-loop
 power-next-requires t c κs =
-    let at-join = c .before .before .before .before in
-    let at-r = at-join .before .before .before in
+    let at-r = c .before .before .before .before .before .before .before in
+    (done-reads _ _ _ _ _ _ _ _ _ (at-r .r .given .1) (at-r .before .before .before .before .primary .ensures)) .holds
+
+power-add-count : (t : ℕ) → power-lts.Need-add-count (
+  primary-below t,
+  primary.Post,
+  is-power-reads.Asked,
+  is-power-reads.Learnt,
+  step-reads.Asked,
+  step-reads.Learnt,
+  next-reads.Asked,
+  next-reads.Learnt,
+) (power-at t) power.Post power-Inv-loop power-μ-loop
+power-add-count t c =
+    let at-r = c .before .before .before .before .before .before .before .before in
     let at-primary = at-r .before .before .before .before in
     let at-loop = at-primary .before .before in
     let args = at-loop .before .before .before .before .before .before .args in
-    (pend-chain (power-level (wordsIn (args .reserved .now) (args .currencies .now) (args .counters .now)) (args .depth)) (args .s .now) _ _ _ _ _ _ _ _ (at-loop .loop .inv .1) _ _ _ _ (done-reads _ _ _ _ _ _ _ _ _ (at-r .r .given .1) (at-primary .primary .ensures)) (at-join .join .result) _ (at-join .join .ensures)) .holds
+    let words = languageIn (args .two) (args .reserved .now) (args .currencies .now) (args .counters .now) in
+    omega (arith, powers-numbers (power-level words (args .depth)) (primary-low words (args .depth)) (args .s .now) (args .two) _ _ _ _ _ _ _ _ _ (at-loop .loop .inv .1) _ _ _ _ (done-reads _ _ _ _ _ _ _ _ _ (at-r .r .given .1) (at-primary .primary .ensures)) .2)
 
 power-loop-less : (t : ℕ) → power-lts.Need-loop-less (
   primary-below t,
   primary.Post,
-  join-reads.Asked,
-  join-reads.Learnt,
   is-power-reads.Asked,
   is-power-reads.Learnt,
+  step-reads.Asked,
+  step-reads.Learnt,
   next-reads.Asked,
   next-reads.Learnt,
 ) (power-at t) power.Post power-Inv-loop power-μ-loop
 power-loop-less t c =
-    let at-is-power = c .before .before in
-    let at-r = at-is-power .before .before .before .before .before .before in
+    let at-step = c .before .before .before .before in
+    let at-is-power = at-step .before .before in
+    let at-r = at-is-power .before .before in
     let at-primary = at-r .before .before .before .before in
     let at-loop = at-primary .before .before in
     let args = at-loop .before .before .before .before .before .before .args in
-    pend-less (power-level (wordsIn (args .reserved .now) (args .currencies .now) (args .counters .now)) (args .depth)) (args .s .now) _ _ _ _ _ _ _ _ (at-loop .loop .inv .1) _ _ _ _ (done-reads _ _ _ _ _ _ _ _ _ (at-r .r .given .1) (at-primary .primary .ensures)) (sym (at-is-power .is-power .ensures) ∙ not-false _ (c .before .if1 .left)) (c .next .result) (c .next .ensures)
+    let words = languageIn (args .two) (args .reserved .now) (args .currencies .now) (args .counters .now) in
+    powers-less (power-level words (args .depth)) (primary-low words (args .depth)) (args .s .now) (args .two) _ _ _ _ _ _ _ _ _ (at-loop .loop .inv .1) _ _ _ _ (done-reads _ _ _ _ _ _ _ _ _ (at-r .r .given .1) (at-primary .primary .ensures)) _ (at-is-power .is-power .ensures) (at-step .step .result) _ (at-step .step .ensures) (not-false _ (c .before .if1 .left)) (c .next .result) (c .next .ensures)
 
 power-loop-again : (t : ℕ) → power-lts.Need-loop-again (
   primary-below t,
   primary.Post,
-  join-reads.Asked,
-  join-reads.Learnt,
   is-power-reads.Asked,
   is-power-reads.Learnt,
+  step-reads.Asked,
+  step-reads.Learnt,
   next-reads.Asked,
   next-reads.Learnt,
 ) (power-at t) power.Post power-Inv-loop power-μ-loop
 power-loop-again t c =
-    let at-is-power = c .before .before in
-    let at-join = at-is-power .before .before .before in
-    let at-r = at-join .before .before .before in
+    let at-step = c .before .before .before .before in
+    let at-is-power = at-step .before .before in
+    let at-r = at-is-power .before .before in
     let at-primary = at-r .before .before .before .before in
     let at-loop = at-primary .before .before in
-    let join = at-join .join in
+    let step = at-step .step in
     let args = at-loop .before .before .before .before .before .before .args in
-    let words = wordsIn (args .reserved .now) (args .currencies .now) (args .counters .now) in
-    (join .kept .0 ∙ (at-primary .primary .kept .1 .1 .1 .1 .1 .1 .0 ∙ at-loop .loop .inv .0), pend-next (power-level words (args .depth)) (args .s .now) _ _ _ _ _ _ _ _ (pend-chain (power-level words (args .depth)) (args .s .now) _ _ _ _ _ _ _ _ (at-loop .loop .inv .1) _ _ _ _ (done-reads _ _ _ _ _ _ _ _ _ (at-r .r .given .1) (at-primary .primary .ensures)) (join .result) _ (join .ensures)) (sym (at-is-power .is-power .ensures) ∙ not-false _ (c .before .if1 .left)) (c .next .result) (c .next .ensures))
+    let words = languageIn (args .two) (args .reserved .now) (args .currencies .now) (args .counters .now) in
+    (step .kept .0 ∙ (at-primary .primary .kept .1 .1 .1 .1 .1 .1 .1 .0 ∙ at-loop .loop .inv .0), powers-next (power-level words (args .depth)) (primary-low words (args .depth)) (args .s .now) (args .two) _ _ _ _ _ _ _ _ _ (at-loop .loop .inv .1) _ _ _ _ (done-reads _ _ _ _ _ _ _ _ _ (at-r .r .given .1) (at-primary .primary .ensures)) _ (at-is-power .is-power .ensures) (step .result) _ (step .ensures) (not-false _ (c .before .if1 .left)) (c .next .result) (c .next .ensures))
 
 primary-next-requires : (t : ℕ) → primary-lts.Need-next-requires (
   next-reads.Asked,
   next-reads.Learnt,
   parenthesis-below t,
   parenthesis.Post,
-  primary-below t,
-  primary.Post,
-  constant-at-reads.Asked,
-  constant-at-reads.Learnt,
-  plain-reads.Asked,
-  plain-reads.Learnt,
-  put-reads.Asked,
-  put-reads.Learnt,
+  signed-below t,
+  signed.Post,
+  minus-below t,
+  minus.Post,
   list-below t,
   list.Post,
   pays-below t,
@@ -3631,14 +3984,10 @@ primary-parenthesis-requires : (t : ℕ) → primary-lts.Need-parenthesis-requir
   next-reads.Learnt,
   parenthesis-below t,
   parenthesis.Post,
-  primary-below t,
-  primary.Post,
-  constant-at-reads.Asked,
-  constant-at-reads.Learnt,
-  plain-reads.Asked,
-  plain-reads.Learnt,
-  put-reads.Asked,
-  put-reads.Learnt,
+  signed-below t,
+  signed.Post,
+  minus-below t,
+  minus.Post,
   list-below t,
   list.Post,
   pays-below t,
@@ -3655,14 +4004,10 @@ primary-returns : (t : ℕ) → primary-lts.Need-returns (
   next-reads.Learnt,
   parenthesis-below t,
   parenthesis.Post,
-  primary-below t,
-  primary.Post,
-  constant-at-reads.Asked,
-  constant-at-reads.Learnt,
-  plain-reads.Asked,
-  plain-reads.Learnt,
-  put-reads.Asked,
-  put-reads.Learnt,
+  signed-below t,
+  signed.Post,
+  minus-below t,
+  minus.Post,
   list-below t,
   list.Post,
   pays-below t,
@@ -3675,21 +4020,17 @@ primary-returns : (t : ℕ) → primary-lts.Need-returns (
 primary-returns t c =
     let start = c .before .before .before .before .before .before .before .before in
     let args = start .args in
-    prim-plus-0 (wordsIn (args .reserved .now) (args .currencies .now) (args .counters .now)) (args .s .now) (args .c) (start .pre .1 .0 .0) (args .depth) (c .before .match .keys2) (c .if1 .taken)
+    prim-plus-0 (languageIn (args .two) (args .reserved .now) (args .currencies .now) (args .counters .now)) (args .s .now) (args .c) (start .pre .1 .0 .0) (args .depth) (c .before .match .keys2) (c .if1 .taken)
 
-primary-sub-primary : (t : ℕ) → primary-lts.Need-sub-primary (
+primary-sub-signed : (t : ℕ) → primary-lts.Need-sub-signed (
   next-reads.Asked,
   next-reads.Learnt,
   parenthesis-below t,
   parenthesis.Post,
-  primary-below t,
-  primary.Post,
-  constant-at-reads.Asked,
-  constant-at-reads.Learnt,
-  plain-reads.Asked,
-  plain-reads.Learnt,
-  put-reads.Asked,
-  put-reads.Learnt,
+  signed-below t,
+  signed.Post,
+  minus-below t,
+  minus.Post,
   list-below t,
   list.Post,
   pays-below t,
@@ -3699,21 +4040,17 @@ primary-sub-primary : (t : ℕ) → primary-lts.Need-sub-primary (
   atom-at-reads.Asked,
   atom-at-reads.Learnt,
 ) (primary-at t) primary.Post
-primary-sub-primary t c = search needs
+primary-sub-signed t c = search needs
 
-primary-primary-requires : (t : ℕ) → primary-lts.Need-primary-requires (
+primary-signed-requires : (t : ℕ) → primary-lts.Need-signed-requires (
   next-reads.Asked,
   next-reads.Learnt,
   parenthesis-below t,
   parenthesis.Post,
-  primary-below t,
-  primary.Post,
-  constant-at-reads.Asked,
-  constant-at-reads.Learnt,
-  plain-reads.Asked,
-  plain-reads.Learnt,
-  put-reads.Asked,
-  put-reads.Learnt,
+  signed-below t,
+  signed.Post,
+  minus-below t,
+  minus.Post,
   list-below t,
   list.Post,
   pays-below t,
@@ -3723,24 +4060,20 @@ primary-primary-requires : (t : ℕ) → primary-lts.Need-primary-requires (
   atom-at-reads.Asked,
   atom-at-reads.Learnt,
 ) (primary-at t) primary.Post
-primary-primary-requires t c κs =
+primary-signed-requires t c κs =
     let at-match = c .before .before in
     let start = at-match .before .before .before .before .before .before .before in
     (omega arith, (follow-ready _ (start .args .c) (at-match .before .next .result) _ (λ z. omega (arith, z, at-match .match .keys2)) (at-match .before .next .ensures) (start .pre .1 .0) .0, start .pre .1 .1))
 
-primary-constant-at-requires : (t : ℕ) → primary-lts.Need-constant-at-requires (
+primary-minus-requires : (t : ℕ) → primary-lts.Need-minus-requires (
   next-reads.Asked,
   next-reads.Learnt,
   parenthesis-below t,
   parenthesis.Post,
-  primary-below t,
-  primary.Post,
-  constant-at-reads.Asked,
-  constant-at-reads.Learnt,
-  plain-reads.Asked,
-  plain-reads.Learnt,
-  put-reads.Asked,
-  put-reads.Learnt,
+  signed-below t,
+  signed.Post,
+  minus-below t,
+  minus.Post,
   list-below t,
   list.Post,
   pays-below t,
@@ -3750,403 +4083,17 @@ primary-constant-at-requires : (t : ℕ) → primary-lts.Need-constant-at-requir
   atom-at-reads.Asked,
   atom-at-reads.Learnt,
 ) (primary-at t) primary.Post
-primary-constant-at-requires t c κs =
-    let at-match = c .before .before .before in
-    let start = at-match .before .before .before .before .before .before .before in
-    ((follow-ready _ (start .args .c) (at-match .before .next .result) _ (λ z. omega (arith, z, at-match .match .keys3)) (at-match .before .next .ensures) (start .pre .1 .0) .0), c .before .if2 .taken)
-
-primary-same-length : (t : ℕ) → primary-lts.Need-same-length (
-  next-reads.Asked,
-  next-reads.Learnt,
-  parenthesis-below t,
-  parenthesis.Post,
-  primary-below t,
-  primary.Post,
-  constant-at-reads.Asked,
-  constant-at-reads.Learnt,
-  plain-reads.Asked,
-  plain-reads.Learnt,
-  put-reads.Asked,
-  put-reads.Learnt,
-  list-below t,
-  list.Post,
-  pays-below t,
-  pays.Post,
-  name-below t,
-  name.Post,
-  atom-at-reads.Asked,
-  atom-at-reads.Learnt,
-) (primary-at t) primary.Post
-primary-same-length t c = search needs
-
-primary-returns-2 : (t : ℕ) → primary-lts.Need-returns-2 (
-  next-reads.Asked,
-  next-reads.Learnt,
-  parenthesis-below t,
-  parenthesis.Post,
-  primary-below t,
-  primary.Post,
-  constant-at-reads.Asked,
-  constant-at-reads.Learnt,
-  plain-reads.Asked,
-  plain-reads.Learnt,
-  put-reads.Asked,
-  put-reads.Learnt,
-  list-below t,
-  list.Post,
-  pays-below t,
-  pays.Post,
-  name-below t,
-  name.Post,
-  atom-at-reads.Asked,
-  atom-at-reads.Learnt,
-) (primary-at t) primary.Post
-primary-returns-2 t c =
-    let at-constant-at = c .before .before in
-    let at-if2 = at-constant-at .before .before in
-    let at-match = at-if2 .before .before in
-    let start = at-match .before .before .before .before .before .before .before in
-    let args = start .args in
-    meets-as _ _ _ _ _ (at-constant-at .constant-at .result) _ (prim-minus-number (wordsIn (args .reserved .now) (args .currencies .now) (args .counters .now)) (args .s .now) (args .c) (start .pre .1 .0 .0) (args .depth) (at-match .before .next .result) (at-match .before .next .ensures) (at-match .match .keys3) (at-if2 .if2 .taken)) (at-constant-at .constant-at .ensures)
-
-primary-returns-3 : (t : ℕ) → primary-lts.Need-returns-3 (
-  next-reads.Asked,
-  next-reads.Learnt,
-  parenthesis-below t,
-  parenthesis.Post,
-  primary-below t,
-  primary.Post,
-  constant-at-reads.Asked,
-  constant-at-reads.Learnt,
-  plain-reads.Asked,
-  plain-reads.Learnt,
-  put-reads.Asked,
-  put-reads.Learnt,
-  list-below t,
-  list.Post,
-  pays-below t,
-  pays.Post,
-  name-below t,
-  name.Post,
-  atom-at-reads.Asked,
-  atom-at-reads.Learnt,
-) (primary-at t) primary.Post
-primary-returns-3 t c =
-    let at-match = c .before .before .before in
-    let start = at-match .before .before .before .before .before .before .before in
-    let args = start .args in
-    prim-minus-0 (wordsIn (args .reserved .now) (args .currencies .now) (args .counters .now)) (args .s .now) (args .c) (start .pre .1 .0 .0) (args .depth) (at-match .before .next .result) (at-match .before .next .ensures) (at-match .match .keys3) (c .before .if2 .left) (c .if3 .taken)
-
-primary-sub-primary-2 : (t : ℕ) → primary-lts.Need-sub-primary-2 (
-  next-reads.Asked,
-  next-reads.Learnt,
-  parenthesis-below t,
-  parenthesis.Post,
-  primary-below t,
-  primary.Post,
-  constant-at-reads.Asked,
-  constant-at-reads.Learnt,
-  plain-reads.Asked,
-  plain-reads.Learnt,
-  put-reads.Asked,
-  put-reads.Learnt,
-  list-below t,
-  list.Post,
-  pays-below t,
-  pays.Post,
-  name-below t,
-  name.Post,
-  atom-at-reads.Asked,
-  atom-at-reads.Learnt,
-) (primary-at t) primary.Post
-primary-sub-primary-2 t c = search needs
-
-primary-primary-requires-2 : (t : ℕ) → primary-lts.Need-primary-requires-2 (
-  next-reads.Asked,
-  next-reads.Learnt,
-  parenthesis-below t,
-  parenthesis.Post,
-  primary-below t,
-  primary.Post,
-  constant-at-reads.Asked,
-  constant-at-reads.Learnt,
-  plain-reads.Asked,
-  plain-reads.Learnt,
-  put-reads.Asked,
-  put-reads.Learnt,
-  list-below t,
-  list.Post,
-  pays-below t,
-  pays.Post,
-  name-below t,
-  name.Post,
-  atom-at-reads.Asked,
-  atom-at-reads.Learnt,
-) (primary-at t) primary.Post
-primary-primary-requires-2 t c κs =
-    let at-match = c .before .before .before .before in
-    let start = at-match .before .before .before .before .before .before .before in
-    (omega arith, (follow-ready _ (start .args .c) (at-match .before .next .result) _ (λ z. omega (arith, z, at-match .match .keys3)) (at-match .before .next .ensures) (start .pre .1 .0) .0, start .pre .1 .1))
-
-primary-enum-known-r : (t : ℕ) → primary-lts.Need-enum-known-r (
-  next-reads.Asked,
-  next-reads.Learnt,
-  parenthesis-below t,
-  parenthesis.Post,
-  primary-below t,
-  primary.Post,
-  constant-at-reads.Asked,
-  constant-at-reads.Learnt,
-  plain-reads.Asked,
-  plain-reads.Learnt,
-  put-reads.Asked,
-  put-reads.Learnt,
-  list-below t,
-  list.Post,
-  pays-below t,
-  pays.Post,
-  name-below t,
-  name.Post,
-  atom-at-reads.Asked,
-  atom-at-reads.Learnt,
-) (primary-at t) primary.Post
-primary-enum-known-r t c = search needs
-
-primary-enum-told : (t : ℕ) → primary-lts.Need-enum-told (
-  next-reads.Asked,
-  next-reads.Learnt,
-  parenthesis-below t,
-  parenthesis.Post,
-  primary-below t,
-  primary.Post,
-  constant-at-reads.Asked,
-  constant-at-reads.Learnt,
-  plain-reads.Asked,
-  plain-reads.Learnt,
-  put-reads.Asked,
-  put-reads.Learnt,
-  list-below t,
-  list.Post,
-  pays-below t,
-  pays.Post,
-  name-below t,
-  name.Post,
-  atom-at-reads.Asked,
-  atom-at-reads.Learnt,
-) (primary-at t) primary.Post
-primary-enum-told t c = search needs
-
-primary-same-length-2 : (t : ℕ) → primary-lts.Need-same-length-2 (
-  next-reads.Asked,
-  next-reads.Learnt,
-  parenthesis-below t,
-  parenthesis.Post,
-  primary-below t,
-  primary.Post,
-  constant-at-reads.Asked,
-  constant-at-reads.Learnt,
-  plain-reads.Asked,
-  plain-reads.Learnt,
-  put-reads.Asked,
-  put-reads.Learnt,
-  list-below t,
-  list.Post,
-  pays-below t,
-  pays.Post,
-  name-below t,
-  name.Post,
-  atom-at-reads.Asked,
-  atom-at-reads.Learnt,
-) (primary-at t) primary.Post
-primary-same-length-2 t c = search needs
-
-primary-returns-4 : (t : ℕ) → primary-lts.Need-returns-4 (
-  next-reads.Asked,
-  next-reads.Learnt,
-  parenthesis-below t,
-  parenthesis.Post,
-  primary-below t,
-  primary.Post,
-  constant-at-reads.Asked,
-  constant-at-reads.Learnt,
-  plain-reads.Asked,
-  plain-reads.Learnt,
-  put-reads.Asked,
-  put-reads.Learnt,
-  list-below t,
-  list.Post,
-  pays-below t,
-  pays.Post,
-  name-below t,
-  name.Post,
-  atom-at-reads.Asked,
-  atom-at-reads.Learnt,
-) (primary-at t) primary.Post
-primary-returns-4 t c =
-    let at-primary2 = c .before .before .before .before in
-    let at-if3 = at-primary2 .before .before in
-    let at-match = at-if3 .before .before .before in
-    let start = at-match .before .before .before .before .before .before .before in
-    let args = start .args in
-    refused-on _ _ _ _ _ _ _ _ _ _ _ _ (c .enum-told .given .1) (at-primary2 .primary2 .ensures) (λ e. prim-minus (wordsIn (args .reserved .now) (args .currencies .now) (args .counters .now)) (args .s .now) (args .c) (start .pre .1 .0 .0) (args .depth) (at-match .before .next .result) (at-match .before .next .ensures) (at-match .match .keys3) (at-if3 .before .if2 .left) (at-if3 .if3 .left) ∙ bind-refused _ _ _ _ _ e)
-
-primary-sub-plain : (t : ℕ) → primary-lts.Need-sub-plain (
-  next-reads.Asked,
-  next-reads.Learnt,
-  parenthesis-below t,
-  parenthesis.Post,
-  primary-below t,
-  primary.Post,
-  constant-at-reads.Asked,
-  constant-at-reads.Learnt,
-  plain-reads.Asked,
-  plain-reads.Learnt,
-  put-reads.Asked,
-  put-reads.Learnt,
-  list-below t,
-  list.Post,
-  pays-below t,
-  pays.Post,
-  name-below t,
-  name.Post,
-  atom-at-reads.Asked,
-  atom-at-reads.Learnt,
-) (primary-at t) primary.Post
-primary-sub-plain t c =
-    let at-r = c .before .before in
-    let at-primary2 = at-r .before .before .before .before in
-    let at-match = at-primary2 .before .before .before .before .before in
-    let start = at-match .before .before .before .before .before .before .before in
-    let args = start .args in
-    let next = at-match .before .next in
-    let words = wordsIn (args .reserved .now) (args .currencies .now) (args .counters .now) in
-    omega (arith, read-numbers (args .s .now) (G.primary words (args .depth - 1)) (primary-size words (args .depth - 1)) (next .result) _ _ _ _ _ _ (done-reads _ _ _ _ _ _ _ _ _ (at-r .r .given .1) (at-primary2 .primary2 .ensures)) ((follow-ready _ (args .c) (next .result) _ (λ z. omega (arith, z, at-match .match .keys3)) (next .ensures) (start .pre .1 .0) .0) .1), follow-ready _ (args .c) (next .result) _ (λ z. omega (arith, z, at-match .match .keys3)) (next .ensures) (start .pre .1 .0) .1)
-
-primary-add-plain : (t : ℕ) → primary-lts.Need-add-plain (
-  next-reads.Asked,
-  next-reads.Learnt,
-  parenthesis-below t,
-  parenthesis.Post,
-  primary-below t,
-  primary.Post,
-  constant-at-reads.Asked,
-  constant-at-reads.Learnt,
-  plain-reads.Asked,
-  plain-reads.Learnt,
-  put-reads.Asked,
-  put-reads.Learnt,
-  list-below t,
-  list.Post,
-  pays-below t,
-  pays.Post,
-  name-below t,
-  name.Post,
-  atom-at-reads.Asked,
-  atom-at-reads.Learnt,
-) (primary-at t) primary.Post
-primary-add-plain t c =
-    let at-r = c .before .before in
-    let at-primary2 = at-r .before .before .before .before in
-    let at-match = at-primary2 .before .before .before .before .before in
-    let start = at-match .before .before .before .before .before .before .before in
-    let args = start .args in
-    let next = at-match .before .next in
-    let words = wordsIn (args .reserved .now) (args .currencies .now) (args .counters .now) in
-    omega (arith, read-numbers (args .s .now) (G.primary words (args .depth - 1)) (primary-size words (args .depth - 1)) (next .result) _ _ _ _ _ _ (done-reads _ _ _ _ _ _ _ _ _ (at-r .r .given .1) (at-primary2 .primary2 .ensures)) ((follow-ready _ (args .c) (next .result) _ (λ z. omega (arith, z, at-match .match .keys3)) (next .ensures) (start .pre .1 .0) .0) .1), follow-ready _ (args .c) (next .result) _ (λ z. omega (arith, z, at-match .match .keys3)) (next .ensures) (start .pre .1 .0) .1)
-
-primary-plain-requires : (t : ℕ) → primary-lts.Need-plain-requires (
-  next-reads.Asked,
-  next-reads.Learnt,
-  parenthesis-below t,
-  parenthesis.Post,
-  primary-below t,
-  primary.Post,
-  constant-at-reads.Asked,
-  constant-at-reads.Learnt,
-  plain-reads.Asked,
-  plain-reads.Learnt,
-  put-reads.Asked,
-  put-reads.Learnt,
-  list-below t,
-  list.Post,
-  pays-below t,
-  pays.Post,
-  name-below t,
-  name.Post,
-  atom-at-reads.Asked,
-  atom-at-reads.Learnt,
-) (primary-at t) primary.Post
-primary-plain-requires t c κs = search needs
-
-primary-put-requires : (t : ℕ) → primary-lts.Need-put-requires (
-  next-reads.Asked,
-  next-reads.Learnt,
-  parenthesis-below t,
-  parenthesis.Post,
-  primary-below t,
-  primary.Post,
-  constant-at-reads.Asked,
-  constant-at-reads.Learnt,
-  plain-reads.Asked,
-  plain-reads.Learnt,
-  put-reads.Asked,
-  put-reads.Learnt,
-  list-below t,
-  list.Post,
-  pays-below t,
-  pays.Post,
-  name-below t,
-  name.Post,
-  atom-at-reads.Asked,
-  atom-at-reads.Learnt,
-) (primary-at t) primary.Post
-primary-put-requires t c κs = search needs
-
-primary-add-t24 : (t : ℕ) → primary-lts.Need-add-t24 (
-  next-reads.Asked,
-  next-reads.Learnt,
-  parenthesis-below t,
-  parenthesis.Post,
-  primary-below t,
-  primary.Post,
-  constant-at-reads.Asked,
-  constant-at-reads.Learnt,
-  plain-reads.Asked,
-  plain-reads.Learnt,
-  put-reads.Asked,
-  put-reads.Learnt,
-  list-below t,
-  list.Post,
-  pays-below t,
-  pays.Post,
-  name-below t,
-  name.Post,
-  atom-at-reads.Asked,
-  atom-at-reads.Learnt,
-) (primary-at t) primary.Post
-primary-add-t24 t c =
-    let at-r = c .before .before .before .before .before .before in
-    let at-primary2 = at-r .before .before .before .before in
-    let at-match = at-primary2 .before .before .before .before .before in
-    let start = at-match .before .before .before .before .before .before .before in
-    let args = start .args in
-    let next = at-match .before .next in
-    let words = wordsIn (args .reserved .now) (args .currencies .now) (args .counters .now) in
-    omega (arith, read-numbers (args .s .now) (G.primary words (args .depth - 1)) (primary-size words (args .depth - 1)) (next .result) _ _ _ _ _ _ (done-reads _ _ _ _ _ _ _ _ _ (at-r .r .given .1) (at-primary2 .primary2 .ensures)) ((follow-ready _ (args .c) (next .result) _ (λ z. omega (arith, z, at-match .match .keys3)) (next .ensures) (start .pre .1 .0) .0) .1), follow-ready _ (args .c) (next .result) _ (λ z. omega (arith, z, at-match .match .keys3)) (next .ensures) (start .pre .1 .0) .1)
+primary-minus-requires t c κs = search needs
 
 primary-list-requires : (t : ℕ) → primary-lts.Need-list-requires (
   next-reads.Asked,
   next-reads.Learnt,
   parenthesis-below t,
   parenthesis.Post,
-  primary-below t,
-  primary.Post,
-  constant-at-reads.Asked,
-  constant-at-reads.Learnt,
-  plain-reads.Asked,
-  plain-reads.Learnt,
-  put-reads.Asked,
-  put-reads.Learnt,
+  signed-below t,
+  signed.Post,
+  minus-below t,
+  minus.Post,
   list-below t,
   list.Post,
   pays-below t,
@@ -4163,14 +4110,10 @@ primary-pays-requires : (t : ℕ) → primary-lts.Need-pays-requires (
   next-reads.Learnt,
   parenthesis-below t,
   parenthesis.Post,
-  primary-below t,
-  primary.Post,
-  constant-at-reads.Asked,
-  constant-at-reads.Learnt,
-  plain-reads.Asked,
-  plain-reads.Learnt,
-  put-reads.Asked,
-  put-reads.Learnt,
+  signed-below t,
+  signed.Post,
+  minus-below t,
+  minus.Post,
   list-below t,
   list.Post,
   pays-below t,
@@ -4187,14 +4130,10 @@ primary-name-requires : (t : ℕ) → primary-lts.Need-name-requires (
   next-reads.Learnt,
   parenthesis-below t,
   parenthesis.Post,
-  primary-below t,
-  primary.Post,
-  constant-at-reads.Asked,
-  constant-at-reads.Learnt,
-  plain-reads.Asked,
-  plain-reads.Learnt,
-  put-reads.Asked,
-  put-reads.Learnt,
+  signed-below t,
+  signed.Post,
+  minus-below t,
+  minus.Post,
   list-below t,
   list.Post,
   pays-below t,
@@ -4211,14 +4150,10 @@ primary-atom-at-requires : (t : ℕ) → primary-lts.Need-atom-at-requires (
   next-reads.Learnt,
   parenthesis-below t,
   parenthesis.Post,
-  primary-below t,
-  primary.Post,
-  constant-at-reads.Asked,
-  constant-at-reads.Learnt,
-  plain-reads.Asked,
-  plain-reads.Learnt,
-  put-reads.Asked,
-  put-reads.Learnt,
+  signed-below t,
+  signed.Post,
+  minus-below t,
+  minus.Post,
   list-below t,
   list.Post,
   pays-below t,
@@ -4230,19 +4165,106 @@ primary-atom-at-requires : (t : ℕ) → primary-lts.Need-atom-at-requires (
 ) (primary-at t) primary.Post
 primary-atom-at-requires t c κs = search needs
 
+primary-same-length : (t : ℕ) → primary-lts.Need-same-length (
+  next-reads.Asked,
+  next-reads.Learnt,
+  parenthesis-below t,
+  parenthesis.Post,
+  signed-below t,
+  signed.Post,
+  minus-below t,
+  minus.Post,
+  list-below t,
+  list.Post,
+  pays-below t,
+  pays.Post,
+  name-below t,
+  name.Post,
+  atom-at-reads.Asked,
+  atom-at-reads.Learnt,
+) (primary-at t) primary.Post
+primary-same-length t c = search needs
+
+primary-returns-2 : (t : ℕ) → primary-lts.Need-returns-2 (
+  next-reads.Asked,
+  next-reads.Learnt,
+  parenthesis-below t,
+  parenthesis.Post,
+  signed-below t,
+  signed.Post,
+  minus-below t,
+  minus.Post,
+  list-below t,
+  list.Post,
+  pays-below t,
+  pays.Post,
+  name-below t,
+  name.Post,
+  atom-at-reads.Asked,
+  atom-at-reads.Learnt,
+) (primary-at t) primary.Post
+primary-returns-2 t c =
+    let at-parenthesis = c .before .before in
+    let at-match = at-parenthesis .before .before in
+    let start = at-match .before .before .before .before .before .before .before in
+    let args = start .args in
+    meets-as _ _ _ _ _ (at-parenthesis .parenthesis .result) _ (prim-paren (languageIn (args .two) (args .reserved .now) (args .currencies .now) (args .counters .now)) (args .s .now) (args .c) (start .pre .1 .0 .0) (args .depth) (at-match .match .keys1)) (at-parenthesis .parenthesis .ensures)
+
+primary-same-length-2 : (t : ℕ) → primary-lts.Need-same-length-2 (
+  next-reads.Asked,
+  next-reads.Learnt,
+  parenthesis-below t,
+  parenthesis.Post,
+  signed-below t,
+  signed.Post,
+  minus-below t,
+  minus.Post,
+  list-below t,
+  list.Post,
+  pays-below t,
+  pays.Post,
+  name-below t,
+  name.Post,
+  atom-at-reads.Asked,
+  atom-at-reads.Learnt,
+) (primary-at t) primary.Post
+primary-same-length-2 t c = search needs
+
+primary-returns-3 : (t : ℕ) → primary-lts.Need-returns-3 (
+  next-reads.Asked,
+  next-reads.Learnt,
+  parenthesis-below t,
+  parenthesis.Post,
+  signed-below t,
+  signed.Post,
+  minus-below t,
+  minus.Post,
+  list-below t,
+  list.Post,
+  pays-below t,
+  pays.Post,
+  name-below t,
+  name.Post,
+  atom-at-reads.Asked,
+  atom-at-reads.Learnt,
+) (primary-at t) primary.Post
+primary-returns-3 t c =
+    let at-signed = c .before .before in
+    let at-if1 = at-signed .before .before in
+    let at-next = at-if1 .before .before in
+    let start = at-next .before .before .before .before .before .before in
+    let args = start .args in
+    meets-as _ _ _ _ _ (at-signed .signed .result) _ (prim-plus (languageIn (args .two) (args .reserved .now) (args .currencies .now) (args .counters .now)) (args .s .now) (args .c) (start .pre .1 .0 .0) (args .depth) (at-next .next .result) (at-next .next .ensures) (at-if1 .before .match .keys2) (at-if1 .if1 .left)) (at-signed .signed .ensures)
+
 primary-same-length-3 : (t : ℕ) → primary-lts.Need-same-length-3 (
   next-reads.Asked,
   next-reads.Learnt,
   parenthesis-below t,
   parenthesis.Post,
-  primary-below t,
-  primary.Post,
-  constant-at-reads.Asked,
-  constant-at-reads.Learnt,
-  plain-reads.Asked,
-  plain-reads.Learnt,
-  put-reads.Asked,
-  put-reads.Learnt,
+  signed-below t,
+  signed.Post,
+  minus-below t,
+  minus.Post,
   list-below t,
   list.Post,
   pays-below t,
@@ -4254,19 +4276,15 @@ primary-same-length-3 : (t : ℕ) → primary-lts.Need-same-length-3 (
 ) (primary-at t) primary.Post
 primary-same-length-3 t c = search needs
 
-primary-returns-5 : (t : ℕ) → primary-lts.Need-returns-5 (
+primary-returns-4 : (t : ℕ) → primary-lts.Need-returns-4 (
   next-reads.Asked,
   next-reads.Learnt,
   parenthesis-below t,
   parenthesis.Post,
-  primary-below t,
-  primary.Post,
-  constant-at-reads.Asked,
-  constant-at-reads.Learnt,
-  plain-reads.Asked,
-  plain-reads.Learnt,
-  put-reads.Asked,
-  put-reads.Learnt,
+  signed-below t,
+  signed.Post,
+  minus-below t,
+  minus.Post,
   list-below t,
   list.Post,
   pays-below t,
@@ -4276,26 +4294,22 @@ primary-returns-5 : (t : ℕ) → primary-lts.Need-returns-5 (
   atom-at-reads.Asked,
   atom-at-reads.Learnt,
 ) (primary-at t) primary.Post
-primary-returns-5 t c =
-    let at-parenthesis = c .before .before in
-    let at-match = at-parenthesis .before .before in
+primary-returns-4 t c =
+    let at-minus = c .before .before in
+    let at-match = at-minus .before .before in
     let start = at-match .before .before .before .before .before .before .before in
     let args = start .args in
-    meets-as _ _ _ _ _ (at-parenthesis .parenthesis .result) _ (prim-paren (wordsIn (args .reserved .now) (args .currencies .now) (args .counters .now)) (args .s .now) (args .c) (start .pre .1 .0 .0) (args .depth) (at-match .match .keys1)) (at-parenthesis .parenthesis .ensures)
+    meets-as _ _ _ _ _ (at-minus .minus .result) _ (prim-minus (languageIn (args .two) (args .reserved .now) (args .currencies .now) (args .counters .now)) (args .s .now) (args .c) (start .pre .1 .0 .0) (args .depth) (at-match .before .next .result) (at-match .before .next .ensures) (at-match .match .keys3)) (at-minus .minus .ensures)
 
 primary-same-length-4 : (t : ℕ) → primary-lts.Need-same-length-4 (
   next-reads.Asked,
   next-reads.Learnt,
   parenthesis-below t,
   parenthesis.Post,
-  primary-below t,
-  primary.Post,
-  constant-at-reads.Asked,
-  constant-at-reads.Learnt,
-  plain-reads.Asked,
-  plain-reads.Learnt,
-  put-reads.Asked,
-  put-reads.Learnt,
+  signed-below t,
+  signed.Post,
+  minus-below t,
+  minus.Post,
   list-below t,
   list.Post,
   pays-below t,
@@ -4307,19 +4321,15 @@ primary-same-length-4 : (t : ℕ) → primary-lts.Need-same-length-4 (
 ) (primary-at t) primary.Post
 primary-same-length-4 t c = search needs
 
-primary-returns-6 : (t : ℕ) → primary-lts.Need-returns-6 (
+primary-returns-5 : (t : ℕ) → primary-lts.Need-returns-5 (
   next-reads.Asked,
   next-reads.Learnt,
   parenthesis-below t,
   parenthesis.Post,
-  primary-below t,
-  primary.Post,
-  constant-at-reads.Asked,
-  constant-at-reads.Learnt,
-  plain-reads.Asked,
-  plain-reads.Learnt,
-  put-reads.Asked,
-  put-reads.Learnt,
+  signed-below t,
+  signed.Post,
+  minus-below t,
+  minus.Post,
   list-below t,
   list.Post,
   pays-below t,
@@ -4329,27 +4339,22 @@ primary-returns-6 : (t : ℕ) → primary-lts.Need-returns-6 (
   atom-at-reads.Asked,
   atom-at-reads.Learnt,
 ) (primary-at t) primary.Post
-primary-returns-6 t c =
-    let at-primary = c .before .before in
-    let at-if1 = at-primary .before .before in
-    let at-next = at-if1 .before .before in
-    let start = at-next .before .before .before .before .before .before in
+primary-returns-5 t c =
+    let at-list = c .before .before in
+    let at-match = at-list .before .before in
+    let start = at-match .before .before .before .before .before .before .before in
     let args = start .args in
-    meets-as _ _ _ _ _ (at-primary .primary .result) _ (prim-plus (wordsIn (args .reserved .now) (args .currencies .now) (args .counters .now)) (args .s .now) (args .c) (start .pre .1 .0 .0) (args .depth) (at-next .next .result) (at-next .next .ensures) (at-if1 .before .match .keys2) (at-if1 .if1 .left)) (at-primary .primary .ensures)
+    meets-as _ _ _ _ _ (at-list .list .result) _ (prim-list (languageIn (args .two) (args .reserved .now) (args .currencies .now) (args .counters .now)) (args .s .now) (args .c) (start .pre .1 .0 .0) (args .depth) (at-match .match .keys4)) (at-list .list .ensures)
 
 primary-same-length-5 : (t : ℕ) → primary-lts.Need-same-length-5 (
   next-reads.Asked,
   next-reads.Learnt,
   parenthesis-below t,
   parenthesis.Post,
-  primary-below t,
-  primary.Post,
-  constant-at-reads.Asked,
-  constant-at-reads.Learnt,
-  plain-reads.Asked,
-  plain-reads.Learnt,
-  put-reads.Asked,
-  put-reads.Learnt,
+  signed-below t,
+  signed.Post,
+  minus-below t,
+  minus.Post,
   list-below t,
   list.Post,
   pays-below t,
@@ -4361,19 +4366,15 @@ primary-same-length-5 : (t : ℕ) → primary-lts.Need-same-length-5 (
 ) (primary-at t) primary.Post
 primary-same-length-5 t c = search needs
 
-primary-returns-7 : (t : ℕ) → primary-lts.Need-returns-7 (
+primary-returns-6 : (t : ℕ) → primary-lts.Need-returns-6 (
   next-reads.Asked,
   next-reads.Learnt,
   parenthesis-below t,
   parenthesis.Post,
-  primary-below t,
-  primary.Post,
-  constant-at-reads.Asked,
-  constant-at-reads.Learnt,
-  plain-reads.Asked,
-  plain-reads.Learnt,
-  put-reads.Asked,
-  put-reads.Learnt,
+  signed-below t,
+  signed.Post,
+  minus-below t,
+  minus.Post,
   list-below t,
   list.Post,
   pays-below t,
@@ -4383,30 +4384,22 @@ primary-returns-7 : (t : ℕ) → primary-lts.Need-returns-7 (
   atom-at-reads.Asked,
   atom-at-reads.Learnt,
 ) (primary-at t) primary.Post
-primary-returns-7 t c =
-    let at-put = c .before .before in
-    let at-r = at-put .before .before .before .before in
-    let at-primary2 = at-r .before .before .before .before in
-    let at-if3 = at-primary2 .before .before in
-    let at-match = at-if3 .before .before .before in
+primary-returns-6 t c =
+    let at-pays = c .before .before in
+    let at-match = at-pays .before .before in
     let start = at-match .before .before .before .before .before .before .before in
     let args = start .args in
-    let words = wordsIn (args .reserved .now) (args .currencies .now) (args .counters .now) in
-    reads-as _ _ _ _ _ _ _ _ _ (prim-minus words (args .s .now) (args .c) (start .pre .1 .0 .0) (args .depth) (at-match .before .next .result) (at-match .before .next .ensures) (at-match .match .keys3) (at-if3 .before .if2 .left) (at-if3 .if3 .left)) (negate-reads words (args .c .start) (G.primary words (args .depth - 1)) _ _ _ _ _ _ _ _ _ (done-reads _ _ _ _ _ _ _ _ _ (at-r .r .given .1) (at-primary2 .primary2 .ensures)) (put-fields _ _ _ _ _ _ _ _ _ _ (at-put .before .plain .ensures) (at-put .put .ensures)))
+    meets-as _ _ _ _ _ (at-pays .pays .result) _ (prim-pays (languageIn (args .two) (args .reserved .now) (args .currencies .now) (args .counters .now)) (args .s .now) (args .c) (start .pre .1 .0 .0) (args .depth) (at-match .match .keys5)) (at-pays .pays .ensures)
 
 primary-same-length-6 : (t : ℕ) → primary-lts.Need-same-length-6 (
   next-reads.Asked,
   next-reads.Learnt,
   parenthesis-below t,
   parenthesis.Post,
-  primary-below t,
-  primary.Post,
-  constant-at-reads.Asked,
-  constant-at-reads.Learnt,
-  plain-reads.Asked,
-  plain-reads.Learnt,
-  put-reads.Asked,
-  put-reads.Learnt,
+  signed-below t,
+  signed.Post,
+  minus-below t,
+  minus.Post,
   list-below t,
   list.Post,
   pays-below t,
@@ -4418,19 +4411,15 @@ primary-same-length-6 : (t : ℕ) → primary-lts.Need-same-length-6 (
 ) (primary-at t) primary.Post
 primary-same-length-6 t c = search needs
 
-primary-returns-8 : (t : ℕ) → primary-lts.Need-returns-8 (
+primary-returns-7 : (t : ℕ) → primary-lts.Need-returns-7 (
   next-reads.Asked,
   next-reads.Learnt,
   parenthesis-below t,
   parenthesis.Post,
-  primary-below t,
-  primary.Post,
-  constant-at-reads.Asked,
-  constant-at-reads.Learnt,
-  plain-reads.Asked,
-  plain-reads.Learnt,
-  put-reads.Asked,
-  put-reads.Learnt,
+  signed-below t,
+  signed.Post,
+  minus-below t,
+  minus.Post,
   list-below t,
   list.Post,
   pays-below t,
@@ -4440,26 +4429,22 @@ primary-returns-8 : (t : ℕ) → primary-lts.Need-returns-8 (
   atom-at-reads.Asked,
   atom-at-reads.Learnt,
 ) (primary-at t) primary.Post
-primary-returns-8 t c =
-    let at-list = c .before .before in
-    let at-match = at-list .before .before in
+primary-returns-7 t c =
+    let at-name = c .before .before in
+    let at-match = at-name .before .before in
     let start = at-match .before .before .before .before .before .before .before in
     let args = start .args in
-    meets-as _ _ _ _ _ (at-list .list .result) _ (prim-list (wordsIn (args .reserved .now) (args .currencies .now) (args .counters .now)) (args .s .now) (args .c) (start .pre .1 .0 .0) (args .depth) (at-match .match .keys4)) (at-list .list .ensures)
+    meets-as _ _ _ _ _ (at-name .name .result) _ (prim-name (languageIn (args .two) (args .reserved .now) (args .currencies .now) (args .counters .now)) (args .s .now) (args .c) (start .pre .1 .0 .0) (args .depth) (at-match .before .next .result) (at-match .before .next .ensures) (at-match .match .keys6)) (at-name .name .ensures)
 
 primary-same-length-7 : (t : ℕ) → primary-lts.Need-same-length-7 (
   next-reads.Asked,
   next-reads.Learnt,
   parenthesis-below t,
   parenthesis.Post,
-  primary-below t,
-  primary.Post,
-  constant-at-reads.Asked,
-  constant-at-reads.Learnt,
-  plain-reads.Asked,
-  plain-reads.Learnt,
-  put-reads.Asked,
-  put-reads.Learnt,
+  signed-below t,
+  signed.Post,
+  minus-below t,
+  minus.Post,
   list-below t,
   list.Post,
   pays-below t,
@@ -4471,19 +4456,15 @@ primary-same-length-7 : (t : ℕ) → primary-lts.Need-same-length-7 (
 ) (primary-at t) primary.Post
 primary-same-length-7 t c = search needs
 
-primary-returns-9 : (t : ℕ) → primary-lts.Need-returns-9 (
+primary-returns-8 : (t : ℕ) → primary-lts.Need-returns-8 (
   next-reads.Asked,
   next-reads.Learnt,
   parenthesis-below t,
   parenthesis.Post,
-  primary-below t,
-  primary.Post,
-  constant-at-reads.Asked,
-  constant-at-reads.Learnt,
-  plain-reads.Asked,
-  plain-reads.Learnt,
-  put-reads.Asked,
-  put-reads.Learnt,
+  signed-below t,
+  signed.Post,
+  minus-below t,
+  minus.Post,
   list-below t,
   list.Post,
   pays-below t,
@@ -4493,125 +4474,19 @@ primary-returns-9 : (t : ℕ) → primary-lts.Need-returns-9 (
   atom-at-reads.Asked,
   atom-at-reads.Learnt,
 ) (primary-at t) primary.Post
-primary-returns-9 t c =
-    let at-pays = c .before .before in
-    let at-match = at-pays .before .before in
-    let start = at-match .before .before .before .before .before .before .before in
-    let args = start .args in
-    meets-as _ _ _ _ _ (at-pays .pays .result) _ (prim-pays (wordsIn (args .reserved .now) (args .currencies .now) (args .counters .now)) (args .s .now) (args .c) (start .pre .1 .0 .0) (args .depth) (at-match .match .keys5)) (at-pays .pays .ensures)
-
-primary-same-length-8 : (t : ℕ) → primary-lts.Need-same-length-8 (
-  next-reads.Asked,
-  next-reads.Learnt,
-  parenthesis-below t,
-  parenthesis.Post,
-  primary-below t,
-  primary.Post,
-  constant-at-reads.Asked,
-  constant-at-reads.Learnt,
-  plain-reads.Asked,
-  plain-reads.Learnt,
-  put-reads.Asked,
-  put-reads.Learnt,
-  list-below t,
-  list.Post,
-  pays-below t,
-  pays.Post,
-  name-below t,
-  name.Post,
-  atom-at-reads.Asked,
-  atom-at-reads.Learnt,
-) (primary-at t) primary.Post
-primary-same-length-8 t c = search needs
-
-primary-returns-10 : (t : ℕ) → primary-lts.Need-returns-10 (
-  next-reads.Asked,
-  next-reads.Learnt,
-  parenthesis-below t,
-  parenthesis.Post,
-  primary-below t,
-  primary.Post,
-  constant-at-reads.Asked,
-  constant-at-reads.Learnt,
-  plain-reads.Asked,
-  plain-reads.Learnt,
-  put-reads.Asked,
-  put-reads.Learnt,
-  list-below t,
-  list.Post,
-  pays-below t,
-  pays.Post,
-  name-below t,
-  name.Post,
-  atom-at-reads.Asked,
-  atom-at-reads.Learnt,
-) (primary-at t) primary.Post
-primary-returns-10 t c =
-    let at-name = c .before .before in
-    let at-match = at-name .before .before in
-    let start = at-match .before .before .before .before .before .before .before in
-    let args = start .args in
-    meets-as _ _ _ _ _ (at-name .name .result) _ (prim-name (wordsIn (args .reserved .now) (args .currencies .now) (args .counters .now)) (args .s .now) (args .c) (start .pre .1 .0 .0) (args .depth) (at-match .before .next .result) (at-match .before .next .ensures) (at-match .match .keys6)) (at-name .name .ensures)
-
-primary-same-length-9 : (t : ℕ) → primary-lts.Need-same-length-9 (
-  next-reads.Asked,
-  next-reads.Learnt,
-  parenthesis-below t,
-  parenthesis.Post,
-  primary-below t,
-  primary.Post,
-  constant-at-reads.Asked,
-  constant-at-reads.Learnt,
-  plain-reads.Asked,
-  plain-reads.Learnt,
-  put-reads.Asked,
-  put-reads.Learnt,
-  list-below t,
-  list.Post,
-  pays-below t,
-  pays.Post,
-  name-below t,
-  name.Post,
-  atom-at-reads.Asked,
-  atom-at-reads.Learnt,
-) (primary-at t) primary.Post
-primary-same-length-9 t c = search needs
-
-primary-returns-11 : (t : ℕ) → primary-lts.Need-returns-11 (
-  next-reads.Asked,
-  next-reads.Learnt,
-  parenthesis-below t,
-  parenthesis.Post,
-  primary-below t,
-  primary.Post,
-  constant-at-reads.Asked,
-  constant-at-reads.Learnt,
-  plain-reads.Asked,
-  plain-reads.Learnt,
-  put-reads.Asked,
-  put-reads.Learnt,
-  list-below t,
-  list.Post,
-  pays-below t,
-  pays.Post,
-  name-below t,
-  name.Post,
-  atom-at-reads.Asked,
-  atom-at-reads.Learnt,
-) (primary-at t) primary.Post
-primary-returns-11 t c =
+primary-returns-8 t c =
     let at-atom-at = c .before .before in
     let at-match = at-atom-at .before .before in
     let start = at-match .before .before .before .before .before .before .before in
     let args = start .args in
     let r = at-match .match .rest in
-    meets-as _ _ _ _ _ (at-atom-at .atom-at .result) _ (prim-atom (wordsIn (args .reserved .now) (args .currencies .now) (args .counters .now)) (args .s .now) (args .c) (start .pre .1 .0 .0) (args .depth) (r .0 .0 .0 .0 .0 .1) (r .0 .0 .0 .0 .1) (r .0 .0 .0 .1) (r .0 .0 .1) (r .0 .1) (r .1)) (at-atom-at .atom-at .ensures)
+    meets-as _ _ _ _ _ (at-atom-at .atom-at .result) _ (prim-atom (languageIn (args .two) (args .reserved .now) (args .currencies .now) (args .counters .now)) (args .s .now) (args .c) (start .pre .1 .0 .0) (args .depth) (r .0 .0 .0 .0 .0 .1) (r .0 .0 .0 .0 .1) (r .0 .0 .0 .1) (r .0 .0 .1) (r .0 .1) (r .1)) (at-atom-at .atom-at .ensures)
 
 abbrev product-Inv-loop : product-lts.InvT-loop
-product-Inv-loop s reserved currencies counters c depth out₀ n at₀ m₀ sign₀ out at m sign = (length out ≡ length out₀) × Pending (λ u. isSign "*" u || isSign "/" u) productSign (G.power (G.primary (wordsIn reserved currencies counters) depth)) s (at₀ .start) (G.product (G.primary (wordsIn reserved currencies counters) depth) (toksAt s (at₀ .start))) n out₀ sign at m out
+product-Inv-loop s two alone reserved currencies counters c depth out₀ n at₀ m₀ sign₀ out at m sign = (length out ≡ length out₀) × Pending (timesOrBy alone) (productSign alone) (powerAt (languageIn two reserved currencies counters) depth) s (at₀ .start) (productOr alone (languageIn two reserved currencies counters) depth (toksAt s (at₀ .start))) n out₀ sign at m out
 
 abbrev product-μ-loop : product-lts.MeasureT-loop
-product-μ-loop s reserved currencies counters c depth out₀ n at₀ m₀ sign₀ out at m sign = length (toksAt s (at .start))
+product-μ-loop s two alone reserved currencies counters c depth out₀ n at₀ m₀ sign₀ out at m sign = length (toksAt s (at .start))
 
 product-loop-holds : (t : ℕ) → product-lts.Need-loop-holds (
   power-below t,
@@ -4626,7 +4501,8 @@ product-loop-holds : (t : ℕ) → product-lts.Need-loop-holds (
 product-loop-holds t c =
     let start = c .before .before .before .before .before in
     let args = start .args in
-    (refl, pend-first (product-level (wordsIn (args .reserved .now) (args .currencies .now) (args .counters .now)) (args .depth)) (args .s .now) (args .c) (args .n) (args .out .now) (start .pre .1 .0))
+    let words = languageIn (args .two) (args .reserved .now) (args .currencies .now) (args .counters .now) in
+    (refl, pend-as (product-level words (args .depth) (args .alone)) (args .s .now) _ (product-gates words (args .depth) (args .alone)) (args .c) (args .n) (args .out .now) (start .pre .1 .0))
 
 product-power-requires : (t : ℕ) → product-lts.Need-power-requires (
   power-below t,
@@ -4641,7 +4517,7 @@ product-power-requires : (t : ℕ) → product-lts.Need-power-requires (
 product-power-requires t c κs =
     let start = c .before .before .before .before .before .before .before in
     let args = start .args in
-    (omega (arith, start .pre .0), (pend-ready (product-level (wordsIn (args .reserved .now) (args .currencies .now) (args .counters .now)) (args .depth)) (args .s .now) _ _ _ _ _ _ _ _ (c .before .loop .inv .1), start .pre .1 .1))
+    (omega (arith, start .pre .0), (pend-ready (product-level (languageIn (args .two) (args .reserved .now) (args .currencies .now) (args .counters .now)) (args .depth) (args .alone)) (args .s .now) _ _ _ _ _ _ _ _ (c .before .loop .inv .1), start .pre .1 .1))
 
 product-enum-known-r : (t : ℕ) → product-lts.Need-enum-known-r (
   power-below t,
@@ -4679,7 +4555,7 @@ product-same-length : (t : ℕ) → product-lts.Need-same-length (
 ) (product-at t) product.Post product-Inv-loop product-μ-loop
 product-same-length t c =
     let at-power = c .before .before .before .before in
-    at-power .power .kept .1 .1 .1 .1 .1 .1 .0 ∙ at-power .before .before .loop .inv .0
+    at-power .power .kept .1 .1 .1 .1 .1 .1 .1 .0 ∙ at-power .before .before .loop .inv .0
 
 product-returns : (t : ℕ) → product-lts.Need-returns (
   power-below t,
@@ -4695,7 +4571,7 @@ product-returns t c =
     let at-power = c .before .before .before .before in
     let at-loop = at-power .before .before in
     let args = at-loop .before .before .before .before .before .before .args in
-    refused-on _ _ _ _ _ _ _ _ _ _ _ _ (c .enum-told .given .1) (at-power .power .ensures) (pend-refused (product-level (wordsIn (args .reserved .now) (args .currencies .now) (args .counters .now)) (args .depth)) (args .s .now) _ _ _ _ _ _ _ _ (at-loop .loop .inv .1) _ _)
+    refused-on _ _ _ _ _ _ _ _ _ _ _ _ (c .enum-told .given .1) (at-power .power .ensures) (pend-refused (product-level (languageIn (args .two) (args .reserved .now) (args .currencies .now) (args .counters .now)) (args .depth) (args .alone)) (args .s .now) _ _ _ _ _ _ _ _ (at-loop .loop .inv .1) _ _)
 
 product-join-requires : (t : ℕ) → product-lts.Need-join-requires (
   power-below t,
@@ -4712,7 +4588,7 @@ product-join-requires t c κs =
     let at-power = at-r .before .before .before .before in
     let at-loop = at-power .before .before in
     let args = at-loop .before .before .before .before .before .before .args in
-    pend-numbers (product-level (wordsIn (args .reserved .now) (args .currencies .now) (args .counters .now)) (args .depth)) (args .s .now) _ _ _ _ _ _ _ _ (at-loop .loop .inv .1) _ _ _ _ (done-reads _ _ _ _ _ _ _ _ _ (at-r .r .given .1) (at-power .power .ensures))
+    pend-numbers (product-level (languageIn (args .two) (args .reserved .now) (args .currencies .now) (args .counters .now)) (args .depth) (args .alone)) (args .s .now) _ _ _ _ _ _ _ _ (at-loop .loop .inv .1) _ _ _ _ (done-reads _ _ _ _ _ _ _ _ _ (at-r .r .given .1) (at-power .power .ensures))
 
 product-is-product-requires : (t : ℕ) → product-lts.Need-is-product-requires (
   power-below t,
@@ -4739,7 +4615,7 @@ product-same-length-2 : (t : ℕ) → product-lts.Need-same-length-2 (
 product-same-length-2 t c =
     let at-join = c .before .before .before .before in
     let at-power = at-join .before .before .before .before .before .before .before in
-    at-join .join .kept .0 ∙ (at-power .power .kept .1 .1 .1 .1 .1 .1 .0 ∙ at-power .before .before .loop .inv .0)
+    at-join .join .kept .0 ∙ (at-power .power .kept .1 .1 .1 .1 .1 .1 .1 .0 ∙ at-power .before .before .loop .inv .0)
 
 product-returns-2 : (t : ℕ) → product-lts.Need-returns-2 (
   power-below t,
@@ -4757,8 +4633,8 @@ product-returns-2 t c =
     let at-power = at-r .before .before .before .before in
     let at-loop = at-power .before .before in
     let args = at-loop .before .before .before .before .before .before .args in
-    let words = wordsIn (args .reserved .now) (args .currencies .now) (args .counters .now) in
-    chain-exit (product-level words (args .depth)) (args .s .now) _ _ _ _ _ _ _ _ (pend-chain (product-level words (args .depth)) (args .s .now) _ _ _ _ _ _ _ _ (at-loop .loop .inv .1) _ _ _ _ (done-reads _ _ _ _ _ _ _ _ _ (at-r .r .given .1) (at-power .power .ensures)) (at-join .join .result) _ (at-join .join .ensures)) (sym (c .before .is-product .ensures) ∙ not-true _ (c .if1 .taken))
+    let words = languageIn (args .two) (args .reserved .now) (args .currencies .now) (args .counters .now) in
+    chain-exit (product-level words (args .depth) (args .alone)) (args .s .now) _ _ _ _ _ _ _ _ (pend-chain (product-level words (args .depth) (args .alone)) (args .s .now) _ _ _ _ _ _ _ _ (at-loop .loop .inv .1) _ _ _ _ (done-reads _ _ _ _ _ _ _ _ _ (at-r .r .given .1) (at-power .power .ensures)) (at-join .join .result) _ (at-join .join .ensures)) (sym (c .before .is-product .ensures) ∙ not-true _ (c .if1 .taken))
 
 product-next-requires : (t : ℕ) → product-lts.Need-next-requires (
   power-below t,
@@ -4776,7 +4652,7 @@ product-next-requires t c κs =
     let at-power = at-r .before .before .before .before in
     let at-loop = at-power .before .before in
     let args = at-loop .before .before .before .before .before .before .args in
-    (pend-chain (product-level (wordsIn (args .reserved .now) (args .currencies .now) (args .counters .now)) (args .depth)) (args .s .now) _ _ _ _ _ _ _ _ (at-loop .loop .inv .1) _ _ _ _ (done-reads _ _ _ _ _ _ _ _ _ (at-r .r .given .1) (at-power .power .ensures)) (at-join .join .result) _ (at-join .join .ensures)) .holds
+    (pend-chain (product-level (languageIn (args .two) (args .reserved .now) (args .currencies .now) (args .counters .now)) (args .depth) (args .alone)) (args .s .now) _ _ _ _ _ _ _ _ (at-loop .loop .inv .1) _ _ _ _ (done-reads _ _ _ _ _ _ _ _ _ (at-r .r .given .1) (at-power .power .ensures)) (at-join .join .result) _ (at-join .join .ensures)) .holds
 
 product-loop-less : (t : ℕ) → product-lts.Need-loop-less (
   power-below t,
@@ -4794,7 +4670,7 @@ product-loop-less t c =
     let at-power = at-r .before .before .before .before in
     let at-loop = at-power .before .before in
     let args = at-loop .before .before .before .before .before .before .args in
-    pend-less (product-level (wordsIn (args .reserved .now) (args .currencies .now) (args .counters .now)) (args .depth)) (args .s .now) _ _ _ _ _ _ _ _ (at-loop .loop .inv .1) _ _ _ _ (done-reads _ _ _ _ _ _ _ _ _ (at-r .r .given .1) (at-power .power .ensures)) (sym (at-is-product .is-product .ensures) ∙ not-false _ (c .before .if1 .left)) (c .next .result) (c .next .ensures)
+    pend-less (product-level (languageIn (args .two) (args .reserved .now) (args .currencies .now) (args .counters .now)) (args .depth) (args .alone)) (args .s .now) _ _ _ _ _ _ _ _ (at-loop .loop .inv .1) _ _ _ _ (done-reads _ _ _ _ _ _ _ _ _ (at-r .r .given .1) (at-power .power .ensures)) (sym (at-is-product .is-product .ensures) ∙ not-false _ (c .before .if1 .left)) (c .next .result) (c .next .ensures)
 
 product-loop-again : (t : ℕ) → product-lts.Need-loop-again (
   power-below t,
@@ -4814,14 +4690,74 @@ product-loop-again t c =
     let at-loop = at-power .before .before in
     let join = at-join .join in
     let args = at-loop .before .before .before .before .before .before .args in
-    let words = wordsIn (args .reserved .now) (args .currencies .now) (args .counters .now) in
-    (join .kept .0 ∙ (at-power .power .kept .1 .1 .1 .1 .1 .1 .0 ∙ at-loop .loop .inv .0), pend-next (product-level words (args .depth)) (args .s .now) _ _ _ _ _ _ _ _ (pend-chain (product-level words (args .depth)) (args .s .now) _ _ _ _ _ _ _ _ (at-loop .loop .inv .1) _ _ _ _ (done-reads _ _ _ _ _ _ _ _ _ (at-r .r .given .1) (at-power .power .ensures)) (join .result) _ (join .ensures)) (sym (at-is-product .is-product .ensures) ∙ not-false _ (c .before .if1 .left)) (c .next .result) (c .next .ensures))
+    let words = languageIn (args .two) (args .reserved .now) (args .currencies .now) (args .counters .now) in
+    (join .kept .0 ∙ (at-power .power .kept .1 .1 .1 .1 .1 .1 .1 .0 ∙ at-loop .loop .inv .0), pend-next (product-level words (args .depth) (args .alone)) (args .s .now) _ _ _ _ _ _ _ _ (pend-chain (product-level words (args .depth) (args .alone)) (args .s .now) _ _ _ _ _ _ _ _ (at-loop .loop .inv .1) _ _ _ _ (done-reads _ _ _ _ _ _ _ _ _ (at-r .r .given .1) (at-power .power .ensures)) (join .result) _ (join .ensures)) (sym (at-is-product .is-product .ensures) ∙ not-false _ (c .before .if1 .left)) (c .next .result) (c .next .ensures))
+
+signed-expression-requires : (t : ℕ) → signed-lts.Need-expression-requires (
+  expression-below t,
+  expression.Post,
+  primary-below t,
+  primary.Post,
+) (signed-at t) signed.Post
+signed-expression-requires t c κs =
+    let pre = c .before .before .before .before .before .before .before .pre in
+    (omega (arith, pre .0), (pre .1 .0, pre .1 .1))
+
+signed-same-length : (t : ℕ) → signed-lts.Need-same-length (
+  expression-below t,
+  expression.Post,
+  primary-below t,
+  primary.Post,
+) (signed-at t) signed.Post
+signed-same-length t c = search needs
+
+signed-returns : (t : ℕ) → signed-lts.Need-returns (
+  expression-below t,
+  expression.Post,
+  primary-below t,
+  primary.Post,
+) (signed-at t) signed.Post
+signed-returns t c =
+    let at-expression = c .before .before in
+    let at-if1 = at-expression .before .before in
+    let args = at-if1 .before .before .before .before .before .before .args in
+    meets-as _ _ _ _ _ (at-expression .expression .result) _ (ap (λ (q : Reader Tree). q (toksAt (args .s .now) (args .c .start))) (signed-right (args .two) (args .reserved .now) (args .currencies .now) (args .counters .now) (G.primary (languageIn (args .two) (args .reserved .now) (args .currencies .now) (args .counters .now)) (args .depth)) (at-if1 .if1 .taken))) (at-expression .expression .ensures)
+
+signed-primary-requires : (t : ℕ) → signed-lts.Need-primary-requires (
+  expression-below t,
+  expression.Post,
+  primary-below t,
+  primary.Post,
+) (signed-at t) signed.Post
+signed-primary-requires t c κs =
+    let pre = c .before .before .before .before .before .before .before .pre in
+    (omega (arith, pre .0), (pre .1 .0, pre .1 .1))
+
+signed-same-length-2 : (t : ℕ) → signed-lts.Need-same-length-2 (
+  expression-below t,
+  expression.Post,
+  primary-below t,
+  primary.Post,
+) (signed-at t) signed.Post
+signed-same-length-2 t c = search needs
+
+signed-returns-2 : (t : ℕ) → signed-lts.Need-returns-2 (
+  expression-below t,
+  expression.Post,
+  primary-below t,
+  primary.Post,
+) (signed-at t) signed.Post
+signed-returns-2 t c =
+    let at-primary = c .before .before in
+    let at-if1 = at-primary .before .before in
+    let args = at-if1 .before .before .before .before .before .before .args in
+    meets-as _ _ _ _ _ (at-primary .primary .result) _ (ap (λ (q : Reader Tree). q (toksAt (args .s .now) (args .c .start))) (signed-left (args .two) (args .reserved .now) (args .currencies .now) (args .counters .now) (G.primary (languageIn (args .two) (args .reserved .now) (args .currencies .now) (args .counters .now)) (args .depth)) (at-if1 .if1 .left))) (at-primary .primary .ensures)
 
 abbrev sum-Inv-loop : sum-lts.InvT-loop
-sum-Inv-loop s reserved currencies counters c depth out₀ n at₀ m₀ sign₀ out at m sign = (length out ≡ length out₀) × Pending (λ u. isSign "+" u || isSign "-" u) sumSign (G.product (G.primary (wordsIn reserved currencies counters) depth)) s (at₀ .start) (G.sum (G.primary (wordsIn reserved currencies counters) depth) (toksAt s (at₀ .start))) n out₀ sign at m out
+sum-Inv-loop s two alone reserved currencies counters c depth out₀ n at₀ m₀ sign₀ out at m sign = (length out ≡ length out₀) × Pending (plusOrMinus alone) (sumSign alone) (productOr alone (languageIn two reserved currencies counters) depth) s (at₀ .start) (sumOr alone (languageIn two reserved currencies counters) depth (toksAt s (at₀ .start))) n out₀ sign at m out
 
 abbrev sum-μ-loop : sum-lts.MeasureT-loop
-sum-μ-loop s reserved currencies counters c depth out₀ n at₀ m₀ sign₀ out at m sign = length (toksAt s (at .start))
+sum-μ-loop s two alone reserved currencies counters c depth out₀ n at₀ m₀ sign₀ out at m sign = length (toksAt s (at .start))
 
 sum-loop-holds : (t : ℕ) → sum-lts.Need-loop-holds (
   product-below t,
@@ -4833,11 +4769,11 @@ sum-loop-holds : (t : ℕ) → sum-lts.Need-loop-holds (
   next-reads.Asked,
   next-reads.Learnt,
 ) (sum-at t) sum.Post sum-Inv-loop sum-μ-loop
-unfolding G.sum
 sum-loop-holds t c =
     let start = c .before .before .before .before .before in
     let args = start .args in
-    (refl, pend-first (sum-level (wordsIn (args .reserved .now) (args .currencies .now) (args .counters .now)) (args .depth)) (args .s .now) (args .c) (args .n) (args .out .now) (start .pre .1 .0))
+    let words = languageIn (args .two) (args .reserved .now) (args .currencies .now) (args .counters .now) in
+    (refl, pend-as (sum-level words (args .depth) (args .alone)) (args .s .now) _ (sum-gates words (args .depth) (args .alone)) (args .c) (args .n) (args .out .now) (start .pre .1 .0))
 
 sum-product-requires : (t : ℕ) → sum-lts.Need-product-requires (
   product-below t,
@@ -4852,7 +4788,7 @@ sum-product-requires : (t : ℕ) → sum-lts.Need-product-requires (
 sum-product-requires t c κs =
     let start = c .before .before .before .before .before .before .before in
     let args = start .args in
-    (omega (arith, start .pre .0), (pend-ready (sum-level (wordsIn (args .reserved .now) (args .currencies .now) (args .counters .now)) (args .depth)) (args .s .now) _ _ _ _ _ _ _ _ (c .before .loop .inv .1), start .pre .1 .1))
+    (omega (arith, start .pre .0), (pend-ready (sum-level (languageIn (args .two) (args .reserved .now) (args .currencies .now) (args .counters .now)) (args .depth) (args .alone)) (args .s .now) _ _ _ _ _ _ _ _ (c .before .loop .inv .1), start .pre .1 .1))
 
 sum-enum-known-r : (t : ℕ) → sum-lts.Need-enum-known-r (
   product-below t,
@@ -4890,7 +4826,7 @@ sum-same-length : (t : ℕ) → sum-lts.Need-same-length (
 ) (sum-at t) sum.Post sum-Inv-loop sum-μ-loop
 sum-same-length t c =
     let at-product = c .before .before .before .before in
-    at-product .product .kept .1 .1 .1 .1 .1 .1 .0 ∙ at-product .before .before .loop .inv .0
+    at-product .product .kept .1 .1 .1 .1 .1 .1 .1 .1 .0 ∙ at-product .before .before .loop .inv .0
 
 sum-returns : (t : ℕ) → sum-lts.Need-returns (
   product-below t,
@@ -4906,7 +4842,7 @@ sum-returns t c =
     let at-product = c .before .before .before .before in
     let at-loop = at-product .before .before in
     let args = at-loop .before .before .before .before .before .before .args in
-    refused-on _ _ _ _ _ _ _ _ _ _ _ _ (c .enum-told .given .1) (at-product .product .ensures) (pend-refused (sum-level (wordsIn (args .reserved .now) (args .currencies .now) (args .counters .now)) (args .depth)) (args .s .now) _ _ _ _ _ _ _ _ (at-loop .loop .inv .1) _ _)
+    refused-on _ _ _ _ _ _ _ _ _ _ _ _ (c .enum-told .given .1) (at-product .product .ensures) (pend-refused (sum-level (languageIn (args .two) (args .reserved .now) (args .currencies .now) (args .counters .now)) (args .depth) (args .alone)) (args .s .now) _ _ _ _ _ _ _ _ (at-loop .loop .inv .1) _ _)
 
 sum-join-requires : (t : ℕ) → sum-lts.Need-join-requires (
   product-below t,
@@ -4923,7 +4859,7 @@ sum-join-requires t c κs =
     let at-product = at-r .before .before .before .before in
     let at-loop = at-product .before .before in
     let args = at-loop .before .before .before .before .before .before .args in
-    pend-numbers (sum-level (wordsIn (args .reserved .now) (args .currencies .now) (args .counters .now)) (args .depth)) (args .s .now) _ _ _ _ _ _ _ _ (at-loop .loop .inv .1) _ _ _ _ (done-reads _ _ _ _ _ _ _ _ _ (at-r .r .given .1) (at-product .product .ensures))
+    pend-numbers (sum-level (languageIn (args .two) (args .reserved .now) (args .currencies .now) (args .counters .now)) (args .depth) (args .alone)) (args .s .now) _ _ _ _ _ _ _ _ (at-loop .loop .inv .1) _ _ _ _ (done-reads _ _ _ _ _ _ _ _ _ (at-r .r .given .1) (at-product .product .ensures))
 
 sum-is-sum-requires : (t : ℕ) → sum-lts.Need-is-sum-requires (
   product-below t,
@@ -4950,7 +4886,7 @@ sum-same-length-2 : (t : ℕ) → sum-lts.Need-same-length-2 (
 sum-same-length-2 t c =
     let at-join = c .before .before .before .before in
     let at-product = at-join .before .before .before .before .before .before .before in
-    at-join .join .kept .0 ∙ (at-product .product .kept .1 .1 .1 .1 .1 .1 .0 ∙ at-product .before .before .loop .inv .0)
+    at-join .join .kept .0 ∙ (at-product .product .kept .1 .1 .1 .1 .1 .1 .1 .1 .0 ∙ at-product .before .before .loop .inv .0)
 
 sum-returns-2 : (t : ℕ) → sum-lts.Need-returns-2 (
   product-below t,
@@ -4968,8 +4904,8 @@ sum-returns-2 t c =
     let at-product = at-r .before .before .before .before in
     let at-loop = at-product .before .before in
     let args = at-loop .before .before .before .before .before .before .args in
-    let words = wordsIn (args .reserved .now) (args .currencies .now) (args .counters .now) in
-    chain-exit (sum-level words (args .depth)) (args .s .now) _ _ _ _ _ _ _ _ (pend-chain (sum-level words (args .depth)) (args .s .now) _ _ _ _ _ _ _ _ (at-loop .loop .inv .1) _ _ _ _ (done-reads _ _ _ _ _ _ _ _ _ (at-r .r .given .1) (at-product .product .ensures)) (at-join .join .result) _ (at-join .join .ensures)) (sym (c .before .is-sum .ensures) ∙ not-true _ (c .if1 .taken))
+    let words = languageIn (args .two) (args .reserved .now) (args .currencies .now) (args .counters .now) in
+    chain-exit (sum-level words (args .depth) (args .alone)) (args .s .now) _ _ _ _ _ _ _ _ (pend-chain (sum-level words (args .depth) (args .alone)) (args .s .now) _ _ _ _ _ _ _ _ (at-loop .loop .inv .1) _ _ _ _ (done-reads _ _ _ _ _ _ _ _ _ (at-r .r .given .1) (at-product .product .ensures)) (at-join .join .result) _ (at-join .join .ensures)) (sym (c .before .is-sum .ensures) ∙ not-true _ (c .if1 .taken))
 
 sum-next-requires : (t : ℕ) → sum-lts.Need-next-requires (
   product-below t,
@@ -4987,7 +4923,7 @@ sum-next-requires t c κs =
     let at-product = at-r .before .before .before .before in
     let at-loop = at-product .before .before in
     let args = at-loop .before .before .before .before .before .before .args in
-    (pend-chain (sum-level (wordsIn (args .reserved .now) (args .currencies .now) (args .counters .now)) (args .depth)) (args .s .now) _ _ _ _ _ _ _ _ (at-loop .loop .inv .1) _ _ _ _ (done-reads _ _ _ _ _ _ _ _ _ (at-r .r .given .1) (at-product .product .ensures)) (at-join .join .result) _ (at-join .join .ensures)) .holds
+    (pend-chain (sum-level (languageIn (args .two) (args .reserved .now) (args .currencies .now) (args .counters .now)) (args .depth) (args .alone)) (args .s .now) _ _ _ _ _ _ _ _ (at-loop .loop .inv .1) _ _ _ _ (done-reads _ _ _ _ _ _ _ _ _ (at-r .r .given .1) (at-product .product .ensures)) (at-join .join .result) _ (at-join .join .ensures)) .holds
 
 sum-loop-less : (t : ℕ) → sum-lts.Need-loop-less (
   product-below t,
@@ -5005,7 +4941,7 @@ sum-loop-less t c =
     let at-product = at-r .before .before .before .before in
     let at-loop = at-product .before .before in
     let args = at-loop .before .before .before .before .before .before .args in
-    pend-less (sum-level (wordsIn (args .reserved .now) (args .currencies .now) (args .counters .now)) (args .depth)) (args .s .now) _ _ _ _ _ _ _ _ (at-loop .loop .inv .1) _ _ _ _ (done-reads _ _ _ _ _ _ _ _ _ (at-r .r .given .1) (at-product .product .ensures)) (sym (at-is-sum .is-sum .ensures) ∙ not-false _ (c .before .if1 .left)) (c .next .result) (c .next .ensures)
+    pend-less (sum-level (languageIn (args .two) (args .reserved .now) (args .currencies .now) (args .counters .now)) (args .depth) (args .alone)) (args .s .now) _ _ _ _ _ _ _ _ (at-loop .loop .inv .1) _ _ _ _ (done-reads _ _ _ _ _ _ _ _ _ (at-r .r .given .1) (at-product .product .ensures)) (sym (at-is-sum .is-sum .ensures) ∙ not-false _ (c .before .if1 .left)) (c .next .result) (c .next .ensures)
 
 sum-loop-again : (t : ℕ) → sum-lts.Need-loop-again (
   product-below t,
@@ -5025,12 +4961,12 @@ sum-loop-again t c =
     let at-loop = at-product .before .before in
     let join = at-join .join in
     let args = at-loop .before .before .before .before .before .before .args in
-    let words = wordsIn (args .reserved .now) (args .currencies .now) (args .counters .now) in
-    (join .kept .0 ∙ (at-product .product .kept .1 .1 .1 .1 .1 .1 .0 ∙ at-loop .loop .inv .0), pend-next (sum-level words (args .depth)) (args .s .now) _ _ _ _ _ _ _ _ (pend-chain (sum-level words (args .depth)) (args .s .now) _ _ _ _ _ _ _ _ (at-loop .loop .inv .1) _ _ _ _ (done-reads _ _ _ _ _ _ _ _ _ (at-r .r .given .1) (at-product .product .ensures)) (join .result) _ (join .ensures)) (sym (at-is-sum .is-sum .ensures) ∙ not-false _ (c .before .if1 .left)) (c .next .result) (c .next .ensures))
+    let words = languageIn (args .two) (args .reserved .now) (args .currencies .now) (args .counters .now) in
+    (join .kept .0 ∙ (at-product .product .kept .1 .1 .1 .1 .1 .1 .1 .1 .0 ∙ at-loop .loop .inv .0), pend-next (sum-level words (args .depth) (args .alone)) (args .s .now) _ _ _ _ _ _ _ _ (pend-chain (sum-level words (args .depth) (args .alone)) (args .s .now) _ _ _ _ _ _ _ _ (at-loop .loop .inv .1) _ _ _ _ (done-reads _ _ _ _ _ _ _ _ _ (at-r .r .given .1) (at-product .product .ensures)) (join .result) _ (join .ensures)) (sym (at-is-sum .is-sum .ensures) ∙ not-false _ (c .before .if1 .left)) (c .next .result) (c .next .ensures))
 
-pub +arguments+call+comparison+expression+index+items+list+method+name+parenthesis+pays+postfix+postfixes+power+primary+product+sum-spec :
+pub +arguments+call+comparison+expression+index+items+list+method+minus+name+parenthesis+pays+postfix+postfixes+power+primary+product+signed+sum-spec :
     {M : Type 1} → statement M
-+arguments+call+comparison+expression+index+items+list+method+name+parenthesis+pays+postfix+postfixes+power+primary+product+sum-spec =
++arguments+call+comparison+expression+index+items+list+method+minus+name+parenthesis+pays+postfix+postfixes+power+primary+product+signed+sum-spec =
     close
     μ-arguments
     μ-call
@@ -5040,6 +4976,7 @@ pub +arguments+call+comparison+expression+index+items+list+method+name+parenthes
     μ-items
     μ-list
     μ-method
+    μ-minus
     μ-name
     μ-parenthesis
     μ-pays
@@ -5048,6 +4985,7 @@ pub +arguments+call+comparison+expression+index+items+list+method+name+parenthes
     μ-power
     μ-primary
     μ-product
+    μ-signed
     μ-sum
     (λ t. arguments-lts.spec
     (next-reads.Asked, next-reads.Learnt, items-below t, items.Post)
@@ -5092,7 +5030,7 @@ pub +arguments+call+comparison+expression+index+items+list+method+name+parenthes
     (call-add-plain t)
     (call-plain-requires t)
     (call-put-requires t)
-    (call-add-t24 t)
+    (call-add-t25 t)
     (call-same-length-3 t)
     (call-returns-3 t))
     (λ t. comparison-lts.spec (
@@ -5129,10 +5067,12 @@ pub +arguments+call+comparison+expression+index+items+list+method+name+parenthes
       comparison.Post,
       join-reads.Asked,
       join-reads.Learnt,
-      is-joint-reads.Asked,
-      is-joint-reads.Learnt,
+      is-tighter-reads.Asked,
+      is-tighter-reads.Learnt,
       next-reads.Asked,
       next-reads.Learnt,
+      is-looser-reads.Asked,
+      is-looser-reads.Learnt,
     )
     (expression-at t)
     expression.Post
@@ -5145,12 +5085,17 @@ pub +arguments+call+comparison+expression+index+items+list+method+name+parenthes
     (expression-same-length t)
     (expression-returns t)
     (expression-join-requires t)
-    (expression-is-joint-requires t)
-    (expression-same-length-2 t)
-    (expression-returns-2 t)
+    (expression-is-tighter-requires t)
     (expression-next-requires t)
     (expression-loop-less t)
-    (expression-loop-again t))
+    (expression-loop-again t)
+    (expression-join-requires-2 t)
+    (expression-is-looser-requires t)
+    (expression-same-length-2 t)
+    (expression-returns-2 t)
+    (expression-next-requires-2 t)
+    (expression-loop-less-2 t)
+    (expression-loop-again-2 t))
     (λ t. index-lts.spec (
       expression-below t,
       expression.Post,
@@ -5177,7 +5122,7 @@ pub +arguments+call+comparison+expression+index+items+list+method+name+parenthes
     (index-add-plain t)
     (index-plain-requires t)
     (index-put-requires t)
-    (index-add-t22 t)
+    (index-add-t23 t)
     (index-same-length-3 t)
     (index-returns-3 t))
     (λ t. items-lts.spec (
@@ -5284,9 +5229,33 @@ pub +arguments+call+comparison+expression+index+items+list+method+name+parenthes
     (method-add-plain-2 t)
     (method-plain-requires t)
     (method-put-requires t)
-    (method-add-t31 t)
+    (method-add-t32 t)
     (method-same-length-3 t)
     (method-returns-4 t))
+    (λ t. minus-lts.spec (
+      lone-at-reads.Asked,
+      lone-at-reads.Learnt,
+      signed-below t,
+      signed.Post,
+      negative-reads.Asked,
+      negative-reads.Learnt,
+      constant-at-reads.Asked,
+      constant-at-reads.Learnt,
+    )
+    (minus-at t)
+    minus.Post
+    (minus-lone-at-requires t)
+    (minus-enum-known-e t)
+    (minus-enum-told t)
+    (minus-returns t)
+    (minus-sub-signed t)
+    (minus-signed-requires t)
+    (minus-negative-requires t)
+    (minus-same-length t)
+    (minus-returns-2 t)
+    (minus-constant-at-requires t)
+    (minus-same-length-2 t)
+    (minus-returns-3 t))
     (λ t. name-lts.spec (
       call-of-reads.Asked,
       call-of-reads.Learnt,
@@ -5413,10 +5382,10 @@ pub +arguments+call+comparison+expression+index+items+list+method+name+parenthes
     (λ t. power-lts.spec (
       primary-below t,
       primary.Post,
-      join-reads.Asked,
-      join-reads.Learnt,
       is-power-reads.Asked,
       is-power-reads.Learnt,
+      step-reads.Asked,
+      step-reads.Learnt,
       next-reads.Asked,
       next-reads.Learnt,
     )
@@ -5430,11 +5399,12 @@ pub +arguments+call+comparison+expression+index+items+list+method+name+parenthes
     (power-enum-told t)
     (power-same-length t)
     (power-returns t)
-    (power-join-requires t)
     (power-is-power-requires t)
+    (power-step-requires t)
     (power-same-length-2 t)
     (power-returns-2 t)
     (power-next-requires t)
+    (power-add-count t)
     (power-loop-less t)
     (power-loop-again t))
     (λ t. primary-lts.spec (
@@ -5442,14 +5412,10 @@ pub +arguments+call+comparison+expression+index+items+list+method+name+parenthes
       next-reads.Learnt,
       parenthesis-below t,
       parenthesis.Post,
-      primary-below t,
-      primary.Post,
-      constant-at-reads.Asked,
-      constant-at-reads.Learnt,
-      plain-reads.Asked,
-      plain-reads.Learnt,
-      put-reads.Asked,
-      put-reads.Learnt,
+      signed-below t,
+      signed.Post,
+      minus-below t,
+      minus.Post,
       list-below t,
       list.Post,
       pays-below t,
@@ -5464,41 +5430,27 @@ pub +arguments+call+comparison+expression+index+items+list+method+name+parenthes
     (primary-next-requires t)
     (primary-parenthesis-requires t)
     (primary-returns t)
-    (primary-sub-primary t)
-    (primary-primary-requires t)
-    (primary-constant-at-requires t)
-    (primary-same-length t)
-    (primary-returns-2 t)
-    (primary-returns-3 t)
-    (primary-sub-primary-2 t)
-    (primary-primary-requires-2 t)
-    (primary-enum-known-r t)
-    (primary-enum-told t)
-    (primary-same-length-2 t)
-    (primary-returns-4 t)
-    (primary-sub-plain t)
-    (primary-add-plain t)
-    (primary-plain-requires t)
-    (primary-put-requires t)
-    (primary-add-t24 t)
+    (primary-sub-signed t)
+    (primary-signed-requires t)
+    (primary-minus-requires t)
     (primary-list-requires t)
     (primary-pays-requires t)
     (primary-name-requires t)
     (primary-atom-at-requires t)
+    (primary-same-length t)
+    (primary-returns-2 t)
+    (primary-same-length-2 t)
+    (primary-returns-3 t)
     (primary-same-length-3 t)
-    (primary-returns-5 t)
+    (primary-returns-4 t)
     (primary-same-length-4 t)
-    (primary-returns-6 t)
+    (primary-returns-5 t)
     (primary-same-length-5 t)
-    (primary-returns-7 t)
+    (primary-returns-6 t)
     (primary-same-length-6 t)
-    (primary-returns-8 t)
+    (primary-returns-7 t)
     (primary-same-length-7 t)
-    (primary-returns-9 t)
-    (primary-same-length-8 t)
-    (primary-returns-10 t)
-    (primary-same-length-9 t)
-    (primary-returns-11 t))
+    (primary-returns-8 t))
     (λ t. product-lts.spec (
       power-below t,
       power.Post,
@@ -5526,6 +5478,16 @@ pub +arguments+call+comparison+expression+index+items+list+method+name+parenthes
     (product-next-requires t)
     (product-loop-less t)
     (product-loop-again t))
+    (λ t. signed-lts.spec
+    (expression-below t, expression.Post, primary-below t, primary.Post)
+    (signed-at t)
+    signed.Post
+    (signed-expression-requires t)
+    (signed-same-length t)
+    (signed-returns t)
+    (signed-primary-requires t)
+    (signed-same-length-2 t)
+    (signed-returns-2 t))
     λ t. sum-lts.spec (
       product-below t,
       product.Post,

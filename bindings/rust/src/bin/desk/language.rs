@@ -1,27 +1,29 @@
-//! The lists of names that the user gives.
+//! What scripts are read by: the edition and the lists of names that the user gives.
 
 use std::path::PathBuf;
 
-use gorembiin::Lists;
+use gorembiin::{Edition, Lists};
 
 use crate::failure::Failure;
 use crate::files::Source;
-use crate::options::ListFiles;
+use crate::options::Named;
 
-/// Each list as its file has it; one that was not named is the library's default.
-pub struct Listed {
+/// Each list is as its file has it. Where none was named it is the library's default, and the edition is the first.
+pub struct Language {
+    pub edition: Edition,
     reserved: Option<Source>,
     currencies: Option<Source>,
     day_counters: Option<Source>,
 }
 
-impl Listed {
-    pub fn open(files: &ListFiles) -> Result<Self, Failure> {
+impl Language {
+    pub fn open(named: &Named) -> Result<Self, Failure> {
         let open = |file: &Option<PathBuf>| file.as_deref().map(Source::open).transpose();
-        Ok(Listed {
-            reserved: open(&files.reserved)?,
-            currencies: open(&files.currencies)?,
-            day_counters: open(&files.day_counters)?,
+        Ok(Language {
+            edition: named.edition.unwrap_or(Edition::One),
+            reserved: open(&named.reserved)?,
+            currencies: open(&named.currencies)?,
+            day_counters: open(&named.day_counters)?,
         })
     }
 
@@ -47,7 +49,7 @@ impl Listed {
             ("--day-counters", &self.day_counters, day_counters),
         ]
         .iter()
-        .filter(|(_, _, alone)| gorembiin::read(b"", alone, &mut [], &mut []).is_err())
+        .filter(|(_, _, alone)| gorembiin::read(b"", self.edition.number(), alone, &mut [], &mut []).is_err())
         .filter_map(|(option, source, _)| Some(format!("{option} {}", source.as_ref()?.name)))
         .collect()
     }
