@@ -2,6 +2,7 @@
 pub mod Laws
 pub mod GrammarLaws
 pub mod EditionLaws
+pub mod SignedLaws
 pub mod StatementLaws
 pub mod EndingLaws
 pub mod ScriptLaws

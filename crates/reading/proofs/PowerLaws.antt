@@ -222,11 +222,6 @@ power-right true r x y p e = refl
 power-right false r x y p e = absurd (true≢false (sym e))
 
 -- what a sign takes in
-pub signed-left : (second : Bool) (r x y : List ℕ) (p : Reader Tree) → second ≡ false → signed (languageIn second r x y) p ≡ p
-unfolding signed
-signed-left false r x y p e = refl
-signed-left true r x y p e = absurd (true≢false e)
-
 pub signed-right : (second : Bool) (r x y : List ℕ) (p : Reader Tree) → second ≡ true → signed (languageIn second r x y) p ≡ power (languageIn second r x y) p
 unfolding signed
 signed-right true r x y p e = refl

@@ -2,34 +2,39 @@
 -- proof cites one.
 use mathlib.Core.Path.{_≡_, refl, sym, ap, _∙_, subst}
 use mathlib.Core.Bool.{Bool, true, false, _&&_, not, true≢false}
+use mathlib.Core.Logic.{_⊎_, inl, inr, ⊎-elim}
 use mathlib.Core.List.{List, [], _∷_}
 use mathlib.Core.Option.{none, some}
 use Prim.Native.Nat.{ℕ, zero, suc, _+_, _-_, _*_, _≤_, _<_}
 use Prim.Native.String.{String}
 use native.Mathlib.Omega.{arith}
 use lib.Dec.{eqb}
-use borrow.Author.Tests.{ne-eqb}
-use lib.ListN.{length}
+use borrow.Author.Tests.{ne-eqb, eqb-true}
+use lib.ListN.{length, take}
+use Rattle.tokens.specs.Limits.{mostBytes}
 use Rattle.tokens.specs.Text.{bytes, same, within}
+use Rattle.tokens.specs.Names.{names}
+use Rattle.tokens.specs.Lexing.{advanced}
 use Rattle.tokens.specs.Tokens.{Token, code}
 use Rattle.tokens.specs.declared.cursor.Cursor.{Cursor}
 use Rattle.grammar.specs.Trees.{Tree, node, nil, _▹_, fields, none as unused, row}
 use Rattle.grammar.specs.Readers.{Out, ok, refused, Reader, bind, _>>=_, _>>_, second as secondOf, is, give, failAt, ask, look, peek, read, the}
-use Rattle.grammar.specs.Grammar.{callOf, Language, binary, chain, deeper, comparison, expression, inEdition, lone, signed, minus, negative, parenthesis, pays, name, primaryOver, primary}
+use Rattle.grammar.specs.Grammar.{callOf, Language, binary, chain, deeper, comparison, expression, inEdition, lone, power, signed, minus, negative, parenthesis, pays, name, primaryOver, primary}
 use Rattle.reading.specs.Rows.{putRow, nodeRow}
 use Rattle.reading.specs.Joins.{Joins}
 use Rattle.reading.specs.declared.records.Node.{Node}
 use Rattle.reading.specs.declared.records.Joined.{Joined}
 use Rattle.reading.specs.Atoms.{literal, atom}
 use Rattle.reading.specs.Meets.{editionBy, languageIn, toksAt, tokenAt, Holds, Room, Ready, Follows, Takes, Lone, Reads, Meets}
-use Rattle.reading.specs.Signs.{comparator, takenIn}
+use Rattle.reading.specs.Signs.{comparator, takenIn, raisable}
 use Rattle.reading.specs.Turns.{inner, powerAt, sumOr, comparisonOr, parenthesised, listPostfixed, negatedBy, Behind}
 use Rattle.reading.specs.declared.answers.Read.{Read}
 use Rattle.reading.specs.declared.answers.Read.the-variants.{Done, Refused}
 use Rattle.reading.specs.declared.answers.Took.{Took}
 use Rattle.reading.specs.declared.answers.Took.the-variants as took
+use Rattle.grammar.proofs.SignedLaws.{Bare, raised-alone, signed-stops, minus-stops}
 use Rattle.grammar.proofs.SizeLaws.{Sized, EachSized, nothing, just, primary-size}
-use Rattle.reading.proofs.HoldLaws.{first-kind, second-is, ask-yes, ask-no, peek-is, read-then, read-next, the-then, the-next}
+use Rattle.reading.proofs.HoldLaws.{first-kind, second-is, next-follows, ask-yes, ask-no, peek-is, read-then, read-next, the-then, the-next}
 use Rattle.reading.proofs.RowLaws.{size-some, size-one, size-two, after-one, after-two}
 use Rattle.reading.proofs.ChainLaws.{reads-within, binary-plain, by-sign}
 
@@ -367,6 +372,49 @@ module _ (W : Language) (t : List ℕ) (c : Cursor) (h : Holds t c) (depth : ℕ
     prim-minus e =
         rw (primary-is W depth)
         (peek-is h _ ∙ (rw (ap (eqb 40) e, ap (eqb 8) e, ap (eqb 9) e) (read-next w (λ y. omega (arith, y, e)) (minus W (inner W depth) (tokenAt t c)))))
+
+-- ---- what a sign takes in
+
+pub raisable-two : (second : Bool) (k : ℕ) → raisable second k ≡ true → second ≡ true
+raisable-two true k e = refl
+raisable-two false k e = e
+
+-- another sign takes in the `**` itself
+module _ (r x y : List ℕ) (t : List ℕ) (c : Cursor) (h : Holds t c) (depth : ℕ) where
+  abbrev W₂ : Language
+  W₂ = languageIn true r x y
+
+  behind-c : Cursor
+  behind-c = advanced (take mostBytes t) c
+
+  follows-c : Follows t c behind-c
+  unfolding behind-c
+  follows-c = next-follows h refl
+
+  plus-stops : c .code ≡ 8 → (u : Tree) (us : List Token) → primary W₂ depth (toksAt t (c .start)) ≡ ok u us → Bare us
+  plus-stops e u us f =
+      by-sign depth (λ z. absurd (let q = sym (prim-plus-0 W₂ t c h depth e z) ∙ f in let v : _≡_ {A = ℕ} 0 1 = cc in omega arith))
+      (λ z. signed-stops (names r) (names x) (names y) (primary W₂ (depth - 1)) (toksAt t (behind-c .start)) u us (sym (prim-plus W₂ t c h depth behind-c follows-c e z) ∙ f))
+
+  minus-behind : c .code ≡ 9 → (u : Tree) (us : List Token) → primary W₂ depth (toksAt t (c .start)) ≡ ok u us → Bare us
+  minus-behind e u us f =
+      minus-stops (names r) (names x) (names y) (inner W₂ depth) (tokenAt t c) (toksAt t (behind-c .start)) u us (sym (prim-minus W₂ t c h depth behind-c follows-c e) ∙ f)
+
+  signed-sign : (c .code ≡ 8) ⊎ (c .code ≡ 9) → signed W₂ (primary W₂ depth) (toksAt t (c .start)) ≡ primary W₂ depth (toksAt t (c .start))
+  unfolding signed power
+  signed-sign k = raised-alone (primary W₂ depth) (toksAt t (c .start)) λ u us f. ⊎-elim (λ e. plus-stops e u us f) (λ e. minus-behind e u us f) k
+
+-- where no `**` behind it can be another's, a primary is all that a sign takes in
+pub signed-here : (second : Bool) (r x y t : List ℕ) (c : Cursor) → Holds t c → (depth : ℕ) → raisable second (c .code) ≡ false
+    → signed (languageIn second r x y) (primary (languageIn second r x y) depth) (toksAt t (c .start)) ≡ primary (languageIn second r x y) depth (toksAt t (c .start))
+unfolding signed
+signed-here false r x y t c h depth e = refl
+signed-here true r x y t c h depth e = signed-sign r x y t c h depth (go (eqb 8 (c .code)) (eqb 9 (c .code)) refl refl e)
+  where
+    go : (a b : Bool) → eqb 8 (c .code) ≡ a → eqb 9 (c .code) ≡ b → (not a && not b) ≡ false → (c .code ≡ 8) ⊎ (c .code ≡ 9)
+    go true b p q f = inl (sym (eqb-true 8 (c .code) p))
+    go false true p q f = inr (sym (eqb-true 9 (c .code) q))
+    go false false p q f = absurd (true≢false f)
 
 -- ---- what a minus takes in
 

@@ -31,6 +31,10 @@ powerSign k = eqb 12 k
 abbrev pub takenIn : Bool → ℕ → Bool
 takenIn second k = second && eqb 12 k
 
+-- what begins with this may have a `**` behind it that is not its own: in the second edition, and no sign
+abbrev pub raisable : Bool → ℕ → Bool
+raisable second k = second && (not (eqb 8 k) && not (eqb 9 k))
+
 -- `.`, `[`
 abbrev pub postfixSign : ℕ → Bool
 postfixSign k = eqb 47 k || eqb 44 k

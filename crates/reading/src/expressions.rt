@@ -30,6 +30,7 @@ use crate::signs::is_looser;
 use crate::signs::is_postfix;
 use crate::signs::is_power;
 use crate::signs::is_product;
+use crate::signs::is_raised;
 use crate::signs::is_sum;
 use crate::signs::is_tighter;
 use tokens::codes::CLOSE_BRACKET;
@@ -282,7 +283,8 @@ fn power(
     }
 }
 
-// What a sign takes in: a primary, or in the second edition the `**` after it too.
+// What a sign takes in: a primary, or in the second edition the `**` after it too. Another sign there takes it in itself, so that
+// nested signs need no more stack than in the first edition.
 fn signed(
     s: &[u8],
     two: bool,
@@ -297,7 +299,8 @@ fn signed(
     requires { ⌜ Ready (now s) c n × Few (now currencies) ⌝ }
     ensures { λ r. ⌜ Meets (now (s .entry)) (signedAt (languageIn two (now (reserved .entry)) (now (currencies .entry)) (now (counters .entry))) depth (toksAt (now (s .entry)) (c .start))) n (now (out .entry)) r (now (out .exit)) ⌝ }
 {
-    if two {
+    let code = c.code;
+    if is_raised(two, code) {
         return expression(
             s,
             two,

@@ -11,7 +11,7 @@ use tokens::codes::OR;
 use tokens::codes::PLUS;
 use tokens::codes::POWER;
 ghost use mathlib.Core.Path.{_≡_};
-ghost use Rattle.reading.specs.Signs.{tighterSign, looserSign, comparator, sumSign, productSign, powerSign, takenIn, postfixSign};
+ghost use Rattle.reading.specs.Signs.{tighterSign, looserSign, comparator, sumSign, productSign, powerSign, takenIn, raisable, postfixSign};
 
 // Where a power is read alone, no sign of a level above it goes on.
 
@@ -80,6 +80,19 @@ pub fn is_taken_in(two: bool, code: u8) -> bool
     ensures { λ r. ⌜ r ≡ takenIn two code ⌝ }
 {
     two && code == POWER
+}
+
+// Whether a `**` may follow what begins with this and is not its own: none does behind a sign, in the second edition.
+pub fn is_raised(two: bool, code: u8) -> bool
+    ensures { λ r. ⌜ r ≡ raisable two code ⌝ }
+{
+    if !two {
+        return false;
+    }
+    if code == PLUS {
+        return false;
+    }
+    code != MINUS
 }
 
 // What a postfix begins with.

@@ -86,6 +86,7 @@ use Rattle.reading.proofs.signs.is_looser.Reads as is-looser-reads
 use Rattle.reading.proofs.signs.is_postfix.Reads as is-postfix-reads
 use Rattle.reading.proofs.signs.is_power.Reads as is-power-reads
 use Rattle.reading.proofs.signs.is_product.Reads as is-product-reads
+use Rattle.reading.proofs.signs.is_raised.Reads as is-raised-reads
 use Rattle.reading.proofs.signs.is_sum.Reads as is-sum-reads
 use Rattle.reading.proofs.signs.is_tighter.Reads as is-tighter-reads
 use Rattle.reading.proofs.expressions.+arguments+call+comparison+expression+index+items+list+method+minus+name+parenthesis+pays+postfix+postfixes+power+primary+product+signed+sum.{statement}
@@ -99,9 +100,9 @@ use mathlib.Core.Path.{_≡_, refl, sym, ap, _∙_}
 use Rattle.grammar.specs.Trees.{Tree}
 use Rattle.grammar.specs.Readers.{Out, Reader}
 use Rattle.grammar.specs.Grammar as G
-use Rattle.reading.proofs.StepLaws.{done-reads, refused-on, meets-as, follow-ready, put-fields, behind-read, lone-no, lone-yes, minus-lone, minus-0, minus-deep, reads-as, comparison-gates, Compares, compare-less, compare-first, compare-ready, compare-refused, compare-numbers, compare-last, compare-alone, compare-none, compare-next, parenthesis-deep, parenthesis-refused, parenthesis-open, parenthesis-closed, prim-paren, prim-plus-0, prim-plus, prim-list, prim-pays, prim-atom, prim-name, prim-minus, inner-sized}
+use Rattle.reading.proofs.StepLaws.{done-reads, refused-on, meets-as, follow-ready, put-fields, behind-read, raisable-two, signed-here, lone-no, lone-yes, minus-lone, minus-0, minus-deep, reads-as, comparison-gates, Compares, compare-less, compare-first, compare-ready, compare-refused, compare-numbers, compare-last, compare-alone, compare-none, compare-next, parenthesis-deep, parenthesis-refused, parenthesis-open, parenthesis-closed, prim-paren, prim-plus-0, prim-plus, prim-list, prim-pays, prim-atom, prim-name, prim-minus, inner-sized}
 use Rattle.grammar.proofs.KindLaws.{primary-low}
-use Rattle.reading.proofs.PowerLaws.{signed-left, signed-right, Powers, powers-first, powers-ready, powers-refused, powers-numbers, powers-exit, powers-less, powers-next}
+use Rattle.reading.proofs.PowerLaws.{signed-right, Powers, powers-first, powers-ready, powers-refused, powers-numbers, powers-exit, powers-less, powers-next}
 use Rattle.reading.proofs.ChainLaws.{power-level, product-level, sum-level, product-gates, sum-gates, sum-short, plusOrMinus, timesOrBy, tighter, looser, tighter-level, looser-level, tighter-some, looser-some, Nests, nests-as, nest-ready, nest-refused, nest-numbers, nest-holds, nest-less, nest-tighter, nest-whole-numbers, nest-exit, nest-looser, chain-exit, Pending, pend-as, pend-next, pend-ready, pend-refused, pend-numbers, pend-chain, pend-less}
 use Rattle.grammar.proofs.SizeLaws.{primary-size, signed-size}
 use mathlib.Core.Logic.{inl, inr}
@@ -4693,17 +4694,31 @@ product-loop-again t c =
     let words = languageIn (args .two) (args .reserved .now) (args .currencies .now) (args .counters .now) in
     (join .kept .0 ∙ (at-power .power .kept .1 .1 .1 .1 .1 .1 .1 .0 ∙ at-loop .loop .inv .0), pend-next (product-level words (args .depth) (args .alone)) (args .s .now) _ _ _ _ _ _ _ _ (pend-chain (product-level words (args .depth) (args .alone)) (args .s .now) _ _ _ _ _ _ _ _ (at-loop .loop .inv .1) _ _ _ _ (done-reads _ _ _ _ _ _ _ _ _ (at-r .r .given .1) (at-power .power .ensures)) (join .result) _ (join .ensures)) (sym (at-is-product .is-product .ensures) ∙ not-false _ (c .before .if1 .left)) (c .next .result) (c .next .ensures))
 
+signed-is-raised-requires : (t : ℕ) → signed-lts.Need-is-raised-requires (
+  is-raised-reads.Asked,
+  is-raised-reads.Learnt,
+  expression-below t,
+  expression.Post,
+  primary-below t,
+  primary.Post,
+) (signed-at t) signed.Post
+signed-is-raised-requires t c κs = search needs
+
 signed-expression-requires : (t : ℕ) → signed-lts.Need-expression-requires (
+  is-raised-reads.Asked,
+  is-raised-reads.Learnt,
   expression-below t,
   expression.Post,
   primary-below t,
   primary.Post,
 ) (signed-at t) signed.Post
 signed-expression-requires t c κs =
-    let pre = c .before .before .before .before .before .before .before .pre in
+    let pre = c .before .before .before .before .before .before .before .before .pre in
     (omega (arith, pre .0), (pre .1 .0, pre .1 .1))
 
 signed-same-length : (t : ℕ) → signed-lts.Need-same-length (
+  is-raised-reads.Asked,
+  is-raised-reads.Learnt,
   expression-below t,
   expression.Post,
   primary-below t,
@@ -4712,6 +4727,8 @@ signed-same-length : (t : ℕ) → signed-lts.Need-same-length (
 signed-same-length t c = search needs
 
 signed-returns : (t : ℕ) → signed-lts.Need-returns (
+  is-raised-reads.Asked,
+  is-raised-reads.Learnt,
   expression-below t,
   expression.Post,
   primary-below t,
@@ -4720,20 +4737,24 @@ signed-returns : (t : ℕ) → signed-lts.Need-returns (
 signed-returns t c =
     let at-expression = c .before .before in
     let at-if1 = at-expression .before .before in
-    let args = at-if1 .before .before .before .before .before .before .args in
-    meets-as _ _ _ _ _ (at-expression .expression .result) _ (ap (λ (q : Reader Tree). q (toksAt (args .s .now) (args .c .start))) (signed-right (args .two) (args .reserved .now) (args .currencies .now) (args .counters .now) (G.primary (languageIn (args .two) (args .reserved .now) (args .currencies .now) (args .counters .now)) (args .depth)) (at-if1 .if1 .taken))) (at-expression .expression .ensures)
+    let args = at-if1 .before .before .before .before .before .before .before .args in
+    meets-as _ _ _ _ _ (at-expression .expression .result) _ (ap (λ (q : Reader Tree). q (toksAt (args .s .now) (args .c .start))) (signed-right (args .two) (args .reserved .now) (args .currencies .now) (args .counters .now) (G.primary (languageIn (args .two) (args .reserved .now) (args .currencies .now) (args .counters .now)) (args .depth)) (raisable-two (args .two) (args .c .code) (sym (at-if1 .before .is-raised .ensures) ∙ at-if1 .if1 .taken)))) (at-expression .expression .ensures)
 
 signed-primary-requires : (t : ℕ) → signed-lts.Need-primary-requires (
+  is-raised-reads.Asked,
+  is-raised-reads.Learnt,
   expression-below t,
   expression.Post,
   primary-below t,
   primary.Post,
 ) (signed-at t) signed.Post
 signed-primary-requires t c κs =
-    let pre = c .before .before .before .before .before .before .before .pre in
+    let pre = c .before .before .before .before .before .before .before .before .pre in
     (omega (arith, pre .0), (pre .1 .0, pre .1 .1))
 
 signed-same-length-2 : (t : ℕ) → signed-lts.Need-same-length-2 (
+  is-raised-reads.Asked,
+  is-raised-reads.Learnt,
   expression-below t,
   expression.Post,
   primary-below t,
@@ -4742,6 +4763,8 @@ signed-same-length-2 : (t : ℕ) → signed-lts.Need-same-length-2 (
 signed-same-length-2 t c = search needs
 
 signed-returns-2 : (t : ℕ) → signed-lts.Need-returns-2 (
+  is-raised-reads.Asked,
+  is-raised-reads.Learnt,
   expression-below t,
   expression.Post,
   primary-below t,
@@ -4750,8 +4773,9 @@ signed-returns-2 : (t : ℕ) → signed-lts.Need-returns-2 (
 signed-returns-2 t c =
     let at-primary = c .before .before in
     let at-if1 = at-primary .before .before in
-    let args = at-if1 .before .before .before .before .before .before .args in
-    meets-as _ _ _ _ _ (at-primary .primary .result) _ (ap (λ (q : Reader Tree). q (toksAt (args .s .now) (args .c .start))) (signed-left (args .two) (args .reserved .now) (args .currencies .now) (args .counters .now) (G.primary (languageIn (args .two) (args .reserved .now) (args .currencies .now) (args .counters .now)) (args .depth)) (at-if1 .if1 .left))) (at-primary .primary .ensures)
+    let start = at-if1 .before .before .before .before .before .before .before in
+    let args = start .args in
+    meets-as _ _ _ _ _ (at-primary .primary .result) _ (signed-here (args .two) (args .reserved .now) (args .currencies .now) (args .counters .now) (args .s .now) (args .c) (start .pre .1 .0 .0) (args .depth) (sym (at-if1 .before .is-raised .ensures) ∙ at-if1 .if1 .left)) (at-primary .primary .ensures)
 
 abbrev sum-Inv-loop : sum-lts.InvT-loop
 sum-Inv-loop s two alone reserved currencies counters c depth out₀ n at₀ m₀ sign₀ out at m sign = (length out ≡ length out₀) × Pending (plusOrMinus alone) (sumSign alone) (productOr alone (languageIn two reserved currencies counters) depth) s (at₀ .start) (sumOr alone (languageIn two reserved currencies counters) depth (toksAt s (at₀ .start))) n out₀ sign at m out
@@ -5478,10 +5502,17 @@ pub +arguments+call+comparison+expression+index+items+list+method+minus+name+par
     (product-next-requires t)
     (product-loop-less t)
     (product-loop-again t))
-    (λ t. signed-lts.spec
-    (expression-below t, expression.Post, primary-below t, primary.Post)
+    (λ t. signed-lts.spec (
+      is-raised-reads.Asked,
+      is-raised-reads.Learnt,
+      expression-below t,
+      expression.Post,
+      primary-below t,
+      primary.Post,
+    )
     (signed-at t)
     signed.Post
+    (signed-is-raised-requires t)
     (signed-expression-requires t)
     (signed-same-length t)
     (signed-returns t)
