@@ -22,9 +22,9 @@ SPELLED = {"block_refused": "BodyLaws", "ends_by": "EndsBy", "in_order": "Certai
 SNAKE = "/opt/rattle/port/notes/2026-11-18-names-are-in-snake-case/snake.py"
 WORD = re.compile(r"[^\s(){}.;,@\"«»]+")
 QUIET = re.compile(r'"(?:[^"\\\n]|\\.)*"|(?<![^\s(){}.;,@"«»])--[^\n]*', re.S)
-NAMES = r"[^\s(){}.;,@\"«»:]+(?:\s+[^\s(){}.;,@\"«»:]+)*"
+NAMES = r"[^\s(){}.;,@\"«»:=]+(?:[ \t]+[^\s(){}.;,@\"«»:=]+)*"
 DECLARED = re.compile(
-    r"^\s*(?:(?:pub|abbrev|unfoldable|data|record|let|where)\s+)*(" + NAMES + r")\s*(?:\([^()]*(?:\([^()]*\)[^()]*)*\)\s*|\{[^}]*\}\s*)*:\s",
+    r"^[ \t]*(?:(?:pub|abbrev|unfoldable|data|record|let|where)[ \t]+)*(" + NAMES + r")[ \t]*(?:\([^()\n]*(?:\([^()\n]*\)[^()\n]*)*\)[ \t]*|\{[^}\n]*\}[ \t]*)*:\s",
     re.M,
 )
 USE = re.compile(r"^\s*(?:ghost )?use ([^\s{;]+?)\.\{([^}]*)\}", re.M)

@@ -6,7 +6,7 @@ use Prim.Native.Nat.{ℕ, ◌+◌, ◌-◌, ◌*◌, ◌≤◌, ◌<◌, max}
 use native.Mathlib.Omega.{arith}
 use lib.Dec.{leb, ltb, eqb}
 use lib.ListN.{length}
-use borrow.Author.Tests.{ltb-true, leb_true, eqb-true, lt-ltb, le-leb, eq-eqb}
+use borrow.Author.Tests.{ltb-true, leb-true, eqb-true, lt-ltb, le-leb, eq-eqb}
 use Rattle.grammar.specs.Sizes.{entry_width}
 use Rattle.grammar.specs.Words.{Row, latest_of}
 use Rattle.amending.specs.Amending.{Pick}
@@ -32,16 +32,16 @@ ascends i j r rs b =
     let b₂ = right (ltb r.start r.end) _ b₁ in
     let b₃ = right (leb 1 r.records) _ b₂ in
     record {
-      after = leb_true i r.start (left _ _ b);
+      after = leb-true i r.start (left _ _ b);
       filled = ltb-true r.start r.end (left _ _ b₁);
-      has_record = leb_true 1 r.records (left _ _ b₂);
-      has_token = leb_true 1 r.tokens (left _ _ b₃);
+      has_record = leb-true 1 r.records (left _ _ b₂);
+      has_token = leb-true 1 r.tokens (left _ _ b₃);
       rest = right (leb 1 r.tokens) _ b₃;
     }
 
 ascends_none : (i j : ℕ) → ascending i j [] ≡ true → i ≤ j
 unfolding ascending
-ascends_none i j b = leb_true i j b
+ascends_none i j b = leb-true i j b
 
 -- the bytes that entries in order lie between
 pub ascending_le : (i j : ℕ) (rs : List Row) → ascending i j rs ≡ true → i ≤ j
@@ -83,12 +83,12 @@ module _ (i m t : ℕ) (r : Row) where
       let b₃ = right (leb 1 r.records) _ b₂ in
       let b₄ = right (leb 1 r.tokens) _ b₃ in
       record {
-        after = leb_true i r.start (left _ _ b);
+        after = leb-true i r.start (left _ _ b);
         filled = ltb-true r.start r.end (left _ _ b₁);
-        has_record = leb_true 1 r.records (left _ _ b₂);
-        has_token = leb_true 1 r.tokens (left _ _ b₃);
-        records_left = leb_true r.records m (left _ _ b₄);
-        tokens_left = leb_true r.tokens t (right (leb r.records m) _ b₄);
+        has_record = leb-true 1 r.records (left _ _ b₂);
+        has_token = leb-true 1 r.tokens (left _ _ b₃);
+        records_left = leb-true r.records m (left _ _ b₄);
+        tokens_left = leb-true r.tokens t (right (leb r.records m) _ b₄);
       }
 
   pub fits_no : (Fits i m t r → ⊥) → row_fits i m t r ≡ false
@@ -161,7 +161,7 @@ ordered d statements bytes records tokens latest b =
     let b₂ = right (ascending 0 bytes rs) _ b₁ in
     let b₃ = right (eqb records (sum_records rs)) _ b₂ in
     record {
-      room = leb_true (entry_width * statements) (length d) (left _ _ b);
+      room = leb-true (entry_width * statements) (length d) (left _ _ b);
       order = left _ _ b₁;
       record_sum = eqb-true records (sum_records rs) (left _ _ b₂);
       token_sum = eqb-true tokens (sum_tokens rs) (left _ _ b₃);

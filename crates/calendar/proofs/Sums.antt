@@ -4,7 +4,7 @@ use mathlib.Core.Bool.{Bool, true, false}
 use Prim.Native.Nat.{ℕ, zero, suc, ◌+◌, ◌-◌, ◌≤◌, ◌<◌}
 use native.Mathlib.Omega.{arith}
 use lib.Dec.{leb}
-use borrow.Author.Tests.{leb-true, leb_false}
+use borrow.Author.Tests.{leb-true, leb-false}
 use Rattle.calendar.specs.Calendar.{total}
 
 -- with the next one
@@ -29,7 +29,7 @@ total_up f a (suc b) h = go (leb a b) refl (total_up f a b)
 
     go : (t : Bool) → leb a b ≡ t → (a ≤ b → total f a ≤ total f b) → total f a ≤ total f b + f (suc b)
     go true e before = omega (arith, before (leb-true a b e))
-    go false e before = subst (λ (k : ℕ). total f k ≤ total f b + f (suc b)) (same (leb_false a b e)) (omega arith)
+    go false e before = subst (λ (k : ℕ). total f k ≤ total f b + f (suc b)) (same (leb-false a b e)) (omega arith)
 
 -- a sum that is passed before the end is not the end's
 before_end : (f : ℕ → ℕ) (k e n : ℕ) → n ≤ total f e → total f k < n → k < e
@@ -37,7 +37,7 @@ before_end f k e n l m = go (leb e k) refl
   where
     go : (t : Bool) → leb e k ≡ t → k < e
     go true h = absurd (omega (arith, total_up f e k (leb-true e k h)))
-    go false h = leb_false e k h
+    go false h = leb-false e k h
 
 -- where n is behind the first g, and not behind the next
 pub behind : (f : ℕ → ℕ) (e n g r : ℕ) → r ≡ g + 1 → n ≤ total f e → total f g < n → n ≤ total f r

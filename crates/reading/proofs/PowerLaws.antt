@@ -275,21 +275,21 @@ module _ {p : Reader Tree} (L : Level (is "**") power_sign p) (low : Gives Low p
         λ x. (wait_numbers L.moves L.short low t R n o k e c m o' (waiting x) c₂ m₂ q₂ o₂ r).1,
       )
 
-      module _ (more : Bool) (is_more : more ≡ power_sign c₂.code) (j : Stepped) (o₃ : List ℕ) (S : Steps second more o₂ k n e m₂ q₂ y c.start j o₃) where
+      module _ (more : Bool) (is-more : more ≡ power_sign c₂.code) (j : Stepped) (o₃ : List ℕ) (S : Steps second more o₂ k n e m₂ q₂ y c.start j o₃) where
         joined : second ≡ false → Chain (is "**") p t y R n o c₂ j.records j.string o₃
         joined x = pend_chain L t y R n o (sign_of k) c m o' (w.left x) c₂ m₂ q₂ o₂ r (joined_by j) o₃ (S.0 x)
 
         -- no sign: the chain ends
         pub powers_exit : more ≡ false → Reads t R n o c₂ j.records j.string o₃
         powers_exit z =
-            let none_on : power_sign c₂.code ≡ false = sym is_more ∙ z in
+            let none_on : power_sign c₂.code ≡ false = sym is-more ∙ z in
             by_edition second (λ x. chain_exit L t y R n o c₂ j.records j.string o₃ (joined x) none_on)
             (λ x. wait_exit L.moves L.short low t R n o k e c m o' (waiting x) c₂ m₂ q₂ o₂ r none_on (joined_by j) o₃ (S.2 x z))
 
         -- a sign: one operand more
         module _ (z : more ≡ true) (d : Cursor) (v : Follows t c₂ d) where
           goes_on : power_sign c₂.code ≡ true
-          goes_on = sym is_more ∙ z
+          goes_on = sym is-more ∙ z
 
           a_sign : c₂.code ≡ 0 → ⊥
           a_sign x = true≢false (sym goes_on ∙ ap power_sign x)

@@ -6,7 +6,7 @@ use Prim.Native.Nat.{ℕ, ◌*◌, ◌/◌, ◌≤◌, ◌<◌}
 use native.Mathlib.Omega.{arith}
 use lib.Dec.{ltb}
 use lib.ListN.{length, length-map, take}
-use borrow.Author.Tests.{ne_eqb, lt-ltb, le-ltb, ltb-true, ltb_false}
+use borrow.Author.Tests.{ne_eqb, lt-ltb, le-ltb, ltb-true, ltb-false}
 use Rattle.tokens.specs.Text.{if◌then◌else◌, script}
 use Rattle.tokens.specs.Names.{Lists}
 use Rattle.tokens.proofs.Outcomes.{one_outcome}
@@ -83,7 +83,7 @@ room_most most n = go (ltb most n) refl
   where
     go : (b : Bool) → ltb most n ≡ b → (if b then most else n) ≤ most
     go true e = omega arith
-    go false e = ltb_false most n e
+    go false e = ltb-false most n e
 
 -- ---- what the reader of all statements wrote, where they can be read
 

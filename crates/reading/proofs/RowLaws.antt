@@ -1,7 +1,7 @@
 -- Laws of records in lent memory: what stands there after a node's parts and the node, and after all.
 use mathlib.Core.Path.{◌≡◌, refl, sym, ap, ◌∙◌}
 use mathlib.Core.Bool.{Bool, true, false}
-use mathlib.Core.List.{List, [], ◌∷◌, ◌++◌, append_assoc, append_nil}
+use mathlib.Core.List.{List, [], ◌∷◌, ◌++◌, append_assoc, append-nil}
 use Prim.Native.Nat.{ℕ, suc, ◌+◌, ◌*◌, ◌/◌, ◌≤◌, ◌<◌}
 use native.Mathlib.Nat.{add-zero, zero-add, mul-zero, mul-add, mul_comm, le_trans, le-div_iff_mul-le}
 use native.Mathlib.Numerals.{add-one}
@@ -72,7 +72,7 @@ rows_of_front t ts = refl
 
 pub rows_of_snoc : (ts : Trees) (t : Tree) → rows_of (snoc ts t) ≡ rows_of ts ++ rows t
 unfolding rows
-rows_of_snoc nil t = append_nil (rows t)
+rows_of_snoc nil t = append-nil (rows t)
 rows_of_snoc (u ▹ us) t = ap (λ l. rows u ++ l) (rows_of_snoc us t) ∙ sym (append_assoc (rows u) (rows_of us) (rows t))
 
 pub rows_of_join : (ts us : Trees) → rows_of (join ts us) ≡ rows_of ts ++ rows_of us
@@ -141,7 +141,7 @@ put_join o n ts us = rw (rows_of_join ts us, put_all_append record_width o n (ro
 
 pub put_single : (o : List ℕ) (n : ℕ) (a : Tree) → put_rows o n (rows_of (a ▹ nil)) ≡ put_rows o n (rows a)
 unfolding rows
-put_single o n a = rw append_nil
+put_single o n a = rw append-nil
 
 pub put_pair : (o : List ℕ) (n : ℕ) (a b : Tree) → put_rows o n (rows_of (a ▹ b ▹ nil)) ≡ put_rows (put_rows o n (rows a)) (n + size a) (rows b)
 put_pair o n a b = put_front o n a (b ▹ nil) ∙ put_single (put_rows o n (rows a)) (n + size a) b
@@ -219,7 +219,7 @@ mutual
   rows_flat (node k y x f ts) =
       flat_append (rows_of ts) (row k (suc (sizes ts)) (parts ts) f y ∷ [])
       ∙ ap (λ l. l ++ (row k (suc (sizes ts)) (parts ts) f y ++ [])) (rows_of_flat ts)
-      ∙ ap (λ l. records_of ts ++ l) (append_nil (row k (suc (sizes ts)) (parts ts) f y))
+      ∙ ap (λ l. records_of ts ++ l) (append-nil (row k (suc (sizes ts)) (parts ts) f y))
 
   pub rows_of_flat : (ts : Trees) → flat (rows_of ts) ≡ records_of ts
   rows_of_flat nil = refl

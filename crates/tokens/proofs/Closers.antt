@@ -137,7 +137,7 @@ sign_closes b bs = go (eqb E.1 99) refl
     E = entry (λ s. begins (bytes s) (b ∷ bs)) signs
 
     some : (t : Bool) → leb 1 (length (bytes E.0)) ≡ t → t ≡ true → length (bytes E.0) - 1 < length (bytes E.0)
-    some true e q = omega (arith, borrow.Author.Tests.leb_true 1 (length (bytes E.0)) e)
+    some true e q = omega (arith, borrow.Author.Tests.leb-true 1 (length (bytes E.0)) e)
     some false e q = absurd (true≢false (sym q))
 
     go : (t : Bool) → eqb E.1 99 ≡ t → Closes b bs (if t then fault 3 else piece E.1 (length (bytes E.0)))

@@ -4,17 +4,17 @@ use Prim.Native.Nat.{◌-◌, ◌≤◌}
 use native.Mathlib.Omega.{arith}
 use lib.ListN.{length, take, drop, length-set}
 use borrow.Author.Rules.{rules}
-use Rattle.grammar.specs.Sizes.{recordWidth}
+use Rattle.grammar.specs.Sizes.{record_width}
 use Rattle.listing.proofs.LineLaws.{copied_on, copied_all}
 use Rattle.listing.proofs.lines.put_record.Statement.{statement}
 use Rattle.listing.proofs.lines.put_record.Tie as tie
 
 abbrev invariant-loop : tie.invariant-loop
 invariant-loop out at records from words₀ i₀ words i =
-    (i ≤ recordWidth) × (length words ≡ recordWidth) × (take i words ≡ take i (drop from records))
+    (i ≤ record_width) × (length words ≡ record_width) × (take i words ≡ take i (drop from records))
 
 abbrev decreases-loop : tie.decreases-loop
-decreases-loop out at records from words₀ i₀ words i = recordWidth - i
+decreases-loop out at records from words₀ i₀ words i = record_width - i
 
 loop-holds : tie.Need-loop-init invariant-loop decreases-loop
 loop-holds c = (search rules, refl, refl)
@@ -69,7 +69,7 @@ returns c =
     let l = c.before.before.before.before.before.before.loop in
     let a = c.before.before.before.before.before.before.before.before.before.args in
     let done = c.before.before.before.before.before.loop-test.false in
-    rw (← copied_all l.words a.records.now a.from recordWidth l.i done l.invariant.0 l.invariant.1 l.invariant.2)
+    rw (← copied_all l.words a.records.now a.from record_width l.i done l.invariant.0 l.invariant.1 l.invariant.2)
     c.before.before.put-line.ensures
 
 pub put_record_spec : {M : Type 1} → statement M

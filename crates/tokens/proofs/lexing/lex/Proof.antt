@@ -3,14 +3,14 @@ use mathlib.Core.Path.{◌≡◌, refl, sym, ap, ◌∙◌}
 use Prim.Native.Nat.{◌-◌}
 use native.Mathlib.Omega.{arith}
 use lib.ListN.{length}
-use Rattle.tokens.specs.Lexing.{markAt}
+use Rattle.tokens.specs.Lexing.{mark_at}
 use Rattle.tokens.proofs.MarkLaws.{mark_over, mark_on, mark_here}
 use borrow.Author.Rules.{rules}
 use Rattle.tokens.proofs.lexing.lex.Statement.{statement}
 use Rattle.tokens.proofs.lexing.lex.Tie as tie
 
 abbrev invariant-loop : tie.invariant-loop
-invariant-loop s at i₀ i = markAt s i ≡ markAt s at
+invariant-loop s at i₀ i = mark_at s i ≡ mark_at s at
 
 abbrev decreases-loop : tie.decreases-loop
 decreases-loop s at i₀ i = length s - i

@@ -1,14 +1,14 @@
 -- From the place reached, what is left of the tokens leads to where all of them lead from the first place.
 use mathlib.Core.Path.{◌≡◌, refl, sym, ◌∙◌}
 use native.Mathlib.Omega.{arith}
-use Rattle.tokens.specs.Views.{placeAfter}
+use Rattle.tokens.specs.Views.{place_after}
 use Rattle.tokens.proofs.ViewLaws.{after_none, after_more, after_same}
 use borrow.Author.Rules.{rules}
 use Rattle.tokens.proofs.views.place_after.Statement.{statement}
 use Rattle.tokens.proofs.views.place_after.Tie as tie
 
 abbrev invariant-loop : tie.invariant-loop
-invariant-loop s at tokens i₀ left₀ i left = placeAfter s i left ≡ placeAfter s at tokens
+invariant-loop s at tokens i₀ left₀ i left = place_after s i left ≡ place_after s at tokens
 
 abbrev decreases-loop : tie.decreases-loop
 decreases-loop s at tokens i₀ left₀ i left = left
