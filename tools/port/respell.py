@@ -17,6 +17,7 @@ import sys
 
 LEMMAS = """amend-lent block_refused double-by ends-at ends_by good-name held-size in-edition is-edition kind-of last-end last-of over-rows
 pay-turn put-all read-script reading-in sum-tokens""".split()
+OTHERS = "columnAt fittingRooms heldSize kindBy maxEntries maxNodes noneAt overRooms textEnd".split()
 # a lemma's name that port.py left in the spelling that a definition now has, and where it stands
 SPELLED = {"block_refused": "BodyLaws", "ends_by": "EndsBy", "in_order": "Certain"}
 SNAKE = "/opt/rattle/port/notes/2026-11-18-names-are-in-snake-case/snake.py"
@@ -75,7 +76,7 @@ def imported(text, own):
     """The names that a file imports from this repository, or from the library."""
     out = set()
     for m in USE.finditer(text):
-        made = re.search(r"\.(?:contracts|declared)\b|\.(?:Statement|Tie|Given|Goals|Lts|Reads|Kinds)$", m[1])
+        made = re.search(r"\.(?:contracts|declared)\b|\.(?:Statement|Tie|Given|Goals|Lts|Reads)$|\.proofs\..*\.Kinds$", m[1])
         if (m[1].split(".")[:2] in OWN and not made) == own:
             out |= {n.split(" as ")[-1].strip() for n in m[2].split(",") if n.strip()}
             if own:
@@ -101,6 +102,7 @@ def main(check):
             table |= {n: spelled(n) for n in declared(t) if spelled(n) != n}
             own_fields |= fields(t)
     table |= {n: spelled(n) + "_lem" for n in LEMMAS if n not in SPELLED}
+    table |= {n: spelled(n) for n in OTHERS}
     said = []
     turned = {}
     for p, t in texts.items():

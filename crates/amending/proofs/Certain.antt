@@ -18,7 +18,7 @@ use Rattle.grammar.specs.Grammar.{Edition, one, two}
 use Rattle.grammar.specs.Sizes.{record_width, entry_width, record_room, statement_room}
 use Rattle.grammar.specs.Script.{Entry, accepted, number_of}
 use Rattle.grammar.proofs.Refusals.{edition_first}
-use Rattle.reading.specs.Reading.{refused_at as noneAt, answer_to, read_into, Leaves}
+use Rattle.reading.specs.Reading.{refused_at as none_at, answer_to, read_into, Leaves}
 use Rattle.reading.specs.declared.reading.Answer.{Answer}
 use Rattle.reading.proofs.ReadAnswers as reads
 use Rattle.amending.specs.Amending.{State, Rooms, amend, left, after}
@@ -51,7 +51,7 @@ module _ (l : Lists) where
     read_refused f = let R = reads.refused_keeps e l X f in (R.0, R.1)
 
     -- 26 is the answer where e is neither 1 nor 2, at byte 0, whatever other grounds there are; and nowhere else
-    pub read_no_edition : (e ≡ 1 → ⊥) → (e ≡ 2 → ⊥) → r ≡ noneAt bs 26 0
+    pub read_no_edition : (e ≡ 1 → ⊥) → (e ≡ 2 → ⊥) → r ≡ none_at bs 26 0
     read_no_edition a b = X.answer ∙ ap (answer_to e bs) (edition_first e l bs (record_room (length o)) (statement_room (length d)) (ne_eqb e 1 a) (ne_eqb e 2 b))
 
     pub read_no_other : r.number ≡ 26 → (e ≡ 1 → ⊥) × (e ≡ 2 → ⊥)

@@ -18,7 +18,7 @@ use Rattle.grammar.specs.Grammar.{Edition, Language}
 use Rattle.grammar.specs.Script.{Entry, accepted, refused, read_script, no_zero, tokens_of, language, number_of}
 use Rattle.grammar.specs.Words.{Row, row_of, latest_of}
 use Rattle.reading.specs.Meets.{listed}
-use Rattle.reading.specs.Judging.{last_end as textEnd}
+use Rattle.reading.specs.Judging.{last_end as text_end}
 use Rattle.reading.specs.declared.judging.Counts.{Counts}
 use Rattle.grammar.proofs.AmendBytes.{Text, Accepted, read_accepted, script_all, text_tokens, tokens_append}
 use Rattle.grammar.proofs.ReachLaws.{none_end}
@@ -341,7 +341,7 @@ module _ (l : Lists) (M : Memory) (h : Held) (k : ℕ) (n : List ℕ) (E : Editi
             size_is = G.bytes_are ∙ ap length (script_all n clear)
 
             end_is : c.last ≡ end_of 0 admits.text.toks
-            end_is = G.last_are ∙ ap textEnd (script_all n clear) ∙ ap (λ (x : Lexed). end_of 0 (listed x)) admits.text.scanned
+            end_is = G.last_are ∙ ap text_end (script_all n clear) ∙ ap (λ (x : Lexed). end_of 0 (listed x)) admits.text.scanned
 
             count_is : c.tokens ≡ count counts admits.text.toks
             count_is = G.tokens_are ∙ sym (text_tokens (language E l) admits.text)

@@ -20,7 +20,7 @@ use Rattle.reading.specs.declared.reading.Answer.{Answer}
 use Rattle.grammar.proofs.WordLaws.{words_length as record-words, rows_length}
 use Rattle.reading.proofs.ReadLaws.{room_in}
 use Rattle.amending.specs.Amend.{ends_well, replaced, amended_list}
-use Rattle.amending.specs.Amending.{State, Rooms, Pick, pick, over as overRooms, Answer as Result, done, refusal, fitting as fittingRooms, put, amend_at, amend, left, Good}
+use Rattle.amending.specs.Amending.{State, Rooms, Pick, pick, over as over_rooms, Answer as Result, done, refusal, fitting as fitting_rooms, put, amend_at, amend, left, Good}
 use Rattle.amending.specs.Lent.{Lent, handed, unchanged, sum_records, amend_lent, lent_of, given}
 use Rattle.amending.specs.Moves.{leave}
 use Rattle.amending.specs.Entries.{rows_from}
@@ -66,7 +66,7 @@ pub record Done (E : Edition) (l : Lists) (R : Rooms) (st : State) (k : ℕ) (n 
   pub entries_are : st'.entries ≡ amended_list picked.before picked.one picked.behind (length n) new
 
 pub done_is : (E : Edition) (l : Lists) (R : Rooms) (st : State) (k : ℕ) (n : List ℕ) (st' : State) → amend E l R st k n ≡ done st' → Done E l R st k n st'
-unfolding amend amend_at put fittingRooms
+unfolding amend amend_at put fitting_rooms
 done_is E l R st k n st' e = go₁ (pick k st.entries) refl e
   where
     never : {f q : ℕ} {X : Type 0} → refusal f q ≡ done st' → X
@@ -91,10 +91,10 @@ done_is E l R st k n st' e = go₁ (pick k st.entries) refl e
     go₃ : (p : Pick Entry) → pick k st.entries ≡ some p → T (no_zero n) → (x : Outcome) → read_script E l n ≡ x → (t : Bool) → put E l R st p n x ≡ done st' → ends_well n ≡ t → Done E l R st k n st'
     go₃ p q z (refused f b) r t e w = never e
     go₃ p q z (accepted ns) r true e w =
-        go₄ p q z ns r (overRooms R (replaced st.script p.one n) (amended_list p.before p.one p.behind (length n) ns))
-        (ap (λ (b : Bool). if not b then refusal 18 (length n) else fittingRooms R (length n) (replaced st.script p.one n) (amended_list p.before p.one p.behind (length n) ns)) (sym w) ∙ e)
+        go₄ p q z ns r (over_rooms R (replaced st.script p.one n) (amended_list p.before p.one p.behind (length n) ns))
+        (ap (λ (b : Bool). if not b then refusal 18 (length n) else fitting_rooms R (length n) (replaced st.script p.one n) (amended_list p.before p.one p.behind (length n) ns)) (sym w) ∙ e)
     go₃ p q z (accepted ns) r false e w =
-        never (ap (λ (b : Bool). if not b then refusal 18 (length n) else fittingRooms R (length n) (replaced st.script p.one n) (amended_list p.before p.one p.behind (length n) ns)) (sym w) ∙ e)
+        never (ap (λ (b : Bool). if not b then refusal 18 (length n) else fitting_rooms R (length n) (replaced st.script p.one n) (amended_list p.before p.one p.behind (length n) ns)) (sym w) ∙ e)
 
     go₂ : (p : Pick Entry) → pick k st.entries ≡ some p → (t : Bool) → no_zero n ≡ t → (if not t then refusal 19 0 else put E l R st p n (read_script E l n)) ≡ done st' → Done E l R st k n st'
     go₂ p q true z e = go₃ p q (rw z tt) (read_script E l n) refl (ends_well n) e refl

@@ -514,13 +514,13 @@ module _ (E : Edition) (l : Lists) (bs : List ℕ) {f p : ℕ} where
   pub read_small : read_script E l bs ≡ wrong f p → p ≤ most_bytes
   read_small e = (subst (Judged 15 most_bytes) e (read_judged E l bs most_bytes (λ h. h))).inside
 
-  module _ (maxNodes maxEntries : ℕ) where
+  module _ (max_nodes max_entries : ℕ) where
     -- of a script with room for so many records and statements: 16 as well
-    pub reading_refused : reading_in E l maxNodes maxEntries bs ≡ wrong f p → Ground 16 (length (script bs)) f p
-    reading_refused e = subst (Judged 16 (length (script bs))) e (reading_judged E l bs (length (script bs)) (λ h. omega arith) maxNodes maxEntries)
+    pub reading_refused : reading_in E l max_nodes max_entries bs ≡ wrong f p → Ground 16 (length (script bs)) f p
+    reading_refused e = subst (Judged 16 (length (script bs))) e (reading_judged E l bs (length (script bs)) (λ h. omega arith) max_nodes max_entries)
 
-    pub reading_small : reading_in E l maxNodes maxEntries bs ≡ wrong f p → p ≤ most_bytes
-    reading_small e = (subst (Judged 16 most_bytes) e (reading_judged E l bs most_bytes (λ h. h) maxNodes maxEntries)).inside
+    pub reading_small : reading_in E l max_nodes max_entries bs ≡ wrong f p → p ≤ most_bytes
+    reading_small e = (subst (Judged 16 most_bytes) e (reading_judged E l bs most_bytes (λ h. h) max_nodes max_entries)).inside
 
 -- ---- by the edition's number
 
@@ -542,36 +542,36 @@ judged_by : (n : ℕ) (o : Outcome) → Judged 16 n o → JudgedBy n o
 judged_by n (accepted es) h = tt
 judged_by n (wrong f p) h = inr h
 
-module _ (k : ℕ) (l : Lists) (bs : List ℕ) (maxNodes maxEntries : ℕ) where
+module _ (k : ℕ) (l : Lists) (bs : List ℕ) (max_nodes max_entries : ℕ) where
   -- 26 comes before all others: whatever the lists, the script and the room are
-  pub edition_first : eqb k 1 ≡ false → eqb k 2 ≡ false → reading k l maxNodes maxEntries bs ≡ wrong 26 0
+  pub edition_first : eqb k 1 ≡ false → eqb k 2 ≡ false → reading k l max_nodes max_entries bs ≡ wrong 26 0
   unfolding reading
   edition_first x y = rw (x, y)
 
-  numbered_judged : (n : ℕ) → (length (script bs) ≤ most_bytes → length (script bs) ≤ n) → JudgedBy n (reading k l maxNodes maxEntries bs)
+  numbered_judged : (n : ℕ) → (length (script bs) ≤ most_bytes → length (script bs) ≤ n) → JudgedBy n (reading k l max_nodes max_entries bs)
   unfolding reading
   numbered_judged n bound = go (eqb k 1) (eqb k 2)
     where
-      in_edition_lem : (E : Edition) → JudgedBy n (reading_in E l maxNodes maxEntries bs)
-      in_edition_lem E = judged_by n (reading_in E l maxNodes maxEntries bs) (reading_judged E l bs n bound maxNodes maxEntries)
+      in_edition_lem : (E : Edition) → JudgedBy n (reading_in E l max_nodes max_entries bs)
+      in_edition_lem E = judged_by n (reading_in E l max_nodes max_entries bs) (reading_judged E l bs n bound max_nodes max_entries)
 
-      go : (x y : Bool) → JudgedBy n (if x then reading_in one l maxNodes maxEntries bs else if y then reading_in two l maxNodes maxEntries bs else wrong 26 0)
+      go : (x y : Bool) → JudgedBy n (if x then reading_in one l max_nodes max_entries bs else if y then reading_in two l max_nodes max_entries bs else wrong 26 0)
       go true y = in_edition_lem one
       go false true = in_edition_lem two
       go false false = inl (refl, refl)
 
   -- what is accepted is of an edition
-  pub edition_known : {es : List Entry} → reading k l maxNodes maxEntries bs ≡ accepted es → (k ≡ 1) ⊎ (k ≡ 2)
+  pub edition_known : {es : List Entry} → reading k l max_nodes max_entries bs ≡ accepted es → (k ≡ 1) ⊎ (k ≡ 2)
   unfolding reading
   edition_known {es} e = go (eqb k 1) (eqb k 2) refl refl e
     where
       go : (x y : Bool) → eqb k 1 ≡ x → eqb k 2 ≡ y
-          → (if x then reading_in one l maxNodes maxEntries bs else if y then reading_in two l maxNodes maxEntries bs else wrong 26 0) ≡ accepted es → (k ≡ 1) ⊎ (k ≡ 2)
+          → (if x then reading_in one l max_nodes max_entries bs else if y then reading_in two l max_nodes max_entries bs else wrong 26 0) ≡ accepted es → (k ≡ 1) ⊎ (k ≡ 2)
       go true y p q h = inl (eqb-true k 1 p)
       go false true p q h = inr (eqb-true k 2 q)
       go false false p q h = absurd (let z : ◌≡◌ {A = ℕ} 0 1 = cc in omega arith)
 
-  module _ {f p : ℕ} (e : reading k l maxNodes maxEntries bs ≡ wrong f p) where
+  module _ {f p : ℕ} (e : reading k l max_nodes max_entries bs ≡ wrong f p) where
     pub numbered_refused : Named 16 (length (script bs)) f p
     numbered_refused = subst (JudgedBy (length (script bs))) e (numbered_judged (length (script bs)) (λ h. omega arith))
 

@@ -102,14 +102,14 @@ tokens_of (e ∷ es) = e.tokens + tokens_of es
 
 -- no room (16): n is the text's end
 abbrev pub fitting : ℕ → ℕ → ℕ → Outcome → Outcome
-fitting n maxNodes maxEntries (accepted es) =
-    if ltb maxNodes (nodes es) then refused 16 n
-    else if ltb maxEntries (length es) then refused 16 n else accepted es
-fitting n maxNodes maxEntries (refused f p) = refused f p
+fitting n max_nodes max_entries (accepted es) =
+    if ltb max_nodes (nodes es) then refused 16 n
+    else if ltb max_entries (length es) then refused 16 n else accepted es
+fitting n max_nodes max_entries (refused f p) = refused f p
 
 -- with room for so many records and statements: `record_room` and `statement_room` of the lent slices
 unfoldable pub reading_in : Edition → Lists → ℕ → ℕ → List ℕ → Outcome
-reading_in e l maxNodes maxEntries bs = fitting (length (script bs)) maxNodes maxEntries (read_script e l bs)
+reading_in e l max_nodes max_entries bs = fitting (length (script bs)) max_nodes max_entries (read_script e l bs)
 
 -- ---- the edition by its number
 
@@ -123,4 +123,4 @@ number_of two = 2
 
 -- 26, at byte 0, for another edition number, before all others
 unfoldable pub reading : ℕ → Lists → ℕ → ℕ → List ℕ → Outcome
-reading n l maxNodes maxEntries bs = numbered n (refused 26 0) λ e. reading_in e l maxNodes maxEntries bs
+reading n l max_nodes max_entries bs = numbered n (refused 26 0) λ e. reading_in e l max_nodes max_entries bs

@@ -12,7 +12,7 @@ use Rattle.tokens.specs.Limits.{most_bytes}
 use Rattle.tokens.specs.Text.{if◌then◌else◌, script, leading, other, count}
 use Rattle.tokens.specs.Tokens.{tokens}
 use Rattle.tokens.specs.Names.{good_lists}
-use Rattle.tokens.specs.Places.{line as line_at, column as columnAt, since}
+use Rattle.tokens.specs.Places.{line as line_at, column as column_at, since}
 use Rattle.grammar.specs.Sizes.{most_records, most_statements}
 use Rattle.grammar.specs.Grammar.{one}
 use Rattle.grammar.specs.Script.{Outcome, accepted, refused, fitting, of_tokens, read_script, reading_in}
@@ -46,7 +46,7 @@ reading_long bs h = rw (lt-ltb most_bytes (length (script bs)) h)
 
 -- its lines are told by what was read, and by the bytes before a refusal
 lines_same : (cs bs : List ℕ) (R : Outcome) → ((k p : ℕ) → R ≡ refused k p → take p cs ≡ take p bs) → reading_lines cs R ≡ reading_lines bs R
-unfolding accepted_lines line_at columnAt
+unfolding accepted_lines line_at column_at
 lines_same cs bs (accepted es) h = refl
 lines_same cs bs (refused k p) h = λ i.
     answer_lines (record {

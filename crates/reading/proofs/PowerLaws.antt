@@ -18,7 +18,7 @@ use Rattle.grammar.proofs.Laws.{loop_eq}
 use Rattle.grammar.proofs.GivesLaws.{Gives, gives_ok}
 use Rattle.grammar.proofs.KindLaws.{Low}
 use Rattle.grammar.proofs.GrammarLaws.{Moves, raise_turn_law}
-use Rattle.grammar.proofs.SizeLaws.{Sized, moves_less, onto_size, held as heldSize}
+use Rattle.grammar.proofs.SizeLaws.{Sized, moves_less, onto_size, held as held_size}
 use Rattle.reading.specs.Rows.{rows, rows_of, put_all, put_rows, room}
 use Rattle.reading.specs.Meets.{language_in, toks_at, Holds, Room, Ready, Follows, string_at, Quoted, Reads}
 use Rattle.reading.specs.Joins.{Joins}
@@ -50,7 +50,7 @@ pub record Waits (p : Reader Tree) (t : List ℕ) (R : Out Tree) (n : ℕ) (o : 
   pub holds : Holds t c
 
 -- the records of a chain: those of the operands, and one more for each but the last
-held_all : (ls : List (ℕ × Tree)) → heldSize ls ≡ sizes (held ls) + length ls
+held_all : (ls : List (ℕ × Tree)) → held_size ls ≡ sizes (held ls) + length ls
 unfolding size
 held_all [] = refl
 held_all (l ∷ ls) = omega (arith, held_all ls, held_size_lem l ls)

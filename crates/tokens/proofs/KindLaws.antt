@@ -8,19 +8,19 @@ use lib.Dec.{eqb}
 use Rattle.tokens.specs.Text.{every}
 use Rattle.tokens.specs.Tokens.{signs, keywords, code}
 use Rattle.tokens.specs.Keys.{lookup}
-use Rattle.tokens.specs.Kinds.{code_of, kindBy, kind_of}
+use Rattle.tokens.specs.Kinds.{code_of, kind_by, kind_of}
 use Rattle.tokens.specs.declared.kinds.Kind.TheVariants.{Identifier, String as Text, Newline, Eof}
 
 -- each sign and each keyword is a kind, with the number that the definition gives it
 abbrev numbered : String × ℕ → Bool
-numbered e = eqb (code_of (kindBy e.1)) e.1
+numbered e = eqb (code_of (kind_by e.1)) e.1
 
 pub signs_numbered : every numbered signs ≡ true
-unfolding every kindBy lookup
+unfolding every kind_by lookup
 signs_numbered = refl
 
 pub keywords_numbered : every numbered keywords ≡ true
-unfolding every kindBy lookup
+unfolding every kind_by lookup
 keywords_numbered = refl
 
 -- and so is what is no sign and no keyword

@@ -14,7 +14,7 @@ use lib.Ieee.{Float}
 use Rattle.tokens.specs.Numbers.{number_fault, value_of}
 use Rattle.tokens.specs.Tokens.{Token, Lexeme, gap, piece, fault, word, numeral, quoted, sign, signs, keywords, entry, code, lexeme, Lexed, lexed, refused, before, taken, scan, counts, end_of}
 use Rattle.tokens.specs.Lexing.{lexeme_at, gap_width, final, mark_of, mark_from, mark_at, token_of, judged_by, summary, step_at}
-use Rattle.tokens.specs.Kinds.{kindBy}
+use Rattle.tokens.specs.Kinds.{kind_by}
 use Rattle.tokens.specs.declared.lexing.Mark.{Mark}
 use Rattle.tokens.specs.declared.kinds.Kind.{Kind}
 use Rattle.tokens.specs.declared.kinds.Kind.TheVariants.{Value}
@@ -291,7 +291,7 @@ module _ (s : List ℕ) (at : ℕ) (m : Mark) (is : m ≡ mark_at s at) where
   unfolding step_at
   step_number h x e = rw (← is, h, e)
 
-  pub step_other : m.code < 100 → (m.code ≡ 2 → ⊥) → (k : Kind) → k ≡ kindBy m.code
+  pub step_other : m.code < 100 → (m.code ≡ 2 → ⊥) → (k : Kind) → k ≡ kind_by m.code
       → found.Token (record { start = m.start; end = m.end; kind = k }) ≡ step_at s at
   unfolding step_at
   step_other h g k e = rw (← is, lt-leb 100 m.code h, ne_eqb m.code 2 g, e)

@@ -8,7 +8,7 @@ use lib.Dec.{eqb, leb}
 use lib.ListN.{length, get_or, drop}
 use borrow.Author.Tests.{eqb-true, eqb-false, leb-true, leb-false, lt-leb}
 use Rattle.tokens.specs.Tokens.{Token, Lexed, lexed, refused, before, final, finished, scan, tokens}
-use Rattle.tokens.specs.Kinds.{kind_of, kindBy}
+use Rattle.tokens.specs.Kinds.{kind_of, kind_by}
 use Rattle.tokens.specs.Lexing.{final as ended, mark_at, token_of, found_by, step_at}
 use Rattle.tokens.specs.Views.{passed, place_after, token_after}
 use Rattle.tokens.specs.declared.lexing.Mark.{Mark}
@@ -98,7 +98,7 @@ module _ (s : List ℕ) (at : ℕ) where
     unfolding step_at
     step_end =
         let q : length s ≡ length s + 0 = omega arith in
-        ap (found_by s) ((end_mark s at z).1 ∙ ap ended end_start) ∙ ap (λ (p : ℕ). found.Token (record { start = length s; end = p; kind = kindBy 0 })) q
+        ap (found_by s) ((end_mark s at z).1 ∙ ap ended end_start) ∙ ap (λ (p : ℕ). found.Token (record { start = length s; end = p; kind = kind_by 0 })) q
 
     agrees_end : (m k : ℕ) → Agrees (length s) m k (finished (length s) (scan 0 at (drop at s))) (step_at s (place_after s at k))
     agrees_end m k =
