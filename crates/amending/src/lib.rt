@@ -1,4 +1,6 @@
 // Amending: one statement of a script that was read is replaced.
+#![tactic(auto)]
+
 pub mod amending;
 mod grounds;
 pub mod held;

@@ -1,5 +1,7 @@
 // What C and Rust link: reading, amending, the lookup, and the calendar. Answers, places and days are words of 32 bits in
 // lent arrays.
+#![tactic(auto)]
+
 ghost use Rattle.std.specs.Prelude.{◌≡◌};
 ghost use Rattle.calendar.specs.Calendar.{dated, count_of, day_of};
 ghost use Rattle.reading.specs.Judging.{lists_in};

@@ -1,5 +1,7 @@
 // Lists what a script is read as. With no argument it lists standard input; with arguments it lists one file after the other,
 // and `-` stands for standard input. A program has no exit status: what fails is told on standard error.
+#![tactic(auto)]
+
 mod lines;
 mod listing;
 

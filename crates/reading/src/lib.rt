@@ -1,4 +1,6 @@
 // Reading: tokens as trees, trees as records.
+#![tactic(auto)]
+
 mod answers;
 mod assignments;
 mod atoms;

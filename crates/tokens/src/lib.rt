@@ -1,5 +1,7 @@
 // Tokens: what the bytes of a script are read as before any grammar, and what a reader of tokens leans on:
 // number literals, dates, lent lists of names, the line and column of a byte.
+#![tactic(auto)]
+
 pub mod codes;
 pub mod cursor;
 pub mod dates;

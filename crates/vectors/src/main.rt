@@ -3,6 +3,8 @@
 // word must be left as stored. A `part` is looked up: it must be found in the stored source, at the stored place, with the stored
 // length, and what is handed back must have these bytes.
 // Files behind the word `wrong:` have cases that are wrong on purpose. So what is written tells that each comparison can fail.
+#![tactic(auto)]
+
 mod calls;
 mod comparing;
 mod fields;
