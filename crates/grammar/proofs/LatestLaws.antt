@@ -146,6 +146,7 @@ mutual
   latest_greatest (node k p s f ts) x (below h) = omega (arith, node_latest k p s f ts, latest_greatest_of ts x h)
 
   latest_greatest_of : (ts : Trees) (x : ℕ) → HasPart x ts → x ≤ in_trees ts
+  latest_greatest_of nil x h = elim h [ ]
   latest_greatest_of (t ▹ ts) x (this h) = omega (arith, more_latest t ts, latest_greatest t x h)
   latest_greatest_of (t ▹ ts) x (other p) = omega (arith, more_latest t ts, latest_greatest_of ts x p)
 
@@ -167,6 +168,7 @@ mutual
 -- each entry's is at most the script's
 pub latest_of_each : (r : Row) (rs : List Row) → Memᴰ r rs → r.latest ≤ latest_of rs
 unfolding latest_of
+latest_of_each r [] m = elim m [ ]
 latest_of_each r (s ∷ rs) (Memᴰ.head e) = omega (arith, ap (λ (x : Row). x.latest) e)
 latest_of_each r (s ∷ rs) (Memᴰ.tail m) = omega (arith, latest_of_each r rs m)
 

@@ -180,10 +180,11 @@ lead (t ∷ ts) = elim (is "Newline" t) [ true ↦ t ∷ lead ts | false ↦ [] 
 pub lead_skip : (ts : List Token) → ts ≡ lead ts ++ skip ts
 unfolding lead skip
 lead_skip [] = refl
-lead_skip (t ∷ ts) =
-    let go : (b : Bool) → t ∷ ts ≡ (elim b as (λ _. List Token) [ true ↦ t ∷ lead ts | false ↦ [] ]) ++ (elim b as (λ _. List Token) [ true ↦ skip ts | false ↦ t ∷ ts ])
-    = λ b. elim b [ true ↦ ap {B = List Token} (λ l. t ∷ l) (lead_skip ts) | false ↦ refl ] in
-    go (is "Newline" t)
+lead_skip (t ∷ ts) = go (is "Newline" t) (lead_skip ts)
+  where
+    go : (b : Bool) → ts ≡ lead ts ++ skip ts → t ∷ ts ≡ (elim b as (λ _. List Token) [ true ↦ t ∷ lead ts | false ↦ [] ]) ++ (elim b as (λ _. List Token) [ true ↦ skip ts | false ↦ t ∷ ts ])
+    go true h = ap {B = List Token} (λ l. t ∷ l) h
+    go false h = refl
 
 -- in front of r the newlines are skipped
 pub skip_lead : (ts r : List Token) → skip (lead ts ++ r) ≡ skip r

@@ -104,7 +104,7 @@ module _ (t : List ℕ) (at : ℕ) where
             let z : ts ≡ [] = cc (scan_end t at k) in
             over k h (ap (λ (m : Mark). m.end) q) z
         go (token κ n h p q) =
-            let some : M.code ≡ 0 → ⊥ = λ z. omega (arith, z, ap (λ (m : Mark). m.code) q, (subst (Sound _ _) p (sound (get_or t M.start 0) (drop (M.start + 1) t))).1) in
+            let some : M.code ≡ 0 → ⊥ = λ z. omega (arith, z, ap (λ (m : Mark). m.code) q, (subst (Sound (get_or t M.start 0) (drop (M.start + 1) t)) p (sound (get_or t M.start 0) (drop (M.start + 1) t))).1) in
             behind some (scan 0 M.end (drop M.end t)) refl (scan_token t at some whole)
         go (bad f h p q) = absurd (omega (arith, whole, ap (λ (m : Mark). m.code) q))
 

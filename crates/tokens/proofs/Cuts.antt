@@ -10,9 +10,9 @@ use lib.Dec.{T, leb, ltb, eqb}
 use lib.Seq.{take-append-le}
 use borrow.Author.Tests.{lt-ltb, eqb-true, leb-true}
 use lib.ListN.{length, take}
-use Rattle.tokens.specs.Text.{if◌then◌else◌, bytes, same, begins, leading, letter, digit, name_byte, number_byte, blank, every}
+use Rattle.tokens.specs.Text.{if◌then◌else◌, bytes, begins, leading, letter, digit, name_byte, number_byte, blank, every}
 use Rattle.tokens.specs.Numbers.{number_fault}
-use Rattle.tokens.specs.Tokens.{Token, Lexeme, gap, piece, fault, word, numeral, quoted, sign, signs, entry, cut, lexeme, Lexed, lexed, refused, before, taken, scan, tokens}
+use Rattle.tokens.specs.Tokens.{Token, Lexeme, gap, piece, fault, word, numeral, quoted, sign, signs, entry, cut, lexeme, Lexed, lexed, refused, before, taken, scan}
 use Rattle.tokens.proofs.Joins.{width, Joint, over, rest, here, joint_le, body, word_width, numeral_width, sign_stays}
 
 -- ---- further on

@@ -12,7 +12,7 @@ use borrow.Author.Tests.{eq-eqb, ne_eqb, eqb-true, eqb-false, lt-ltb, ltb-true, 
 use lib.ListN.{length, get_or, take, drop, length-take, length-drop, drop_of_length-le, get_or-eq_default}
 use lib.Seq.{drop-cons, get_or-take, get_or-drop}
 use Rattle.tokens.specs.Text.{if◌then◌else◌, bytes, same, begins, every}
-use Rattle.tokens.specs.Tokens.{entry, pairs, lones, signs, keywords, piece, fault, word, sign}
+use Rattle.tokens.specs.Tokens.{entry, pairs, lones, keywords, piece, fault, word, sign}
 use Rattle.tokens.specs.Keys.{pack, lookup, keyed, key_of, keyword_by, pair_by, first_byte, lone_by}
 use Rattle.tokens.proofs.Shapes.{entry_found, entry_every, begins_le, same_eq, same_not}
 use Rattle.tokens.proofs.NameLaws.{and_true_both}

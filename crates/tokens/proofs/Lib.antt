@@ -25,6 +25,3 @@ pub mod ScanLaws
 pub mod CursorLaws
 pub mod KindLaws
 pub mod ViewLaws
-pub mod ViewOwns
-pub mod Walking
-pub mod ViewCalls

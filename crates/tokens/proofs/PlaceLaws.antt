@@ -49,7 +49,7 @@ line_whole s at i e = rw (e, take_min at s)
 since_join : (k : ℕ) (xs ys : List ℕ) → since k (xs ++ ys) ≡ since (since k xs) ys
 unfolding since
 since_join k [] ys = refl
-since_join k (b ∷ xs) ys = since_join _ xs ys
+since_join k (b ∷ xs) ys = since_join (if eqb 10 b then 0 else (if continuation b then k else suc k)) xs ys
 
 -- c is the column behind a text without a line feed, whatever was counted before it
 abbrev pub Ends : List ℕ → ℕ → Type 0

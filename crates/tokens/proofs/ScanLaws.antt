@@ -163,7 +163,7 @@ module _ (s : List ℕ) (at : ℕ) where
     where
       go : Stands s N → (length s ≤ N.start) × (N ≡ final N.start)
       go (over h q) = (h, q)
-      go (token κ n h e q) = absurd (omega (arith, z, ap (λ (m : Mark). m.code) q, (subst (Sound _ _) e (sound (get_or s N.start 0) (drop (N.start + 1) s))).1))
+      go (token κ n h e q) = absurd (omega (arith, z, ap (λ (m : Mark). m.code) q, (subst (Sound (get_or s N.start 0) (drop (N.start + 1) s)) e (sound (get_or s N.start 0) (drop (N.start + 1) s))).1))
       go (faulty f h e q) = absurd (omega (arith, z, ap (λ (m : Mark). m.code) q))
 
   -- at the end there is no token

@@ -12,7 +12,7 @@ use lib.ListN.{length, take, drop, length-append}
 use Rattle.tokens.specs.Text.{if◌then◌else◌, bytes, same, begins, leading, letter, digit, name_byte, number_byte, blank, every, count}
 use Rattle.tokens.specs.Limits.{most_digits, most_decimals}
 use Rattle.tokens.specs.Numbers.{digits, decimals, number_fault}
-use Rattle.tokens.specs.Tokens.{Token, Lexeme, gap, piece, fault, word, numeral, quoted, sign, signs, keywords, entry, code, cut, lexeme, Lexed, lexed, refused, before, taken, scan, tokens}
+use Rattle.tokens.specs.Tokens.{Token, Lexeme, gap, piece, fault, word, numeral, quoted, sign, signs, keywords, entry, code, lexeme, Lexed, lexed, refused, before, taken, scan}
 use Rattle.tokens.proofs.Joins.{width, firm, body}
 use Rattle.tokens.proofs.Cuts.{Wide, lexeme_wide, Start, token_start}
 
