@@ -8,7 +8,7 @@ use crate::lexing::lex;
 
 // The token that stands at the cursor, Newlines aside: its first byte, the byte past its last, its code, and whether a
 // Newline stands before it. With it how many tokens were taken before, and the end of the last of them.
-#[derive(Drop)]
+#[derive(Clone, Copy)]
 pub struct Cursor {
     pub start: u16,
     pub end: u16,
