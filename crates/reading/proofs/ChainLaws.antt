@@ -9,7 +9,7 @@ use lib.ListN.{length}
 use Rattle.tokens.specs.Tokens.{Token, code}
 use Rattle.tokens.specs.declared.cursor.Cursor.{Cursor}
 use Rattle.grammar.specs.Trees.{Tree, none as unused, size, row}
-use Rattle.grammar.specs.Readers.{Out, ok, refused, Reader, bind, ◌>>=◌, again, follow, turns, loop, first, is, give, ask, peek, read}
+use Rattle.grammar.specs.Readers.{Out, ok, refused, Reader, bind, ◌>>=◌, again, follow, turns, loop, first, is, give, ask, peek}
 use Rattle.grammar.specs.Grammar.{Language, binary, group_turn, grouped, sum, comparison, expression, primary}
 use Rattle.reading.specs.Rows.{rows, put_row, put_rows}
 use Rattle.reading.specs.Meets.{language_in, toks_at, token_at, Holds, Room, Ready, Follows, string_at, Quoted, Reads}

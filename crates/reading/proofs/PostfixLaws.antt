@@ -13,7 +13,7 @@ use Rattle.tokens.specs.Names.{member}
 use Rattle.tokens.specs.Tokens.{Token, code, final}
 use Rattle.tokens.specs.declared.cursor.Cursor.{Cursor}
 use Rattle.grammar.specs.Trees.{Tree, Trees, node, nil, ◌▹◌, fields, none as unused, parts, row}
-use Rattle.grammar.specs.Readers.{Out, ok, refused, Reader, bind, ◌>>=◌, ◌>>◌, Turn, again, done, follow, loop, is, give, fail, fail_at, read, the}
+use Rattle.grammar.specs.Readers.{Out, ok, refused, Reader, bind, ◌>>=◌, ◌>>◌, Turn, again, done, follow, loop, give, fail, fail_at, read, the}
 use Rattle.grammar.specs.Grammar.{Language, binary, deeper, expression, arguments, method, method_of, index_of, postfix_turn, postfixes, calls, call_of, call, named, variable, name, spot, df, rate_index, currency_of, a_currency, equity, pair, primary}
 use Rattle.reading.specs.Rows.{put_row}
 use Rattle.reading.specs.Calls.{call_kind, method_kind}

@@ -12,7 +12,7 @@ use Rattle.tokens.specs.Tokens.{code}
 use Rattle.tokens.specs.declared.cursor.Cursor.{Cursor}
 use Rattle.grammar.specs.Sizes.{record_width}
 use Rattle.grammar.specs.Trees.{Tree, kind_of, size, sizes}
-use Rattle.grammar.specs.Readers.{Out, ok, refused, Reader, bind, ◌>>=◌, ◌>>◌, again, follow, loop, is, give}
+use Rattle.grammar.specs.Readers.{Out, ok, refused, Reader, bind, ◌>>=◌, again, follow, loop, is, give}
 use Rattle.grammar.specs.Grammar.{binary, chain, grouped, onto, raise_turn, raised, power, signed}
 use Rattle.grammar.proofs.Laws.{loop_eq}
 use Rattle.grammar.proofs.GivesLaws.{Gives, gives_ok}

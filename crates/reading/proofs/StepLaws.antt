@@ -18,7 +18,7 @@ use Rattle.tokens.specs.Lexing.{advanced}
 use Rattle.tokens.specs.Tokens.{Token, code}
 use Rattle.tokens.specs.declared.cursor.Cursor.{Cursor}
 use Rattle.grammar.specs.Trees.{Tree, node, nil, ◌▹◌, fields, none as unused, row}
-use Rattle.grammar.specs.Readers.{Out, ok, refused, Reader, bind, ◌>>=◌, ◌>>◌, second as second_of, is, give, fail_at, ask, look, peek, read, the}
+use Rattle.grammar.specs.Readers.{Out, ok, refused, Reader, bind, ◌>>=◌, ◌>>◌, second as second_of, give, fail_at, ask, look, peek, read, the}
 use Rattle.grammar.specs.Grammar.{call_of, Language, binary, chain, deeper, comparison, expression, in_edition, lone, power, signed, minus, negative, parenthesis, pays, name, primary_over, primary}
 use Rattle.reading.specs.Rows.{put_row, node_row}
 use Rattle.reading.specs.Joins.{Joins}

@@ -6,7 +6,7 @@ use Rattle.tokens.specs.Dates.{date}
 use Rattle.tokens.specs.Tokens.{Token}
 use Rattle.tokens.specs.Keys.{pack, lookup, keyed}
 use Rattle.grammar.specs.Trees.{Tree}
-use Rattle.grammar.specs.Readers.{Reader, ◌>>=◌, ◌>>◌, ask, give, the}
+use Rattle.grammar.specs.Readers.{Reader, ◌>>◌, ask, give, the}
 use Rattle.grammar.specs.Grammar.{calls, call_of, content}
 use Rattle.reading.specs.Meets.{the_by}
 

@@ -1,0 +1,24 @@
+-- A name that is not reserved is a variable.
+use mathlib.Core.Path.{sym, ◌∙◌}
+use native.Mathlib.Omega.{arith}
+use Rattle.reading.proofs.HoldLaws.{start_in, end_in}
+use Rattle.reading.proofs.AtomLaws.{named_not, variable_reads}
+use Rattle.reading.proofs.atoms.variable_at.Goals as goal
+
+pub slice_bounds-place_in-count : goal.slice_bounds-place_in-count
+slice_bounds-place_in-count c = omega (arith, start_in c.requires.0.0)
+
+pub slice_bounds-place_in-start : goal.slice_bounds-place_in-start
+slice_bounds-place_in-start c = omega (arith, start_in c.requires.0.0, end_in c.requires.0.0)
+
+pub slice_bounds-place_in-end : goal.slice_bounds-place_in-end
+slice_bounds-place_in-end c = omega (arith, start_in c.requires.0.0, end_in c.requires.0.0)
+
+pub returns-then-place_in-ne0 : goal.returns-then-place_in-ne0
+returns-then-place_in-ne0 c = named_not _ c.requires.0.0 (λ z. c.if-place_in-ne0.true (c.place_in.ensures ∙ z)) _
+
+pub overflow_sub-c : goal.overflow_sub-c
+overflow_sub-c c = omega (arith, start_in c.requires.0.0)
+
+pub returns : goal.returns
+returns c = variable_reads _ c.requires.0.0 c.requires.1 (sym c.place_in.ensures ∙ c.if-place_in-ne0.false) c.put.ensures

@@ -1,0 +1,123 @@
+-- The readers of expressions, which call one another: each meets the reader of its level.
+use Prim.Native.Nat.{ℕ, ◌<◌, ◌+◌, ◌*◌, ◌-◌}
+use lib.ListN.{length}
+use Rattle.reading.specs.Meets.{toks_at, language_in, Ready}
+use mathlib.Core.List.{List}
+use mathlib.Core.Path.{◌≡◌}
+use Rattle.grammar.specs.Trees.{Tree}
+use Rattle.grammar.specs.Readers.{Out}
+use Rattle.grammar.specs.Grammar as G
+use Rattle.reading.proofs.StepLaws.{Compares}
+use Rattle.reading.proofs.PowerLaws.{Powers}
+use Rattle.reading.proofs.ChainLaws.{plus_or_minus, times_or_by, tighter, looser, Nests, Pending}
+use Rattle.reading.specs.Signs.{tighter_sign, looser_sign, sum_sign, product_sign}
+use Rattle.reading.specs.Turns.{power_at, product_or, sum_or, comparison_or, expression_or, items_by, inner}
+use Rattle.reading.proofs.ItemLaws.{ItemChain, PayChain}
+use Rattle.grammar.specs.Grammar.{primary as primaryG, method_of, index_of, postfix_turn}
+use Rattle.reading.proofs.PostfixLaws.{PostChain}
+use Rattle.reading.proofs.expressions.+arguments_call_comparison_expression_index_items_list_method_minus_name_parenthesis_pays_postfix_postfixes_power_primary_product_signed_sum.Given as goal
+
+abbrev pub decreases-arguments : goal.decreases-arguments
+decreases-arguments l = 32 * l.depth + 0
+
+abbrev pub decreases-call : goal.decreases-call
+decreases-call l = 32 * l.depth + 3
+
+abbrev pub decreases-comparison : goal.decreases-comparison
+decreases-comparison l = 32 * l.depth + 9
+
+abbrev pub decreases-expression : goal.decreases-expression
+decreases-expression l = 32 * l.depth + 10
+
+abbrev pub decreases-index : goal.decreases-index
+decreases-index l = 32 * l.depth + 12
+
+abbrev pub decreases-items : goal.decreases-items
+decreases-items l = 32 * l.depth + 11
+
+abbrev pub decreases-list : goal.decreases-list
+decreases-list l = 32 * l.depth + 4
+
+abbrev pub decreases-method : goal.decreases-method
+decreases-method l = 32 * l.depth + 1
+
+abbrev pub decreases-minus : goal.decreases-minus
+decreases-minus l = 32 * l.depth + 4
+
+abbrev pub decreases-name : goal.decreases-name
+decreases-name l = 32 * l.depth + 4
+
+abbrev pub decreases-parenthesis : goal.decreases-parenthesis
+decreases-parenthesis l = 32 * l.depth + 4
+
+abbrev pub decreases-pays : goal.decreases-pays
+decreases-pays l = 32 * l.depth + 4
+
+abbrev pub decreases-postfix : goal.decreases-postfix
+decreases-postfix l = 32 * l.depth + 2
+
+abbrev pub decreases-postfixes : goal.decreases-postfixes
+decreases-postfixes l = 32 * l.depth + 3
+
+abbrev pub decreases-power : goal.decreases-power
+decreases-power l = 32 * l.depth + 6
+
+abbrev pub decreases-primary : goal.decreases-primary
+decreases-primary l = 32 * l.depth + 5
+
+abbrev pub decreases-product : goal.decreases-product
+decreases-product l = 32 * l.depth + 7
+
+abbrev pub decreases-signed : goal.decreases-signed
+decreases-signed l = 32 * l.depth + 13
+
+abbrev pub decreases-sum : goal.decreases-sum
+decreases-sum l = 32 * l.depth + 8
+
+abbrev pub invariant-comparison-loop-c1 : goal.invariant-comparison-loop-c1
+invariant-comparison-loop-c1 l = (length l.out ≡ length l.initial.out) × Compares l.alone (sum_or l.alone (language_in l.two l.reserved l.currencies l.counters) l.depth) l.s l.initial.at l.n l.initial.out l.sign l.at l.m l.out
+
+abbrev pub decreases-comparison-loop-c1 : goal.decreases-comparison-loop-c1
+decreases-comparison-loop-c1 l = 1 - l.sign
+
+abbrev pub invariant-expression-loop-c1 : goal.invariant-expression-loop-c1
+invariant-expression-loop-c1 l = (length l.out ≡ length l.initial.out) × Nests (looser l.two l.alone) (tighter l.two l.alone) (looser_sign l.two l.alone) (tighter_sign l.two l.alone) (comparison_or l.alone (language_in l.two l.reserved l.currencies l.counters) l.depth) l.s l.initial.at.start (expression_or l.alone (language_in l.two l.reserved l.currencies l.counters) l.depth (toks_at l.s l.initial.at.start)) l.n l.initial.out l.sign l.tight l.from l.place l.at l.m l.out
+
+abbrev pub decreases-expression-loop-c1 : goal.decreases-expression-loop-c1
+decreases-expression-loop-c1 l = length (toks_at l.s l.at.start)
+
+abbrev pub invariant-items-loop-at : goal.invariant-items-loop-at
+invariant-items-loop-at l = (length l.out ≡ length l.initial.out) × ItemChain (language_in l.two l.reserved l.currencies l.counters) l.close (G.primary (language_in l.two l.reserved l.currencies l.counters) l.depth) l.s (items_by (language_in l.two l.reserved l.currencies l.counters) l.close (G.primary (language_in l.two l.reserved l.currencies l.counters) l.depth) (toks_at l.s l.initial.at.start)) l.n l.initial.out l.at l.m l.count l.texts l.out
+
+abbrev pub decreases-items-loop-at : goal.decreases-items-loop-at
+decreases-items-loop-at l = length (toks_at l.s l.at.start)
+
+abbrev pub invariant-pays-loop-out : goal.invariant-pays-loop-out
+invariant-pays-loop-out l = (length l.out ≡ length l.initial.out) × PayChain (language_in l.two l.reserved l.currencies l.counters) (G.primary (language_in l.two l.reserved l.currencies l.counters) (l.depth - 1)) l.s (G.payments (language_in l.two l.reserved l.currencies l.counters) (G.primary (language_in l.two l.reserved l.currencies l.counters) (l.depth - 1)) (toks_at l.s l.initial.at.start)) l.n l.initial.out l.at l.m l.count l.out
+
+abbrev pub decreases-pays-loop-out : goal.decreases-pays-loop-out
+decreases-pays-loop-out l = length (toks_at l.s l.at.start)
+
+abbrev pub invariant-postfixes-loop-at : goal.invariant-postfixes-loop-at
+invariant-postfixes-loop-at l = (length l.out ≡ length l.initial.out) × Ready l.s l.at l.k × (l.n < l.k) × ((R : Out Tree) (o : List ℕ) → PostChain (language_in l.two l.reserved l.currencies l.counters) (inner (language_in l.two l.reserved l.currencies l.counters) l.depth) l.place l.s R l.n o l.initial.at l.initial.k l.initial.out → PostChain (language_in l.two l.reserved l.currencies l.counters) (inner (language_in l.two l.reserved l.currencies l.counters) l.depth) l.place l.s R l.n o l.at l.k l.out)
+
+abbrev pub decreases-postfixes-loop-at : goal.decreases-postfixes-loop-at
+decreases-postfixes-loop-at l = length (toks_at l.s l.at.start)
+
+abbrev pub invariant-power-loop-c1 : goal.invariant-power-loop-c1
+invariant-power-loop-c1 l = (length l.out ≡ length l.initial.out) × Powers l.two (G.primary (language_in l.two l.reserved l.currencies l.counters) l.depth) l.s l.initial.at.start (power_at (language_in l.two l.reserved l.currencies l.counters) l.depth (toks_at l.s l.initial.at.start)) l.n l.initial.out l.count l.fits l.at l.m l.out
+
+abbrev pub decreases-power-loop-c1 : goal.decreases-power-loop-c1
+decreases-power-loop-c1 l = length (toks_at l.s l.at.start)
+
+abbrev pub invariant-product-loop-c1 : goal.invariant-product-loop-c1
+invariant-product-loop-c1 l = (length l.out ≡ length l.initial.out) × Pending (times_or_by l.alone) (product_sign l.alone) (power_at (language_in l.two l.reserved l.currencies l.counters) l.depth) l.s l.initial.at.start (product_or l.alone (language_in l.two l.reserved l.currencies l.counters) l.depth (toks_at l.s l.initial.at.start)) l.n l.initial.out l.sign l.at l.m l.out
+
+abbrev pub decreases-product-loop-c1 : goal.decreases-product-loop-c1
+decreases-product-loop-c1 l = length (toks_at l.s l.at.start)
+
+abbrev pub invariant-sum-loop-c1 : goal.invariant-sum-loop-c1
+invariant-sum-loop-c1 l = (length l.out ≡ length l.initial.out) × Pending (plus_or_minus l.alone) (sum_sign l.alone) (product_or l.alone (language_in l.two l.reserved l.currencies l.counters) l.depth) l.s l.initial.at.start (sum_or l.alone (language_in l.two l.reserved l.currencies l.counters) l.depth (toks_at l.s l.initial.at.start)) l.n l.initial.out l.sign l.at l.m l.out
+
+abbrev pub decreases-sum-loop-c1 : goal.decreases-sum-loop-c1
+decreases-sum-loop-c1 l = length (toks_at l.s l.at.start)

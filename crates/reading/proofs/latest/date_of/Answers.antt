@@ -1,0 +1,21 @@
+-- Each kind has its dates.
+use borrow.Author.Tests.{ne_eqb}
+use Rattle.reading.proofs.latest.date_of.Goals as goal
+
+pub returns-in-32 : goal.returns-in-32
+returns-in-32 c = rw c.in-32.is
+
+pub returns-in-33 : goal.returns-in-33
+returns-in-33 c = rw c.in-33.is
+
+pub returns-in-34 : goal.returns-in-34
+returns-in-34 c = rw c.in-34.is
+
+pub returns-in-35 : goal.returns-in-35
+returns-in-35 c = rw c.in-35.is c.later.ensures
+
+pub returns-in-36 : goal.returns-in-36
+returns-in-36 c = rw c.in-36.is
+
+pub returns-in_default : goal.returns-in_default
+returns-in_default c = simp (ne_eqb _ _ c.in_default.in_default-own.rest.0.0.0.0.1, ne_eqb _ _ c.in_default.in_default-own.rest.0.0.0.1, ne_eqb _ _ c.in_default.in_default-own.rest.0.0.1, ne_eqb _ _ c.in_default.in_default-own.rest.0.1, ne_eqb _ _ c.in_default.in_default-own.rest.1)
