@@ -15,9 +15,8 @@ use reading::rooms::{MOST_RECORDS, RECORD_WIDTH};
 use std::env::{Env, FillError};
 use std::fmt::Display;
 use std::fs::File;
-use std::io;
 use std::io::Read;
-use std::str;
+use std::{io, str};
 use tokens::text::equal;
 
 // One byte more than a script may have: enough to tell that it is too long.

@@ -20,5 +20,5 @@ returns-clause-lists g c = lists _ _ _ c.in_ok-came.ensures.within c.list-lines.
 
 pub returns-clause-known : goal.returns-clause-known
 returns-clause-known g c =
-    let l = lists c.take_input.new.out c.args.text.now c.list-lines.new.text c.in_ok-came.ensures.within c.list-lines.ensures in
-    told _ _ c.in_ok-came.came c.take_input.new.out (λ input. take c.list-lines.result c.list-lines.new.text ≡ listing input) (search rules) l.came.0 c.in_ok-came.ensures.taken l.lines
+    let l = lists c.take_input.new.out c.args.text.now c.list-lines.new.out c.in_ok-came.ensures.within c.list-lines.ensures in
+    told _ _ c.in_ok-came.came c.take_input.new.out (λ input. take c.list-lines.result c.list-lines.new.out ≡ listing input) (search rules) l.came.0 c.in_ok-came.ensures.taken l.lines
