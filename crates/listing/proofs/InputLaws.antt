@@ -1,7 +1,7 @@
 -- What reads of known bytes bring, and what it tells of an input.
-use Rattle.std.proofs.Common.{◌≡◌, ℕ, ◌+◌, ◌<◌, ◌≤◌, List, ◌++◌, length, take, drop, None, Some, IfSome, refl, sym, ap, ◌∙◌, subst, Bool, true, false, ltb, arith, le_refl, drop_at, length-take-le, take_all, append-nil, append_assoc}
+use Rattle.std.proofs.Common.{◌≡◌, ℕ, ◌+◌, ◌≤◌, List, ◌++◌, length, take, drop, None, Some, IfSome, refl, sym, ap, ◌∙◌, subst, Bool, true, false, ltb, arith, le_refl, drop_at, length-take-le, take_all, append-nil, append_assoc}
 use Rattle.std.specs.Prelude.{Option}
-use Rattle.std.specs.Io.KnownBytes.{Consumes, IsAtEnd}
+use Rattle.std.specs.Io.KnownBytes.{Consumes}
 use Rattle.std.proofs.lemmas.Slice.{take-put_mid_below}
 use borrow.Author.Tests.{ltb-true, ltb-false}
 use borrow.Rule.Slice.PartMut.{put_mid, post_of}

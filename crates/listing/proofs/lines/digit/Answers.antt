@@ -1,5 +1,4 @@
 -- Both answers are the digit's glyph, by the same test.
-use borrow.Author.Rules.{rules}
 use borrow.Author.Tests.{lt-ltb, le-ltb}
 use Rattle.listing.proofs.lines.digit.Goals as goal
 

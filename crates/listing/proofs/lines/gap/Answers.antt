@@ -1,5 +1,4 @@
 -- A number that is not 0 is one more than another.
-use borrow.Author.Rules.{rules}
 use Rattle.listing.proofs.LineLaws.{gap_more}
 use Rattle.listing.proofs.lines.gap.Goals as goal
 

@@ -1,12 +1,12 @@
 -- What stands in memory and the rest of the line make the whole line, and the words that are left fall.
 use mathlib.Core.Path.{sym, ap, ◌∙◌}
 use mathlib.Core.List.{[], ◌∷◌, ◌++◌}
-use Prim.Native.Nat.{ℕ, ◌+◌, ◌-◌, ◌≤◌}
+use Prim.Native.Nat.{ℕ, ◌+◌}
 use native.Mathlib.Omega.{arith}
-use lib.ListN.{length, drop, get_or}
+use lib.ListN.{drop, get_or}
 use borrow.Author.Rules.{rules}
 use Rattle.listing.specs.Lines.{word, line}
-use Rattle.listing.proofs.LineLaws.{Going, going_start, going_on, going_end, put_two, word_length, line_room, line_more, line_done}
+use Rattle.listing.proofs.LineLaws.{going_start, going_on, going_end, put_two, word_length, line_room, line_more, line_done}
 use Rattle.listing.proofs.lines.put_line.Goals as goal
 
 pub loop-i-init : goal.loop-i-init

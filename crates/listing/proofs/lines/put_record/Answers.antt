@@ -1,8 +1,7 @@
 -- The words that are copied are the first of the record, and those that are left fall.
-use mathlib.Core.Path.{◌≡◌, refl, ◌∙◌}
-use Prim.Native.Nat.{◌-◌, ◌≤◌}
+use mathlib.Core.Path.{refl, ◌∙◌}
 use native.Mathlib.Omega.{arith}
-use lib.ListN.{length, take, drop, length-set}
+use lib.ListN.{length-set}
 use borrow.Author.Rules.{rules}
 use Rattle.grammar.specs.Sizes.{record_width}
 use Rattle.listing.proofs.LineLaws.{copied_on, copied_all}

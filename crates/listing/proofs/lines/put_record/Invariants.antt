@@ -1,11 +1,8 @@
 -- The words that are copied are the first of the record, and those that are left fall.
-use mathlib.Core.Path.{◌≡◌, refl, ◌∙◌}
+use mathlib.Core.Path.{◌≡◌}
 use Prim.Native.Nat.{◌-◌, ◌≤◌}
-use native.Mathlib.Omega.{arith}
-use lib.ListN.{length, take, drop, length-set}
-use borrow.Author.Rules.{rules}
+use lib.ListN.{length, take, drop}
 use Rattle.grammar.specs.Sizes.{record_width}
-use Rattle.listing.proofs.LineLaws.{copied_on, copied_all}
 use Rattle.listing.proofs.lines.put_record.Given as goal
 
 abbrev pub invariant-loop-i : goal.invariant-loop-i

@@ -1,10 +1,6 @@
 -- What stands in memory and the lines of the records that are left make all the lines, and the records that are left fall.
-use Prim.Native.Nat.{◌*◌, ◌-◌, ◌≤◌}
-use lib.ListN.{drop}
 use borrow.Author.Rules.{rules}
-use Rattle.grammar.specs.Sizes.{record_width}
-use Rattle.listing.specs.Lines.{record_lines}
-use Rattle.listing.proofs.LineLaws.{Going, going_on, going_end, records_room, records_start, records_more, records_done}
+use Rattle.listing.proofs.LineLaws.{going_on, going_end, records_room, records_start, records_more, records_done}
 use Rattle.listing.proofs.lines.put_records.Goals as goal
 
 pub loop-i-init : goal.loop-i-init

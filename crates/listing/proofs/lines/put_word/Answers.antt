@@ -1,12 +1,10 @@
 -- The digits that are put are the last of the word, those that are left are digits of the rest, and the bytes before are as they were.
-use mathlib.Core.Path.{◌≡◌, refl, ◌∙◌}
-use mathlib.Core.List.{◌++◌}
-use Prim.Native.Nat.{◌+◌, ◌-◌, ◌≤◌}
+use mathlib.Core.Path.{refl, ◌∙◌}
+use Prim.Native.Nat.{◌+◌, ◌-◌}
 use native.Mathlib.Omega.{arith}
-use lib.ListN.{length, take, drop, length-set}
+use lib.ListN.{drop, length-set}
 use lib.Seq.{take-set-le}
 use borrow.Author.Rules.{rules}
-use Rattle.listing.specs.Lines.{last_digits, word}
 use Rattle.listing.proofs.LineLaws.{word_start, word_turn, word_end}
 use Rattle.listing.proofs.lines.put_word.Goals as goal
 

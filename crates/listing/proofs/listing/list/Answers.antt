@@ -3,7 +3,6 @@ use mathlib.Core.Path.{◌≡◌}
 use Prim.Native.Nat.{ℕ, ◌*◌}
 use native.Mathlib.Omega.{arith}
 use lib.ListN.{length, replicate, length-replicate}
-use borrow.Author.Rules.{rules}
 use Rattle.grammar.specs.Sizes.{record_width, entry_width, most_records, most_statements}
 use Rattle.listing.proofs.ListingLaws.{records_few, listed_accepted, listed_refused}
 use Rattle.listing.proofs.listing.list.Goals as goal
