@@ -9,6 +9,7 @@ use crate::report::{say_part, say_place};
 use crate::state::{CURRENCIES_SIZE, SCRIPT_SIZE, State, held};
 use reading::parts::{Place, part, place_of};
 use reading::rooms::RECORD_WIDTH;
+use std::io::Stdout;
 use tokens::text::equal;
 
 // Whether a part begins at this place of this source, and is so long.
@@ -44,6 +45,7 @@ fn record_in(words: &[u32]) -> &[u32] {
 
 // Runs the lookup by numbers, and compares.
 fn is_found(
+    out: Stdout,
     script: &[u8],
     currencies: &[u8],
     record: &[u32],
@@ -57,13 +59,14 @@ fn is_found(
     if is_placed(found, in_list, place, size) {
         return true;
     }
-    say_place(found);
+    say_place(out, found);
     false
 }
 
 // Runs the lookup that hands back a slice, and compares the bytes. Where they begin no run can tell, since the language
 // compares no addresses: the contract of `part` ties that to the lookup by numbers.
 fn is_handed_back<'a>(
+    out: Stdout,
     script: &'a [u8],
     currencies: &'a [u8],
     record: &[u32],
@@ -80,13 +83,14 @@ fn is_handed_back<'a>(
         is_part(given, script, place, size)
     };
     if !same {
-        say_part(given);
+        say_part(out, given);
     }
     same
 }
 
 // Runs both, and each tells of what differs.
 fn is_stored<'a>(
+    out: Stdout,
     script: &'a [u8],
     currencies: &'a [u8],
     record: &[u32],
@@ -97,9 +101,11 @@ fn is_stored<'a>(
     size: usize,
 ) -> bool {
     let found = is_found(
+        out,
         script, currencies, record, start, second, in_list, place, size,
     );
     let same = is_handed_back(
+        out,
         script, currencies, record, start, second, in_list, place, size,
     );
     found && same
@@ -112,6 +118,7 @@ fn is_asked(which: usize, source: &[u8]) -> bool {
 
 // Looks up the name `which` of the record that words begin with, and compares.
 fn look_up<'a>(
+    out: Stdout,
     script: &'a [u8],
     currencies: &'a [u8],
     words: &Words,
@@ -129,6 +136,7 @@ fn look_up<'a>(
     }
     let in_list = equal(source, b"c ");
     if is_stored(
+        out,
         script,
         currencies,
         record_in(words),
@@ -145,6 +153,7 @@ fn look_up<'a>(
 
 // Takes a line that asks for a part: the words of a record, its statement's start, which name, and the part that is expected.
 pub fn take_part<'a>(
+    out: Stdout,
     s: &[u8],
     at: usize,
     end: usize,
@@ -172,6 +181,7 @@ pub fn take_part<'a>(
         return MALFORMED;
     }
     look_up(
+        out,
         front(front(script, state[SCRIPT_SIZE]), held(state).bytes),
         front(currencies, state[CURRENCIES_SIZE]),
         &words,
