@@ -24,7 +24,7 @@ use Rattle.amending.specs.Amending.{State, Rooms, Pick, pick, over as over_rooms
 use Rattle.amending.specs.Lent.{Lent, handed, unchanged, sum_records, amend_lent, lent_of, given}
 use Rattle.amending.specs.Moves.{leave}
 use Rattle.amending.specs.Entries.{rows_from}
-use Rattle.amending.specs.Memory.{Memory, memory, rooms_in, used_in, amend_in, held_by, answered, left_in, Amends}
+use Rattle.amending.specs.Memory.{Memory, rooms_in, used_in, amend_in, held_by, answered, left_in, Amends}
 use Rattle.amending.specs.States.{held_of, Holds}
 use Rattle.amending.specs.declared.held.Held.{Held}
 use Rattle.amending.proofs.MoveLaws.{leave_length}

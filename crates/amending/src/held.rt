@@ -1,6 +1,6 @@
 // How much of the lent memory is used: bytes of the script, entries of the directory, records, and the tokens that they had;
 // the script's latest date, and its edition.
-#[derive(Drop)]
+#[derive(Clone, Copy)]
 pub struct Held {
     pub bytes: usize,
     pub statements: usize,

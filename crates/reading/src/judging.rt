@@ -12,7 +12,7 @@ use tokens::scanning::{Scanned, scan};
 use tokens::text::{ScriptEnd, find, script_end};
 
 // What a reading holds: bytes, statements, records, tokens, and where its last token ends.
-#[derive(Drop)]
+#[derive(Clone, Copy)]
 pub struct Counts {
     pub bytes: usize,
     pub statements: usize,
