@@ -75,7 +75,7 @@ fn take_edition(s: &[u8], at: usize, end: usize, state: &mut State) -> usize
 fn compared(out: Stdout, answer: &Numbers, given: Answer, tally: &mut Tallies) -> usize {
     let ground = answer[0];
     count(tally, ground);
-    if agrees(answer, given) {
+    if agrees(answer, &given) {
         return 0;
     }
     count_difference(tally, ground);
@@ -232,7 +232,9 @@ fn take_line(
         }
         LISTS => take_lists(s, at, end, reserved, currencies, days, state),
         PART => take_part(out, s, at, end, script, currencies, state),
-        _ => take_other(out, kind, s, at, end, script, records, directory, state, tally),
+        _ => take_other(
+            out, kind, s, at, end, script, records, directory, state, tally,
+        ),
     }
 }
 
