@@ -16,7 +16,7 @@ mod report;
 mod state;
 mod tally;
 
-ghost use Rattle.std.specs.Prelude.{◌≤◌, length};
+ghost use Rattle.std.specs.Prelude.{◌≡◌, ◌≤◌, length};
 
 use crate::replay::replay;
 use crate::report::{say, say_tally, say_wrong};
@@ -56,6 +56,13 @@ fn read_full<R: Read>(input: &mut R, out: &mut [u8]) -> usize
     n
 }
 
+// Zeros, for the text of a file. Only their number is known, so that no proof goes over them.
+fn room() -> [u8; TEXT]
+    ensures { 524288 ≡ length result }
+{
+    [0; TEXT]
+}
+
 fn replay_file(rt: &HostRuntime, path: &[u8], tally: &mut Tallies) {
     let out = rt.stdout();
     let Some(mut file) = opened(rt, path) else {
@@ -63,7 +70,7 @@ fn replay_file(rt: &HostRuntime, path: &[u8], tally: &mut Tallies) {
         say(out, b": cannot be opened\n");
         return;
     };
-    let mut text = [0u8; TEXT];
+    let mut text = room();
     let n = read_full(&mut file, &mut text);
     if n == TEXT {
         say(out, path);
