@@ -1,5 +1,4 @@
 -- All three parts of the answer are the stored ones.
-use borrow.Author.Rules.{rules}
 use Rattle.vectors.proofs.comparing.agrees.Goals as goal
 
 pub returns-then-has_counts : goal.returns-then-has_counts

@@ -1,11 +1,7 @@
 -- What was passed is equal, so that the words differ first where what is ahead does.
-use mathlib.Core.Path.{◌≡◌, refl, ◌∙◌}
-use Prim.Native.Nat.{◌+◌, ◌≤◌, ◌-◌}
+use mathlib.Core.Path.{◌≡◌, ◌∙◌}
 use native.Mathlib.Omega.{arith}
-use lib.ListN.{take, drop}
-use Rattle.vectors.specs.Comparing.{common}
 use Rattle.vectors.proofs.ComparingLaws.{common_on, common_stop, common_over}
-use borrow.Author.Rules.{rules}
 use Rattle.vectors.proofs.comparing.first_unlike.Goals as goal
 
 pub loop-i-init : goal.loop-i-init

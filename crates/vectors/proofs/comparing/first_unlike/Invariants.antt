@@ -1,11 +1,8 @@
 -- What was passed is equal, so that the words differ first where what is ahead does.
-use mathlib.Core.Path.{◌≡◌, refl, ◌∙◌}
+use mathlib.Core.Path.{◌≡◌}
 use Prim.Native.Nat.{◌+◌, ◌≤◌, ◌-◌}
-use native.Mathlib.Omega.{arith}
 use lib.ListN.{take, drop}
 use Rattle.vectors.specs.Comparing.{common}
-use Rattle.vectors.proofs.ComparingLaws.{common_on, common_stop, common_over}
-use borrow.Author.Rules.{rules}
 use Rattle.vectors.proofs.comparing.first_unlike.Given as goal
 
 abbrev pub invariant-loop-i : goal.invariant-loop-i

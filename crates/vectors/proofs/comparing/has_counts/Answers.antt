@@ -1,6 +1,5 @@
 -- Each number is compared with the stored one of its place.
 use borrow.Author.Tests.{eq-eqb, ne_eqb}
-use borrow.Author.Rules.{rules}
 use Rattle.vectors.specs.Comparing.{counts_stored}
 use Rattle.vectors.proofs.comparing.has_counts.Goals as goal
 

@@ -4,7 +4,6 @@ use Prim.Native.Nat.{ℕ}
 use native.Mathlib.Omega.{arith}
 use lib.Dec.{ltb}
 use Rattle.vectors.proofs.ComparingLaws.{changed}
-use borrow.Author.Rules.{rules}
 use Rattle.vectors.proofs.comparing.is_changed.Goals as goal
 
 pub returns : goal.returns

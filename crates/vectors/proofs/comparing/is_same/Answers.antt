@@ -1,5 +1,4 @@
 -- The bytes at the start of both are compared.
-use borrow.Author.Rules.{rules}
 use Rattle.vectors.proofs.comparing.is_same.Goals as goal
 
 pub returns : goal.returns

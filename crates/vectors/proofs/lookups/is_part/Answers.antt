@@ -1,7 +1,6 @@
 -- The length is compared, and then the bytes with those of the stored part, if that is within its source.
 use mathlib.Core.Path.{◌∙◌}
 use borrow.Author.Tests.{eq-eqb, ne_eqb, lt-leb}
-use borrow.Author.Rules.{rules}
 use Rattle.vectors.specs.Comparing.{part_stored}
 use Rattle.vectors.proofs.ComparingLaws.{part_bytes}
 use Rattle.vectors.proofs.lookups.is_part.Goals as goal

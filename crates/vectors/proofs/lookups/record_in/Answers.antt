@@ -1,7 +1,6 @@
 -- The part is as long as it was asked to be, where that is no more than the whole.
 use mathlib.Core.Path.{sym}
 use lib.Seq.{length-take-le}
-use borrow.Author.Rules.{rules}
 use Rattle.vectors.proofs.lookups.record_in.Goals as goal
 
 pub slice_bounds-result-end : goal.slice_bounds-result-end

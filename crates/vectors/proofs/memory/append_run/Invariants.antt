@@ -1,5 +1,4 @@
 -- Nothing has to hold from turn to turn; how often the run is still to be put falls.
-use borrow.Author.Rules.{rules}
 use Rattle.vectors.proofs.memory.append_run.Given as goal
 
 abbrev pub invariant-loop-left : goal.invariant-loop-left

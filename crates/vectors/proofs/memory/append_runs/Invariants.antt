@@ -1,6 +1,5 @@
 -- The loop's place stays between the two ends, and what is left of the part falls.
 use Prim.Native.Nat.{◌≤◌, ◌-◌}
-use borrow.Author.Rules.{rules}
 use Rattle.vectors.proofs.memory.append_runs.Given as goal
 
 abbrev pub invariant-loop-i : goal.invariant-loop-i

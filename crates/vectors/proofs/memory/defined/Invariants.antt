@@ -1,7 +1,6 @@
 -- The line's start stays within the text, and what is left of the text falls.
 use Prim.Native.Nat.{◌≤◌, ◌-◌}
 use lib.ListN.{length}
-use borrow.Author.Rules.{rules}
 use Rattle.vectors.proofs.memory.defined.Given as goal
 
 abbrev pub invariant-loop-at : goal.invariant-loop-at

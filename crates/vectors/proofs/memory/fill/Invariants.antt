@@ -1,5 +1,4 @@
 -- Nothing has to hold from turn to turn; the words that are left to put fall.
-use borrow.Author.Rules.{rules}
 use Rattle.vectors.proofs.memory.fill.Given as goal
 
 abbrev pub invariant-loop-left : goal.invariant-loop-left

@@ -1,5 +1,4 @@
 -- The counts and the latest date as they stand, and the edition as a word.
-use borrow.Author.Rules.{rules}
 use Rattle.vectors.proofs.state.held.Goals as goal
 
 pub returns : goal.returns
