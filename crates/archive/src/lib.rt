@@ -1,5 +1,5 @@
-// What C and Rust link: reading, amending, the lookup, and the calendar. Answers, places and days are words of 32 bits in
-// lent arrays.
+// The calls that `archive_c` exports to C and Rust: reading, amending, the lookup, and the calendar. Answers, places and days
+// are words of 32 bits in lent arrays.
 #![tactic(auto)]
 
 ghost use Rattle.std.specs.Prelude.{◌≡◌};
@@ -16,8 +16,7 @@ use reading::parts::{Place, place_of};
 use reading::reading::{Answer, read};
 
 // Reads a script of the edition 1 or 2 into records and directory.
-#[unsafe(no_mangle)]
-pub extern "C" fn script_read(
+pub fn script_read(
     script: &[u8],
     edition: u32,
     reserved: &[u8],
@@ -43,8 +42,7 @@ pub extern "C" fn script_read(
 
 // Replaces the text of one statement. The last six words of the answer say at entry how much of the memory is used, the
 // script's latest date, and its edition, as an earlier call left them.
-#[unsafe(no_mangle)]
-pub extern "C" fn script_amend(
+pub fn script_amend(
     script: &mut [u8],
     statement: u32,
     text: &[u8],
@@ -73,8 +71,7 @@ pub extern "C" fn script_amend(
 }
 
 // Says where the part is that a record names: of the script (0) or of the list of currencies (1), first byte, length.
-#[unsafe(no_mangle)]
-pub extern "C" fn script_part(
+pub fn script_part(
     script: &[u8],
     currencies: &[u8],
     record: &[u32; 8],
@@ -89,16 +86,14 @@ pub extern "C" fn script_part(
 }
 
 // The count of a day, as records have it; 0 where there is no such day.
-#[unsafe(no_mangle)]
-pub extern "C" fn calendar_count(year: u32, month: u32, day: u32) -> u32
+pub fn calendar_count(year: u32, month: u32, day: u32) -> u32
     ensures { result ≡ count_of (dated year month day) }
 {
     count_of(year, month, day)
 }
 
 // Says which day has a count: year, month, day, and 0, 0, 0 where none has it.
-#[unsafe(no_mangle)]
-pub extern "C" fn calendar_day(count: u32, day: &mut [u32; 3])
+pub fn calendar_day(count: u32, day: &mut [u32; 3])
     ensures { day.new ≡ day_words (day_of count) }
 {
     let d = day_of(count);
