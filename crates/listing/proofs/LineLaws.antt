@@ -6,9 +6,8 @@ use native.Mathlib.Numerals.{add-one}
 use native.Mathlib.Omega.{arith}
 use lib.ListN.{length, get_or, take, drop, set, length-append, length-take, length-drop, length-set, drop_of_length-le}
 use lib.Seq.{take-suc, take-suc-set, take_all, drop-cons, get_or-set_same, get_or-drop, drop-set-lt, take-add, drop-drop, length-take-le}
-use Rattle.io.specs.Digits.{hex_digit_ascii, last_digits}
 use Rattle.grammar.specs.Sizes.{record_width}
-use Rattle.listing.specs.Lines.{word_bytes, record_bytes, word, gap_of, line, record_lines, Appended}
+use Rattle.listing.specs.Lines.{hex_digit_ascii, last_digits, word_bytes, record_bytes, word, gap_of, line, record_lines, Appended}
 
 -- ---- text behind text
 

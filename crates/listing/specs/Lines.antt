@@ -1,7 +1,15 @@
 -- Words as text, a line at a time.
-use Rattle.std.specs.Prelude.{◌≡◌, List, [], ◌∷◌, ◌++◌, ℕ, zero, suc, ◌+◌, ◌*◌, length, take, drop}
-use Rattle.io.specs.Digits.{last_digits}
+use Rattle.std.specs.Prelude.{◌≡◌, List, [], ◌∷◌, ◌++◌, ℕ, zero, suc, ◌+◌, ◌*◌, ◌/◌, ◌%◌, cond, nat_lt, length, take, drop}
 use Rattle.grammar.specs.Sizes.{record_width}
+
+-- the byte of a digit below 16: `0` to `9`, then `a` to `f`
+abbrev pub hex_digit_ascii : ℕ → ℕ
+hex_digit_ascii d = cond (nat_lt d 10) (48 + d) (87 + d)
+
+-- the last k digits of n in base b, the most significant first
+abbrev pub last_digits : ℕ → ℕ → ℕ → List ℕ
+last_digits b zero n = []
+last_digits b (suc k) n = last_digits b k (n / b) ++ (hex_digit_ascii (n % b) ∷ [])
 
 -- eight hexadecimal digits, lowercase, the most significant first
 unfoldable pub word : ℕ → List ℕ

@@ -1,8 +1,7 @@
 // Lines of words. Each function puts text behind the first `at` bytes of `out`, and answers how many bytes there are then.
 ghost use Rattle.std.specs.Prelude.{[], ◌∷◌, ◌≡◌, ◌+◌, ◌*◌, ◌≤◌, ◌<◌, length, take, drop};
-ghost use Rattle.io.specs.Digits.{hex_digit_ascii};
 ghost use Rattle.grammar.specs.Sizes.{record_width};
-ghost use Rattle.listing.specs.Lines.{word_bytes, record_bytes, word, gap_of, line, record_lines, Appended};
+ghost use Rattle.listing.specs.Lines.{word_bytes, record_bytes, hex_digit_ascii, word, gap_of, line, record_lines, Appended};
 
 use reading::rooms::RECORD_WIDTH;
 

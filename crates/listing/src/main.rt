@@ -1,18 +1,22 @@
 // Lists what a script is read as. With no argument it lists standard input; with arguments it lists one file after the other,
-// and `-` stands for standard input. A program has no exit status: what fails is told on standard error.
+// and `-` stands for standard input. It ends with the exit status 0: what fails is told on standard error.
 #![tactic(auto)]
 
 mod lines;
 mod listing;
 
-ghost use Rattle.std.specs.Prelude.{◌≡◌, ◌≤◌, length};
-ghost use Rattle.listing.specs.Listing.{longest};
-ghost use Rattle.listing.specs.Inputs.{Within, ListsInput};
+ghost use Rattle.std.specs.Prelude.{◌≡◌, ◌≤◌, length, take, IfOk, IfSome};
+ghost use Rattle.listing.specs.Listing.{listing, longest};
+ghost use Rattle.listing.specs.Inputs.{Within, Takes, ListsInput};
 
 use crate::lines::WORD_BYTES;
 use crate::listing::list;
-use libc::{STDIN_FILENO, STDOUT_FILENO};
 use reading::rooms::{MOST_RECORDS, RECORD_WIDTH};
+use std::env::{Env, FillError};
+use std::fmt::Display;
+use std::fs::File;
+use std::io::Read;
+use std::{io, str};
 use tokens::text::equal;
 
 // One byte more than a script may have: enough to tell that it is too long.
@@ -21,100 +25,103 @@ const SCRIPT_ROOM: usize = 16385;
 // The longest listing: a line of three words, and one for each record that there may be.
 const TEXT_ROOM: usize = WORD_BYTES * (3 + RECORD_WIDTH * MOST_RECORDS);
 
-// What came of an input: so many bytes, or a failed read.
-#[derive(Drop)]
-enum Input {
-    Got(usize),
-    Failed,
-}
+// More than any path has.
+const PATH_ROOM: usize = 4096;
 
-// What an input comes to: so many bytes of it, and of its listing; or a failed read.
-#[derive(Drop)]
-enum Listed {
-    Lines(usize, usize),
-    Failed,
+// How many bytes of an input came, and how many its listing has.
+#[derive(Clone, Copy)]
+struct Listed {
+    came: usize,
+    lines: usize,
 }
 
 // Fills `out` from its start, up to the end of the input. A read may bring less than there is.
-fn take_input(fd: i32, out: &mut [u8]) -> Input
-    ensures { Within result out.new }
+fn take_input<R: Read>(input: &mut R, out: &mut [u8]) -> io::Result<usize>
+    ensures within { Within result out.new }
+    ensures taken { IfOk result (λ n. Takes (R.remaining input.old) (R.remaining input.new) n out.new) }
 {
     let mut n: usize = 0;
     while n < out.len() {
-        let got = libc::read(fd, &mut out[n..]);
-        if got < 0 {
-            return Input::Failed;
-        }
-        let more = io::count(got, &out[n..]);
+        let more = input.read(&mut out[n..])?;
         if more == 0 {
-            return Input::Got(n);
+            return Ok(n);
         }
         n += more;
     }
-    Input::Got(n)
+    Ok(n)
 }
 
 // Takes an input into `script`, and puts its listing at the start of `text`.
-fn list_input(fd: i32, script: &mut [u8], text: &mut [u8]) -> Listed
+fn list_input<R: Read>(input: &mut R, script: &mut [u8], text: &mut [u8]) -> io::Result<Listed>
     requires { (length script.old ≡ 16385) × (longest ≤ length text.old) }
-    ensures { ListsInput result script.new text.new }
+    ensures lists { ListsInput result script.new text.new }
+    ensures known { IfOk result (λ l. IfSome (R.remaining input.old) (λ input. take l.lines text.new ≡ listing input)) }
 {
-    let Input::Got(n) = take_input(fd, script) else {
-        return Listed::Failed;
-    };
-    let k = list(&script[..n], text);
-    Listed::Lines(n, k)
+    let came = take_input(input, script)?;
+    let lines = list(&script[..came], text);
+    Ok(Listed { came, lines })
+}
+
+// Writes a line to standard error: what failed, and why. If that fails too, there is nowhere to tell it.
+fn fail<D: Display + Drop>(rt: &HostRuntime, what: &[u8], why: D) {
+    let err = rt.stderr();
+    let _ = err.write_all(what);
+    let _ = err.write_all(b": ");
+    let _ = err.println(why);
 }
 
 // Writes the listing of an input.
-fn write_listing(fd: i32, name: &[u8]) {
+fn write_listing<R: Read>(rt: &HostRuntime, input: &mut R, name: &[u8]) {
     let mut script = [0u8; SCRIPT_ROOM];
     let mut text = [0u8; TEXT_ROOM];
-    let Listed::Lines(_, k) = list_input(fd, &mut script, &mut text) else {
-        os::fail(name);
+    match list_input(input, &mut script, &mut text) {
+        Ok(listed) => {
+            if let Err(error) = rt.write_all(&text[..listed.lines]) {
+                fail(rt, b"standard output", error);
+            }
+        }
+        Err(error) => fail(rt, name, error),
+    }
+}
+
+fn list_standard_input(rt: &HostRuntime) {
+    write_listing(rt, &mut rt.stdin(), b"standard input");
+}
+
+fn list_file(rt: &HostRuntime, path: &[u8]) {
+    if equal(path, b"-") {
+        list_standard_input(rt);
+        return;
+    }
+    let Ok(name) = str::from_utf8(path) else {
+        fail(rt, path, "the name is not UTF-8");
         return;
     };
-    if !io::write_all(STDOUT_FILENO, &text[..k]) {
-        os::fail(b"standard output");
+    match File::open(rt, name) {
+        Ok(mut file) => write_listing(rt, &mut file, path),
+        Err(error) => fail(rt, path, error),
     }
 }
 
-fn list_standard_input() {
-    write_listing(STDIN_FILENO, b"standard input");
+// Lists the file that an argument names. Answers whether there is such an argument.
+fn list_argument(rt: &HostRuntime, i: usize) -> bool {
+    let mut path = [0u8; PATH_ROOM];
+    match rt.arg(i, &mut path) {
+        Ok(n) => list_file(rt, &path[..n]),
+        Err(FillError::TooLong) => fail(rt, b"argument", "File name too long"),
+        Err(FillError::NotPresent) => return false,
+    }
+    true
 }
 
-fn list_file(path: &[u8]) {
-    if equal(path, b"-") {
-        list_standard_input();
+fn main(rt: HostRuntime) {
+    if !list_argument(&rt, 1) {
+        list_standard_input(&rt);
         return;
     }
-    let fd = os::open_read(path);
-    if fd < 0 {
-        os::fail(path);
-        return;
-    }
-    write_listing(fd, path);
-    libc::close(fd);
-}
-
-fn list_argument(i: usize) {
-    let mut path = io::buffer();
-    let n = os::arg(i, &mut path);
-    if os::errno() != 0 {
-        os::fail(b"argument");
-        return;
-    }
-    list_file(&path[..n]);
-}
-
-fn main() {
-    let count = os::arg_count();
-    if count < 2 {
-        list_standard_input();
-    }
-    let mut i: usize = 1;
-    while i < count {
-        list_argument(i);
-        i += 1;
+    for i in 2..usize::MAX {
+        if !list_argument(&rt, i) {
+            return;
+        }
     }
 }

@@ -9,13 +9,14 @@ use crate::memory::{Bytes, ROOM, Words, front, load_bytes, load_words};
 use crate::report::{say_left, say_word};
 use crate::state::{CHANGED, DIRECTORY_SIZE, RECORDS_SIZE, SCRIPT_SIZE, State};
 use reading::reading::Answer;
+use std::io::Stdout;
 use tokens::text::equal;
 
 // What a line comes to where the call gave or left something else, beside the sizes above the room.
 pub const DIFFERS: usize = 32770;
 
-fn has_ground(answer: &Numbers, a: Answer) -> bool
-    ensures { result ≡ ground_stored answer.now a }
+fn has_ground(answer: &Numbers, a: &Answer) -> bool
+    ensures { result ≡ ground_stored answer.now a.now }
 {
     if a.number as usize != answer[0] {
         return false;
@@ -23,8 +24,8 @@ fn has_ground(answer: &Numbers, a: Answer) -> bool
     a.byte == answer[1] && (a.line == answer[2] && a.column == answer[3])
 }
 
-fn has_counts(answer: &Numbers, a: Answer) -> bool
-    ensures { result ≡ counts_stored answer.now a }
+fn has_counts(answer: &Numbers, a: &Answer) -> bool
+    ensures { result ≡ counts_stored answer.now a.now }
 {
     if a.bytes != answer[4] {
         return false;
@@ -33,15 +34,15 @@ fn has_counts(answer: &Numbers, a: Answer) -> bool
         && (a.records == answer[6] && (a.tokens == answer[7] && a.latest == answer[8]))
 }
 
-fn has_edition(answer: &Numbers, a: Answer) -> bool
-    ensures { result ≡ edition_stored answer.now a }
+fn has_edition(answer: &Numbers, a: &Answer) -> bool
+    ensures { result ≡ edition_stored answer.now a.now }
 {
     a.edition as usize == answer[9]
 }
 
 // Whether an answer is the stored one, in all its ten numbers.
-pub fn agrees(answer: &Numbers, a: Answer) -> bool
-    ensures { result ≡ answer_stored answer.now a }
+pub fn agrees(answer: &Numbers, a: &Answer) -> bool
+    ensures { result ≡ answer_stored answer.now a.now }
 {
     has_ground(answer, a) && (has_counts(answer, a) && has_edition(answer, a))
 }
@@ -83,7 +84,7 @@ pub fn is_same(a: &Bytes, b: &Bytes, n: usize) -> bool
 }
 
 // Compares bytes of memory with those that a line gives, whole.
-fn compare_bytes(s: &[u8], at: usize, end: usize, left: &Bytes, size: usize) -> usize
+fn compare_bytes(out: Stdout, s: &[u8], at: usize, end: usize, left: &Bytes, size: usize) -> usize
     requires { (at ≤ end) × (end ≤ length s.now) }
 {
     let mut told = [0u8; 32768];
@@ -97,12 +98,12 @@ fn compare_bytes(s: &[u8], at: usize, end: usize, left: &Bytes, size: usize) -> 
     if is_same(&told, left, n) {
         return n;
     }
-    say_left(front(left, n));
+    say_left(out, front(left, n));
     DIFFERS
 }
 
 // Compares words of memory with those that a line gives, whole.
-fn compare_words(s: &[u8], at: usize, end: usize, left: &Words, size: usize) -> usize
+fn compare_words(out: Stdout, s: &[u8], at: usize, end: usize, left: &Words, size: usize) -> usize
     requires { (at ≤ end) × (end ≤ length s.now) }
 {
     let mut told = [0u32; 32768];
@@ -115,7 +116,7 @@ fn compare_words(s: &[u8], at: usize, end: usize, left: &Words, size: usize) -> 
     }
     let i = first_difference(&told, left, n);
     if i < n {
-        say_word(i, left[i]);
+        say_word(out, i, left[i]);
         return DIFFERS;
     }
     n
@@ -130,6 +131,7 @@ pub fn is_left(kind: usize) -> bool
 
 // Compares memory with what a line says that the call before, which was run, must have left.
 pub fn compare_left(
+    out: Stdout,
     kind: usize,
     s: &[u8],
     at: usize,
@@ -142,9 +144,9 @@ pub fn compare_left(
     requires { (at ≤ end) × (end ≤ length s.now) }
 {
     match kind {
-        SCRIPT => compare_bytes(s, at, end, script, state[SCRIPT_SIZE]),
-        RECORDS => compare_words(s, at, end, records, state[RECORDS_SIZE]),
-        DIRECTORY => compare_words(s, at, end, directory, state[DIRECTORY_SIZE]),
+        SCRIPT => compare_bytes(out, s, at, end, script, state[SCRIPT_SIZE]),
+        RECORDS => compare_words(out, s, at, end, records, state[RECORDS_SIZE]),
+        DIRECTORY => compare_words(out, s, at, end, directory, state[DIRECTORY_SIZE]),
         _ => { if state[CHANGED] == 0 { 0 } else { DIFFERS } }
     }
 }

@@ -9,11 +9,12 @@ use crate::report::{say_part, say_place};
 use crate::state::{CURRENCIES_SIZE, SCRIPT_SIZE, State, held};
 use reading::parts::{Place, part, place_of};
 use reading::rooms::RECORD_WIDTH;
+use std::io::Stdout;
 use tokens::text::equal;
 
 // Whether a part begins at this place of this source, and is so long.
-fn is_placed(found: Place, in_list: bool, place: usize, size: usize) -> bool
-    ensures { result ≡ place_stored found in_list place size }
+fn is_placed(found: &Place, in_list: bool, place: usize, size: usize) -> bool
+    ensures { result ≡ place_stored found.now in_list place size }
 {
     if found.in_list != in_list {
         return false;
@@ -44,6 +45,7 @@ fn record_in(words: &[u32]) -> &[u32] {
 
 // Runs the lookup by numbers, and compares.
 fn is_found(
+    out: Stdout,
     script: &[u8],
     currencies: &[u8],
     record: &[u32],
@@ -54,16 +56,17 @@ fn is_found(
     size: usize,
 ) -> bool {
     let found = place_of(script, currencies, record, start, second);
-    if is_placed(found, in_list, place, size) {
+    if is_placed(&found, in_list, place, size) {
         return true;
     }
-    say_place(found);
+    say_place(out, found);
     false
 }
 
 // Runs the lookup that hands back a slice, and compares the bytes. Where they begin no run can tell, since the language
 // compares no addresses: the contract of `part` ties that to the lookup by numbers.
 fn is_handed_back<'a>(
+    out: Stdout,
     script: &'a [u8],
     currencies: &'a [u8],
     record: &[u32],
@@ -80,13 +83,14 @@ fn is_handed_back<'a>(
         is_part(given, script, place, size)
     };
     if !same {
-        say_part(given);
+        say_part(out, given);
     }
     same
 }
 
 // Runs both, and each tells of what differs.
 fn is_stored<'a>(
+    out: Stdout,
     script: &'a [u8],
     currencies: &'a [u8],
     record: &[u32],
@@ -97,10 +101,10 @@ fn is_stored<'a>(
     size: usize,
 ) -> bool {
     let found = is_found(
-        script, currencies, record, start, second, in_list, place, size,
+        out, script, currencies, record, start, second, in_list, place, size,
     );
     let same = is_handed_back(
-        script, currencies, record, start, second, in_list, place, size,
+        out, script, currencies, record, start, second, in_list, place, size,
     );
     found && same
 }
@@ -112,6 +116,7 @@ fn is_asked(which: usize, source: &[u8]) -> bool {
 
 // Looks up the name `which` of the record that words begin with, and compares.
 fn look_up<'a>(
+    out: Stdout,
     script: &'a [u8],
     currencies: &'a [u8],
     words: &Words,
@@ -129,6 +134,7 @@ fn look_up<'a>(
     }
     let in_list = equal(source, b"c ");
     if is_stored(
+        out,
         script,
         currencies,
         record_in(words),
@@ -145,6 +151,7 @@ fn look_up<'a>(
 
 // Takes a line that asks for a part: the words of a record, its statement's start, which name, and the part that is expected.
 pub fn take_part<'a>(
+    out: Stdout,
     s: &[u8],
     at: usize,
     end: usize,
@@ -172,6 +179,7 @@ pub fn take_part<'a>(
         return MALFORMED;
     }
     look_up(
+        out,
         front(front(script, state[SCRIPT_SIZE]), held(state).bytes),
         front(currencies, state[CURRENCIES_SIZE]),
         &words,

@@ -19,6 +19,7 @@ use crate::tally::{
     GROUNDS, Tallies, count, count_compared, count_difference, count_line, count_outcome,
 };
 use reading::reading::Answer;
+use std::io::Stdout;
 
 // The first of three sizes that is above the room, or else the last.
 fn worst(a: usize, b: usize, c: usize) -> usize {
@@ -71,14 +72,14 @@ fn take_edition(s: &[u8], at: usize, end: usize, state: &mut State) -> usize
     if n == MALFORMED { n } else { 0 }
 }
 
-fn compared(answer: &Numbers, given: Answer, tally: &mut Tallies) -> usize {
+fn compared(out: Stdout, answer: &Numbers, given: Answer, tally: &mut Tallies) -> usize {
     let ground = answer[0];
     count(tally, ground);
-    if agrees(answer, given) {
+    if agrees(answer, &given) {
         return 0;
     }
     count_difference(tally, ground);
-    say_answer(given);
+    say_answer(out, given);
     DIFFERS
 }
 
@@ -95,6 +96,7 @@ fn answer_at(kind: usize, s: &[u8], at: usize, end: usize) -> usize
 
 // Compares what a call gave, whose counts, latest date and edition are those of the calls that follow, with the stored answer.
 fn take_answer(
+    out: Stdout,
     s: &[u8],
     at: usize,
     end: usize,
@@ -123,7 +125,7 @@ fn take_answer(
     if GROUNDS <= answer[0] {
         return MALFORMED;
     }
-    compared(&answer, given, tally)
+    compared(out, &answer, given, tally)
 }
 
 // Takes a line that begins a case, or says what memory holds or which edition is named.
@@ -168,6 +170,7 @@ fn take_memory(
 
 // Takes any other line. What the calls before must have left is compared.
 fn take_other(
+    out: Stdout,
     kind: usize,
     s: &[u8],
     at: usize,
@@ -182,7 +185,7 @@ fn take_other(
 {
     if state[RAN] == 1 && is_left(kind) {
         count_compared(tally);
-        return compare_left(kind, s, at, end, script, records, directory, state);
+        return compare_left(out, kind, s, at, end, script, records, directory, state);
     }
     take_memory(kind, s, at, end, script, records, directory, state)
 }
@@ -203,6 +206,7 @@ fn kind_at(s: &[u8], at: usize, end: usize) -> usize
 
 // Takes the fields of a line. What it comes to is above the room where it differs, is not in the format or has no room.
 fn take_line(
+    out: Stdout,
     kind: usize,
     s: &[u8],
     at: usize,
@@ -224,16 +228,18 @@ fn take_line(
             let given = run(
                 kind, s, at, end, script, records, directory, reserved, currencies, days, state,
             );
-            take_answer(s, from, end, given, state, tally)
+            take_answer(out, s, from, end, given, state, tally)
         }
         LISTS => take_lists(s, at, end, reserved, currencies, days, state),
-        PART => take_part(s, at, end, script, currencies, state),
-        _ => take_other(kind, s, at, end, script, records, directory, state, tally),
+        PART => take_part(out, s, at, end, script, currencies, state),
+        _ => take_other(
+            out, kind, s, at, end, script, records, directory, state, tally,
+        ),
     }
 }
 
 // Replays the lines of a file.
-pub fn replay(path: &[u8], s: &[u8], tally: &mut Tallies) {
+pub fn replay(out: Stdout, path: &[u8], s: &[u8], tally: &mut Tallies) {
     let mut script = [0u8; 32768];
     let mut records = [0u32; 32768];
     let mut directory = [0u32; 32768];
@@ -247,6 +253,7 @@ pub fn replay(path: &[u8], s: &[u8], tally: &mut Tallies) {
         let kind = kind_at(s, at, end);
         count_line(tally, kind);
         let outcome = take_line(
+            out,
             kind,
             s,
             after(s, at, end),
@@ -262,7 +269,7 @@ pub fn replay(path: &[u8], s: &[u8], tally: &mut Tallies) {
         );
         if ROOM < outcome {
             count_outcome(tally, outcome);
-            say_outcome(path, s, state[CASE_AT], at, outcome);
+            say_outcome(out, path, s, state[CASE_AT], at, outcome);
         }
         if end == s.len() {
             return;
