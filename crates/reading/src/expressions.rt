@@ -27,7 +27,7 @@ use tokens::cursor::Cursor;
 // Comparisons joined by `and` and `or`, left to right. Where `and` binds tighter, the operands of `or` are chains of their own:
 // the records of the one that is read begin at `from`, and its text at `place`. It is also how a power alone is read, without
 // the levels above it: a function of its own would need stack for itself at each depth.
-#[cycle(arguments_call_comparison_expression_index_items_list_method_minus_name_parenthesis_pays_postfix_postfixes_power_primary_product_signed_sum)]
+#[cycle(expressions)]
 pub fn expression(
     s: &[u8],
     two: bool,
@@ -78,7 +78,7 @@ pub fn expression(
 }
 
 // A comparison has at most one comparator between sums.
-#[cycle(arguments_call_comparison_expression_index_items_list_method_minus_name_parenthesis_pays_postfix_postfixes_power_primary_product_signed_sum)]
+#[cycle(expressions)]
 fn comparison(
     s: &[u8],
     two: bool,
@@ -119,7 +119,7 @@ fn comparison(
 }
 
 // Products joined by `+` and `-`.
-#[cycle(arguments_call_comparison_expression_index_items_list_method_minus_name_parenthesis_pays_postfix_postfixes_power_primary_product_signed_sum)]
+#[cycle(expressions)]
 fn sum(
     s: &[u8],
     two: bool,
@@ -157,7 +157,7 @@ fn sum(
 }
 
 // Powers joined by `*` and `/`.
-#[cycle(arguments_call_comparison_expression_index_items_list_method_minus_name_parenthesis_pays_postfix_postfixes_power_primary_product_signed_sum)]
+#[cycle(expressions)]
 fn product(
     s: &[u8],
     two: bool,
@@ -194,7 +194,7 @@ fn product(
 
 // Primaries joined by `**`: left to right, or in the second edition right to left, where each waits, marked, until the last is
 // read.
-#[cycle(arguments_call_comparison_expression_index_items_list_method_minus_name_parenthesis_pays_postfix_postfixes_power_primary_product_signed_sum)]
+#[cycle(expressions)]
 fn power(
     s: &[u8],
     two: bool,
@@ -233,7 +233,7 @@ fn power(
 
 // What a sign takes in: a primary, or in the second edition the `**` after it too. Another sign there takes it in itself, so that
 // nested signs need no more stack than in the first edition.
-#[cycle(arguments_call_comparison_expression_index_items_list_method_minus_name_parenthesis_pays_postfix_postfixes_power_primary_product_signed_sum)]
+#[cycle(expressions)]
 fn signed(
     s: &[u8],
     two: bool,
@@ -258,7 +258,7 @@ fn signed(
 }
 
 // A primary.
-#[cycle(arguments_call_comparison_expression_index_items_list_method_minus_name_parenthesis_pays_postfix_postfixes_power_primary_product_signed_sum)]
+#[cycle(expressions)]
 fn primary(
     s: &[u8],
     two: bool,
@@ -292,7 +292,7 @@ fn primary(
 }
 
 // What a minus, at c, makes of what stands at d behind it: a negated constant, or UnaryMinus of what it takes in.
-#[cycle(arguments_call_comparison_expression_index_items_list_method_minus_name_parenthesis_pays_postfix_postfixes_power_primary_product_signed_sum)]
+#[cycle(expressions)]
 fn minus(
     s: &[u8],
     two: bool,
@@ -319,7 +319,7 @@ fn minus(
 }
 
 // An expression in parentheses; d stands behind the opening one, at c.
-#[cycle(arguments_call_comparison_expression_index_items_list_method_minus_name_parenthesis_pays_postfix_postfixes_power_primary_product_signed_sum)]
+#[cycle(expressions)]
 fn parenthesis(
     s: &[u8],
     two: bool,
@@ -360,7 +360,7 @@ fn parenthesis(
 }
 
 // A list with postfixes; d stands behind its `[`, at c.
-#[cycle(arguments_call_comparison_expression_index_items_list_method_minus_name_parenthesis_pays_postfix_postfixes_power_primary_product_signed_sum)]
+#[cycle(expressions)]
 fn list(
     s: &[u8],
     two: bool,
@@ -412,7 +412,7 @@ fn list(
 }
 
 // The parts of a pays, its date and its currency; d stands behind the word, at c.
-#[cycle(arguments_call_comparison_expression_index_items_list_method_minus_name_parenthesis_pays_postfix_postfixes_power_primary_product_signed_sum)]
+#[cycle(expressions)]
 pub fn pays(
     s: &[u8],
     two: bool,
@@ -460,7 +460,7 @@ pub fn pays(
 }
 
 // A call or a variable with postfixes: the name stands at c, and d behind it.
-#[cycle(arguments_call_comparison_expression_index_items_list_method_minus_name_parenthesis_pays_postfix_postfixes_power_primary_product_signed_sum)]
+#[cycle(expressions)]
 fn name(
     s: &[u8],
     two: bool,
@@ -497,7 +497,7 @@ fn name(
 }
 
 // An ordinary call, whose record has this kind: its name stands at c, and d behind it.
-#[cycle(arguments_call_comparison_expression_index_items_list_method_minus_name_parenthesis_pays_postfix_postfixes_power_primary_product_signed_sum)]
+#[cycle(expressions)]
 fn call(
     s: &[u8],
     two: bool,
@@ -527,7 +527,7 @@ fn call(
 }
 
 // An argument list and both its parentheses.
-#[cycle(arguments_call_comparison_expression_index_items_list_method_minus_name_parenthesis_pays_postfix_postfixes_power_primary_product_signed_sum)]
+#[cycle(expressions)]
 fn arguments(
     s: &[u8],
     two: bool,
@@ -568,7 +568,7 @@ fn arguments(
 }
 
 // Expressions with commas between them, up to the closing sign, which is not taken; a comma may trail.
-#[cycle(arguments_call_comparison_expression_index_items_list_method_minus_name_parenthesis_pays_postfix_postfixes_power_primary_product_signed_sum)]
+#[cycle(expressions)]
 fn items(
     s: &[u8],
     two: bool,
@@ -613,7 +613,7 @@ fn items(
 }
 
 // Postfixes of what was read before, whose text begins at the place, and whose records are those from n to m.
-#[cycle(arguments_call_comparison_expression_index_items_list_method_minus_name_parenthesis_pays_postfix_postfixes_power_primary_product_signed_sum)]
+#[cycle(expressions)]
 fn postfixes(
     s: &[u8],
     two: bool,
@@ -649,7 +649,7 @@ fn postfixes(
 }
 
 // One postfix, whose sign stands at c.
-#[cycle(arguments_call_comparison_expression_index_items_list_method_minus_name_parenthesis_pays_postfix_postfixes_power_primary_product_signed_sum)]
+#[cycle(expressions)]
 fn postfix(
     s: &[u8],
     two: bool,
@@ -691,7 +691,7 @@ fn postfix(
 }
 
 // A method, behind its `.`.
-#[cycle(arguments_call_comparison_expression_index_items_list_method_minus_name_parenthesis_pays_postfix_postfixes_power_primary_product_signed_sum)]
+#[cycle(expressions)]
 fn method(
     s: &[u8],
     two: bool,
@@ -726,7 +726,7 @@ fn method(
 }
 
 // An index, behind its `[`.
-#[cycle(arguments_call_comparison_expression_index_items_list_method_minus_name_parenthesis_pays_postfix_postfixes_power_primary_product_signed_sum)]
+#[cycle(expressions)]
 fn index(
     s: &[u8],
     two: bool,

@@ -15,7 +15,7 @@ use tokens::codes::{CLOSE_CURLY, ELSE, FOR, IF, NAME, OPEN_CURLY, PAYS};
 use tokens::cursor::Cursor;
 
 // A statement.
-#[cycle(block_conditional_repetition_statement)]
+#[cycle(statements)]
 pub fn statement(
     s: &[u8],
     two: bool,
@@ -41,7 +41,7 @@ pub fn statement(
 }
 
 // `if e { .. }` with optional `else { .. }`, whose word stands at c.
-#[cycle(block_conditional_repetition_statement)]
+#[cycle(statements)]
 fn conditional(
     s: &[u8],
     two: bool,
@@ -106,7 +106,7 @@ fn conditional(
 }
 
 // `for v in e { .. }`, whose word stands at c.
-#[cycle(block_conditional_repetition_statement)]
+#[cycle(statements)]
 fn repetition(
     s: &[u8],
     two: bool,
@@ -153,7 +153,7 @@ fn repetition(
 }
 
 // `{ .. }`: statements up to the closing sign.
-#[cycle(block_conditional_repetition_statement)]
+#[cycle(statements)]
 fn block(
     s: &[u8],
     two: bool,

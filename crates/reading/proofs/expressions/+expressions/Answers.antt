@@ -19,7 +19,7 @@ use Rattle.reading.proofs.ItemLaws.{items_start, items_exit, items_ready, items_
 use Rattle.grammar.specs.Grammar.{primary as primaryG, method_of, index_of, postfix_turn}
 use Rattle.reading.proofs.HoldLaws.{start_in, end_in, takes_as}
 use Rattle.reading.proofs.PostfixLaws.{turns_as, onward_done, ready_behind, each_inner, index_refuses, index_open, index_numbers, index_reads, method_unnamed, method_ready, method_refuses, method_none, method_numbers, method_reads, postfix_dot, postfix_low, postfix_index, postfix_fewer, postfix_ready, post_enter, post_exit, post_refused, post_more, above, name_refuses, name_numbers, name_reads, name_special, name_call, sign_no, sign_yes}
-use Rattle.reading.proofs.expressions.+arguments_call_comparison_expression_index_items_list_method_minus_name_parenthesis_pays_postfix_postfixes_power_primary_product_signed_sum.Goals as goal
+use Rattle.reading.proofs.expressions.+expressions.Goals as goal
 
 pub arguments-returns-then-c-ne-OPEN_PAREN : goal.arguments-returns-then-c-ne-OPEN_PAREN
 arguments-returns-then-c-ne-OPEN_PAREN t c =

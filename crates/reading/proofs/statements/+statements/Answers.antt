@@ -7,7 +7,7 @@ use Rattle.grammar.proofs.SizeLaws.{statement_size}
 use Rattle.reading.proofs.HoldLaws.{start_in}
 use Rattle.reading.proofs.StepLaws.{done_reads, refused_on, meets_as, put_fields}
 use Rattle.reading.proofs.BodyLaws.{done_block, block_refusal_on, tree_refusal_on, head_is, head_refusal_on, statement_law, stat_name, stat_if, stat_for, stat_pays, stat_ended, block_unopened, block_opened, block_start, block_ready, block_exit, block_refused_lem, block_numbers, block_less, block_next, bind_is, if_0, if_ready, if_refused, if_body_ready, if_body_refused, if_numbers, if_done, else_ready, else_refused, else_numbers, else_done, for_0, for_head_refused, for_ready, for_refused, for_body_ready, for_body_refused, for_numbers, for_done}
-use Rattle.reading.proofs.statements.+block_conditional_repetition_statement.Goals as goal
+use Rattle.reading.proofs.statements.+statements.Goals as goal
 
 pub block-take-requires : goal.block-take-requires
 block-take-requires t c = (c.requires.0.0, λ z. omega arith)

@@ -15,7 +15,7 @@ use Rattle.reading.specs.Turns.{power_at, product_or, sum_or, comparison_or, exp
 use Rattle.reading.proofs.ItemLaws.{ItemChain, PayChain}
 use Rattle.grammar.specs.Grammar.{primary as primaryG, method_of, index_of, postfix_turn}
 use Rattle.reading.proofs.PostfixLaws.{PostChain}
-use Rattle.reading.proofs.expressions.+arguments_call_comparison_expression_index_items_list_method_minus_name_parenthesis_pays_postfix_postfixes_power_primary_product_signed_sum.Given as goal
+use Rattle.reading.proofs.expressions.+expressions.Given as goal
 
 abbrev pub decreases-arguments : goal.decreases-arguments
 decreases-arguments l = 32 * l.depth + 0

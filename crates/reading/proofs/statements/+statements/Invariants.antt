@@ -7,7 +7,7 @@ use Rattle.grammar.specs.Readers.{loop}
 use Rattle.grammar.specs.Grammar as G
 use Rattle.reading.specs.Meets.{language_in, toks_at}
 use Rattle.reading.proofs.BodyLaws.{BlockChain}
-use Rattle.reading.proofs.statements.+block_conditional_repetition_statement.Given as goal
+use Rattle.reading.proofs.statements.+statements.Given as goal
 
 abbrev pub decreases-block : goal.decreases-block
 decreases-block l = 8 * l.depth + 4
