@@ -13,6 +13,7 @@ parameter of the function whose clause cites them. --check writes nothing.
 import importlib.util
 import os
 import re
+import subprocess
 import sys
 
 LEMMAS = """amend-lent block_refused double-by ends-at ends_by good-name held-size in-edition is-edition kind-of last-end last-of over-rows
@@ -20,7 +21,7 @@ pay-turn put-all read-script reading-in sum-tokens""".split()
 OTHERS = "columnAt fittingRooms heldSize kindBy maxEntries maxNodes noneAt overRooms textEnd".split()
 # a lemma's name that port.py left in the spelling that a definition now has, and where it stands
 SPELLED = {"block_refused": "BodyLaws", "ends_by": "EndsBy", "in_order": "Certain"}
-SNAKE = "/opt/rattle/port/notes/2026-11-18-names-are-in-snake-case/snake.py"
+SNAKE = "port/notes/2026-11-18-names-are-in-snake-case/snake.py"  # in the toolchain's folder
 WORD = re.compile(r"[^\s(){}.;,@\"«»]+")
 QUIET = re.compile(r'"(?:[^"\\\n]|\\.)*"|(?<![^\s(){}.;,@"«»])--[^\n]*', re.S)
 NAMES = r"[^\s(){}.;,@\"«»:=]+(?:[ \t]+[^\s(){}.;,@\"«»:=]+)*"
@@ -88,7 +89,8 @@ OWN = [["Rattle", c] for c in sorted(os.listdir("crates"))]
 
 
 def main(check):
-    spec = importlib.util.spec_from_file_location("snake", SNAKE)
+    guide = subprocess.run(["rt", "doc"], capture_output=True, text=True, check=True).stdout.strip()
+    spec = importlib.util.spec_from_file_location("snake", os.path.join(os.path.dirname(guide), SNAKE))
     snake = importlib.util.module_from_spec(spec)
     spec.loader.exec_module(snake)
     texts = {}

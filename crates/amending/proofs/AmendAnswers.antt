@@ -1,5 +1,6 @@
 -- What a caller sees of an amendment, on any memory: the number 0 is acceptance and nothing else; a refusal's number lies in 1 to 20 or is 26, its place in the new text,
 -- and it has changed nothing; 26 is the answer exactly where no edition has the number that was lent; the edition is never changed; every number of an answer is small.
+use Rattle.std.specs.Prelude.{if◌then◌else◌}
 use mathlib.Core.Path.{◌≡◌, refl, sym, ap, ◌∙◌, subst}
 use mathlib.Core.Bool.{Bool, true, false, not}
 use mathlib.Core.Logic.{◌⊎◌, inl, inr, ⊎_elim}
@@ -12,7 +13,6 @@ use lib.ListN.{length}
 use borrow.Author.Tests.{eqb-true}
 use Rattle.calendar.specs.Calendar.{last_count}
 use Rattle.tokens.specs.Limits.{most_bytes, most_tokens}
-use Rattle.tokens.specs.Text.{if◌then◌else◌}
 use Rattle.tokens.specs.Names.{Lists}
 use Rattle.tokens.proofs.PlaceLaws.{line_within, column_within}
 use Rattle.grammar.specs.Sizes.{record_width, most_records, most_statements}

@@ -1,4 +1,5 @@
 -- Calls: an accepted one leaves a script that reads as its statements, any number of them do, and the grounds are exact.
+use Rattle.std.specs.Prelude.{if◌then◌else◌}
 use mathlib.Core.Path.{◌≡◌, refl, sym, ap, ◌∙◌, subst}
 use mathlib.Core.Bool.{Bool, true, false, ◌||◌, not, true≢false}
 use mathlib.Core.List.{List, [], ◌∷◌, ◌++◌, map}
@@ -9,7 +10,7 @@ use lib.Dec.{T, ltb}
 use lib.ListN.{length}
 use borrow.Author.Tests.{ltb-false}
 use Rattle.tokens.specs.Limits.{most_bytes, most_tokens}
-use Rattle.tokens.specs.Text.{if◌then◌else◌, other}
+use Rattle.tokens.specs.Text.{other}
 use Rattle.tokens.specs.Names.{Lists}
 use Rattle.grammar.specs.Grammar.{Edition}
 use Rattle.grammar.specs.Trees.{records}

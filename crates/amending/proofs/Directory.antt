@@ -1,4 +1,5 @@
 -- The directory of a script that was read is in order, and amending keeps each other statement's bytes.
+use Rattle.std.specs.Prelude.{if◌then◌else◌}
 use mathlib.Core.Path.{◌≡◌, refl, sym, ap, ◌∙◌, subst}
 use mathlib.Core.Bool.{Bool, true, false, ◌||◌}
 use mathlib.Core.List.{List, [], ◌∷◌, ◌++◌, append_assoc, map}
@@ -9,7 +10,7 @@ use lib.Seq.{slice, take_at, drop-append-le, take-append-le, take-take, take-app
 use lib.ListN.{length, take, drop, length-append, length-drop, length-map, take-append-drop}
 use borrow.Author.Tests.{le-ltb}
 use Rattle.tokens.specs.Limits.{most_bytes, most_tokens}
-use Rattle.tokens.specs.Text.{if◌then◌else◌, every, leading, script, other}
+use Rattle.tokens.specs.Text.{every, leading, script, other}
 use Rattle.tokens.specs.Names.{Lists}
 use Rattle.grammar.specs.Grammar.{Edition, Language}
 use Rattle.grammar.specs.Script.{Entry, Outcome, accepted, refused, nodes, language, read_script, reading_in, fitting as fits, moved_entry, tokens_of, no_zero}

@@ -1,4 +1,5 @@
 -- Laws of the verdict on an amendment: what each test of the code tells of the definition.
+use Rattle.std.specs.Prelude.{if◌then◌else◌}
 use mathlib.Core.Path.{◌≡◌, refl, sym, ap, ◌∙◌, subst}
 use mathlib.Core.Bool.{Bool, true, false, ◌&&◌, ◌||◌, not, false≢true}
 use mathlib.Core.List.{List, [], ◌∷◌, ◌++◌, map}
@@ -9,7 +10,7 @@ use lib.ListN.{length, take, drop, get_or, length-append, length-drop, length-ma
 use lib.Seq.{length-take-le}
 use borrow.Author.Tests.{le-leb, leb-true, le-ltb, ltb-false, eq-eqb, ne_eqb, eqb-true}
 use Rattle.tokens.specs.Limits.{most_bytes, most_tokens}
-use Rattle.tokens.specs.Text.{if◌then◌else◌, count}
+use Rattle.tokens.specs.Text.{count}
 use Rattle.tokens.specs.Names.{Lists}
 use Rattle.tokens.specs.Tokens.{Lexed, counts, end_of}
 use Rattle.grammar.specs.Sizes.{record_width, entry_width, most_records, most_statements}

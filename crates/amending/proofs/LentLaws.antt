@@ -1,4 +1,5 @@
 -- On the words of a state that was read, a call on lent words answers what the call on the state does; so any number of calls.
+use Rattle.std.specs.Prelude.{if◌then◌else◌}
 use mathlib.Core.Path.{◌≡◌, refl, sym, ap, ◌∙◌}
 use mathlib.Core.Bool.{Bool, true, false, ◌&&◌, ◌||◌, not}
 use mathlib.Core.List.{List, [], ◌∷◌, ◌++◌, append_assoc, map}
@@ -9,7 +10,6 @@ use lib.Dec.{ltb}
 use lib.Seq.{take_at, drop_at}
 use lib.ListN.{length, take, drop, length-append, length-map}
 use borrow.Author.Tests.{le-leb, lt-ltb, eq-eqb}
-use Rattle.tokens.specs.Text.{if◌then◌else◌}
 use Rattle.tokens.specs.Names.{Lists}
 use Rattle.grammar.specs.Grammar.{Edition}
 use Rattle.grammar.specs.Sizes.{record_width}

@@ -1,4 +1,5 @@
 -- Laws of an amendment that is made: what the three slices hold after it, and their latest date.
+use Rattle.std.specs.Prelude.{if◌then◌else◌}
 use mathlib.Core.Path.{◌≡◌, refl, sym, ap, ◌∙◌, subst}
 use mathlib.Core.Bool.{Bool, true, false}
 use mathlib.Core.List.{List, ◌∷◌, ◌++◌, map}
@@ -8,7 +9,6 @@ use lib.Dec.{leb, ltb}
 use lib.ListN.{length, take, drop, get_or, length-drop, length-map}
 use lib.Seq.{length-take-le}
 use borrow.Author.Tests.{le-ltb, ltb-true, leb-true}
-use Rattle.tokens.specs.Text.{if◌then◌else◌}
 use Rattle.tokens.specs.Names.{Lists}
 use Rattle.grammar.specs.Sizes.{record_width, entry_width, most_records, most_statements, record_room, statement_room}
 use Rattle.grammar.specs.Script.{Entry, accepted, reading_in, nodes}

@@ -1,4 +1,5 @@
 -- Laws of a directory whose places are moved: one turn of the loop, the rows of the moved words, and where a place is moved plainly.
+use Rattle.std.specs.Prelude.{if◌then◌else◌}
 use mathlib.Core.Path.{◌≡◌, refl, sym, ap, ◌∙◌}
 use mathlib.Core.Bool.{Bool, true, false, ◌&&◌}
 use mathlib.Core.List.{List, [], ◌∷◌, ◌++◌, append_assoc, map}
@@ -10,7 +11,6 @@ use lib.Dec.{leb, ltb}
 use lib.ListN.{length, take, drop, get_or, set, length-append, take-append-drop}
 use lib.Seq.{drop-cons, take_at, drop_at, take-append-add, drop-append-add, length-take-le, get_or-set_other}
 use borrow.Author.Tests.{ltb-true, leb-true, lt-ltb, le-leb}
-use Rattle.tokens.specs.Text.{if◌then◌else◌}
 use Rattle.grammar.specs.Sizes.{entry_width}
 use Rattle.grammar.specs.Words.{Row, rows_words}
 use Rattle.grammar.proofs.WordLaws.{rows_length}

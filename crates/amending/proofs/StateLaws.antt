@@ -1,4 +1,5 @@
 -- Laws of memory that holds a state: its counts are within, its words are read back, and a call leaves such memory.
+use Rattle.std.specs.Prelude.{if◌then◌else◌}
 use mathlib.Core.Path.{◌≡◌, refl, sym, ap, ◌∙◌, subst}
 use mathlib.Core.Bool.{Bool, true, false, not}
 use mathlib.Core.List.{List, [], ◌∷◌, map}
@@ -9,7 +10,7 @@ use lib.Dec.{T, ltb}
 use lib.ListN.{length, take, drop, length-append, length-drop, length-map}
 use lib.Seq.{take_at}
 use borrow.Author.Tests.{ltb-false}
-use Rattle.tokens.specs.Text.{if◌then◌else◌, script}
+use Rattle.tokens.specs.Text.{script}
 use Rattle.tokens.specs.Names.{Lists}
 use Rattle.grammar.specs.Sizes.{record_width, entry_width, most_records, most_statements}
 use Rattle.grammar.specs.Grammar.{Edition}

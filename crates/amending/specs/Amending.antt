@@ -1,7 +1,6 @@
 -- The call on a state, which is a script and its statements: what it answers, and any number of calls.
-use Rattle.std.specs.Prelude.{◌≡◌, Bool, false, ◌||◌, not, List, [], ◌∷◌, ℕ, zero, suc, T, ltb, length}
+use Rattle.std.specs.Prelude.{◌≡◌, Bool, false, ◌||◌, not, List, [], ◌∷◌, ℕ, zero, suc, T, ltb, length, if◌then◌else◌}
 use Rattle.std.proofs.Math.Option.{Option, none, some}
-use Rattle.tokens.specs.Text.{if◌then◌else◌}
 use Rattle.tokens.specs.Names.{Lists}
 use Rattle.grammar.specs.Grammar.{Edition}
 use Rattle.grammar.specs.Script.{Entry, Outcome, accepted, refused, nodes, tokens_of, no_zero, read_script}

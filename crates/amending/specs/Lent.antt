@@ -1,7 +1,6 @@
 -- The call on lent words: bytes, directory and records alone, no trees.
-use Rattle.std.specs.Prelude.{Bool, ◌&&◌, ◌||◌, not, List, [], ◌∷◌, ◌++◌, map, ℕ, ◌+◌, ◌-◌, ◌*◌, leb, ltb, eqb, length, take, drop}
+use Rattle.std.specs.Prelude.{Bool, ◌&&◌, ◌||◌, not, List, [], ◌∷◌, ◌++◌, map, ℕ, ◌+◌, ◌-◌, ◌*◌, leb, ltb, eqb, length, take, drop, if◌then◌else◌}
 use Rattle.std.proofs.Math.Option.{Option, none, some}
-use Rattle.tokens.specs.Text.{if◌then◌else◌}
 use Rattle.tokens.specs.Names.{Lists}
 use Rattle.grammar.specs.Grammar.{Edition}
 use Rattle.grammar.specs.Sizes.{record_width}

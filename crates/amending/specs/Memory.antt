@@ -1,7 +1,6 @@
 -- The call on lent memory: three slices, the counts that say how much of each is used, the script's latest date, and the number of its edition.
-use Rattle.std.specs.Prelude.{◌≡◌, Bool, ◌&&◌, ◌||◌, not, List, ℕ, ◌*◌, min, leb, eqb, length, take}
+use Rattle.std.specs.Prelude.{◌≡◌, Bool, ◌&&◌, ◌||◌, not, List, ℕ, ◌*◌, min, leb, eqb, length, take, if◌then◌else◌}
 use Rattle.tokens.specs.Limits.{most_bytes, most_tokens}
-use Rattle.tokens.specs.Text.{if◌then◌else◌}
 use Rattle.tokens.specs.Names.{Lists}
 use Rattle.tokens.specs.Places.{line, column}
 use Rattle.grammar.specs.Sizes.{record_width, entry_width, record_room, statement_room}

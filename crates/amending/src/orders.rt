@@ -1,6 +1,5 @@
 // A directory in lent words: whether its entries are in order, how many records stand before one, and their latest date.
-ghost use Rattle.std.specs.Prelude.{◌≡◌, ◌&&◌, ◌*◌, ◌^◌, ◌≤◌, ◌<◌, max, leb, ltb, eqb, length};
-ghost use Rattle.tokens.specs.Text.{if◌then◌else◌};
+ghost use Rattle.std.specs.Prelude.{◌≡◌, ◌&&◌, ◌*◌, ◌^◌, ◌≤◌, ◌<◌, max, leb, ltb, eqb, length, if◌then◌else◌};
 ghost use Rattle.grammar.specs.Sizes.{entry_width};
 ghost use Rattle.grammar.specs.Words.{latest_of};
 ghost use Rattle.amending.specs.Lent.{ascending, sum_records, sum_tokens};

@@ -1,4 +1,5 @@
 -- Texts: bytes and the statements that they have. One text behind another, a text cut at a statement, and what an accepted script is.
+use Rattle.std.specs.Prelude.{if◌then◌else◌}
 use mathlib.Core.Path.{◌≡◌, refl, sym, ap, ◌∙◌, subst}
 use mathlib.Core.Bool.{Bool, true, false, ◌&&◌, ◌||◌, not, true≢false}
 use mathlib.Core.List.{List, [], ◌∷◌, ◌++◌, append_assoc, map, map-append}
@@ -9,7 +10,7 @@ use lib.Seq.{take_at, take-length}
 use lib.ListN.{length, take, drop, get_or, length-append, length-drop}
 use borrow.Author.Tests.{eqb-true, ne_eqb, ltb-false, le-ltb}
 use Rattle.tokens.specs.Limits.{most_bytes, most_tokens}
-use Rattle.tokens.specs.Text.{if◌then◌else◌, leading, every, count, script, other}
+use Rattle.tokens.specs.Text.{leading, every, count, script, other}
 use Rattle.tokens.specs.Names.{Lists, good_lists}
 use Rattle.tokens.specs.Tokens.{Token, Lexed, lexed, refused as faulty, scan, tokens, finished, final, code, counts, end_of}
 use Rattle.tokens.proofs.Joins.{Joint, over, joined, scan_join}

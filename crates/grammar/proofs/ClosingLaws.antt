@@ -1,4 +1,5 @@
 -- A statement whose last token is `;` or `}`: what may stand behind it is nearly anything, End included.
+use Rattle.std.specs.Prelude.{if◌then◌else◌}
 use mathlib.Core.Path.{◌≡◌, refl, sym, ap, ◌∙◌}
 use mathlib.Core.Bool.{Bool, true, false, ◌||◌, not, true≢false}
 use mathlib.Core.List.{List, [], ◌∷◌, ◌++◌, append_assoc}
@@ -8,7 +9,6 @@ use Prim.Native.String.{String}
 use native.Mathlib.Omega.{arith}
 use lib.Dec.{eqb}
 use lib.ListN.{length, length-append}
-use Rattle.tokens.specs.Text.{if◌then◌else◌}
 use Rattle.tokens.specs.Tokens.{Token, code, counts}
 use Rattle.grammar.specs.Trees.{Tree}
 use Rattle.grammar.specs.Readers.{Out, ok, refused, Reader, bind, ◌>>=◌, ◌>>◌, first, is, give, fail, fail_at, ask, peek, read, the, last_of, closes}

@@ -1,8 +1,9 @@
 -- Whatever is read has true dates: each is the count of a day that a text writes, so that none is past the last.
 -- A reader's law follows the reader's own text, by the laws of `GivesLaws`.
+use Rattle.std.specs.Prelude.{if◌then◌else◌}
 use mathlib.Core.Path.{◌≡◌, refl, sym, ap, subst, ◌∙◌}
 use mathlib.Core.Logic.{inl, inr, ⊎_elim}
-use mathlib.Core.Bool.{Bool, true, false, ◌||◌, not}
+use mathlib.Core.Bool.{cond, Bool, true, false, ◌||◌, not}
 use mathlib.Core.List.{List, [], ◌∷◌, map, Memᴰ}
 use mathlib.Core.Option.{Option, none, some}
 use Prim.Native.Nat.{ℕ, zero, suc, ◌+◌, ◌-◌, ◌≤◌}
@@ -13,7 +14,7 @@ use borrow.Author.Tests.{eqb-true}
 use lib.ListN.{length}
 use Rattle.calendar.specs.Calendar.{last_count}
 use Rattle.tokens.specs.Limits.{most_tokens, most_depth}
-use Rattle.tokens.specs.Text.{if◌then◌else◌, script, count}
+use Rattle.tokens.specs.Text.{script, count}
 use Rattle.tokens.specs.Names.{Lists}
 use Rattle.tokens.specs.Dates.{date, is_date}
 use Rattle.tokens.specs.Tokens.{Token, Lexed, lexed, refused as faulty, tokens, counts}
@@ -42,9 +43,7 @@ none_counted = counted []
 -- so is each field that holds a date, by the kind
 abbrev Dates : ℕ → Fields → Type 0
 Dates k (fields a b c d) =
-    if eqb k 32 || eqb k 33 then Counted c
-    else if eqb k 34 || eqb k 36 then Counted a
-    else if eqb k 35 then Counted c × Counted d else Unit {0}
+    cond (eqb k 32 || eqb k 33) (Counted c) (cond (eqb k 34 || eqb k 36) (Counted a) (cond (eqb k 35) (Counted c × Counted d) (Unit {0})))
 
 -- and so for each node of a tree
 mutual
@@ -59,7 +58,7 @@ mutual
 unused_dated : {k p : ℕ} {s : List ℕ} {ts : Trees} → DatedAll ts → Dated (node k p s unused ts)
 unused_dated {k} h = node_dated (go (eqb k 32 || eqb k 33) (eqb k 34 || eqb k 36) (eqb k 35)) h
   where
-    go : (p q r : Bool) → if p then Counted 0 else if q then Counted 0 else if r then Counted 0 × Counted 0 else Unit {0}
+    go : (p q r : Bool) → cond p (Counted 0) (cond q (Counted 0) (cond r (Counted 0 × Counted 0) (Unit {0})))
     go true q r = none_counted
     go false true r = none_counted
     go false false true = (none_counted, none_counted)

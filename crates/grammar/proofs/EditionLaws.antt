@@ -1,11 +1,11 @@
 -- What differs between the editions, and nothing else does: edition one's readers are those of the language before there was a second.
+use Rattle.std.specs.Prelude.{if◌then◌else◌}
 use mathlib.Core.Path.{◌≡◌, refl, sym, ap, ◌∙◌}
 use mathlib.Core.Bool.{Bool, true, false, ◌||◌, not, ◌&&◌}
 use mathlib.Core.List.{List, [], ◌∷◌}
 use mathlib.Core.Option.{Option}
 use Prim.Native.Nat.{ℕ}
 use lib.Ieee.{neg}
-use Rattle.tokens.specs.Text.{if◌then◌else◌}
 use Rattle.tokens.specs.Numbers.{value}
 use Rattle.tokens.specs.Tokens.{Token, code}
 use Rattle.grammar.specs.Trees.{Tree}

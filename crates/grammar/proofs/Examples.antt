@@ -1,4 +1,5 @@
 -- The paper's examples, computed: proved readings, readings to rule out, the listing.
+use Rattle.std.specs.Prelude.{if◌then◌else◌}
 use mathlib.Core.Path.{◌≡◌, refl}
 use mathlib.Core.Bool.{Bool, true, false, ◌&&◌}
 use mathlib.Core.List.{List, [], ◌∷◌, ◌++◌}
@@ -6,7 +7,7 @@ use Prim.Native.Nat.{ℕ, zero, suc, ◌+◌}
 use Prim.Native.String.{String}
 use lib.Dec.{T, eqb, leb}
 use lib.ListN.{take, drop, length}
-use Rattle.tokens.specs.Text.{if◌then◌else◌, bytes, same}
+use Rattle.tokens.specs.Text.{bytes, same}
 use Rattle.tokens.specs.Places.{line, column}
 use Rattle.tokens.specs.Names.{Lists}
 use Rattle.grammar.specs.Sizes.{record_room, statement_room}

@@ -1,5 +1,6 @@
 -- Readers that give what passes a test: whatever such a reader reads passes it, and a refusal tells nothing.
 -- Each form that readers are made of has its law, so that a reader's law follows the reader's own text.
+use Rattle.std.specs.Prelude.{if◌then◌else◌}
 use mathlib.Core.Path.{◌≡◌, refl, subst}
 use mathlib.Core.Bool.{Bool, true, false}
 use mathlib.Core.List.{List, [], ◌∷◌}
@@ -7,7 +8,6 @@ use mathlib.Core.Option.{Option}
 use Prim.Native.Nat.{ℕ, zero, suc}
 use Prim.Native.String.{String}
 use lib.ListN.{length}
-use Rattle.tokens.specs.Text.{if◌then◌else◌}
 use Rattle.tokens.specs.Tokens.{Token}
 use Rattle.grammar.specs.Readers.{Out, ok, refused, Reader, bind, ◌>>=◌, ◌>>◌, Turn, again, done, follow, turns, loop, first, is, skip, give, fail, fail_at, ask, look, read, the}
 use Rattle.grammar.specs.Grammar.{deeper, optional, Edition, one, two, in_edition}

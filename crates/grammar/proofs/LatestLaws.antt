@@ -1,4 +1,5 @@
 -- The latest date: over records' words put together, over the nodes of a tree, over the entries of a directory.
+use Rattle.std.specs.Prelude.{if◌then◌else◌}
 use mathlib.Core.Path.{◌≡◌, refl, sym, ap, ap₂, subst, ◌∙◌}
 use mathlib.Core.Bool.{Bool, true, false, ◌||◌}
 use mathlib.Core.Logic.{◌⊎◌, inl, inr, ⊎_map}
@@ -12,7 +13,6 @@ use lib.Dec.{eqb}
 use borrow.Author.Tests.{eqb-true}
 use lib.ListN.{length, length-drop, drop, get_or, get_or-append}
 use lib.Seq.{drop-drop, drop-append-le, drop_at, get_or-drop}
-use Rattle.tokens.specs.Text.{if◌then◌else◌}
 use Rattle.grammar.specs.Sizes.{record_width}
 use Rattle.grammar.specs.Trees.{Tree, Trees, node, nil, ◌▹◌, Fields, fields, row, parts, size, sizes, records, records_of}
 use Rattle.grammar.specs.Latest.{date_of, date_at, latest_in, Date, spot, equity, df, from, to, pays, Has, here, below, HasPart, this, other}

@@ -1,5 +1,6 @@
 -- The laws of readers: a reader leaves an end of its tokens, and of what it leaves it looks at the first token alone.
 -- Each form that readers are made of has its law, so that a reader's law follows the reader's own text.
+use Rattle.std.specs.Prelude.{if◌then◌else◌}
 use mathlib.Core.Path.{◌≡◌, refl, sym, ap, ◌∙◌, subst}
 use mathlib.Core.Bool.{Bool, true, false}
 use mathlib.Core.List.{List, [], ◌∷◌, ◌++◌, append_assoc, append-nil}
@@ -9,7 +10,6 @@ use native.Mathlib.Omega.{arith}
 use native.Mathlib.Nat.{le_refl, le_trans}
 use lib.Seq.{take-append_seam}
 use lib.ListN.{length, take, length-append}
-use Rattle.tokens.specs.Text.{if◌then◌else◌}
 use Rattle.tokens.specs.Tokens.{Token, code}
 use Rattle.grammar.specs.Readers.{Out, ok, refused, Reader, bind, ◌>>=◌, Turn, again, done, follow, turns, loop, first, second, is, skip, give, fail, fail_at, ask, look, peek, read, the}
 

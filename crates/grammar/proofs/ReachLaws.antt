@@ -1,4 +1,5 @@
 -- Places in a script: statements, and the tokens that they are read from.
+use Rattle.std.specs.Prelude.{if◌then◌else◌}
 use mathlib.Core.Path.{◌≡◌, refl, sym, ap, ◌∙◌, subst}
 use mathlib.Core.Bool.{Bool, true, false, not, true≢false}
 use mathlib.Core.List.{List, [], ◌∷◌, ◌++◌, append_assoc, append-nil, map, map-append}
@@ -7,7 +8,7 @@ use native.Mathlib.Omega.{arith}
 use lib.Seq.{drop-append_seam}
 use lib.ListN.{length, take, drop, length-append, length-map}
 use Rattle.tokens.specs.Limits.{most_depth}
-use Rattle.tokens.specs.Text.{if◌then◌else◌, count}
+use Rattle.tokens.specs.Text.{count}
 use Rattle.tokens.specs.Tokens.{Token, code, final, counts, end_of}
 use Rattle.tokens.proofs.Shapes.{Sorted}
 use Rattle.grammar.specs.Readers.{first, is, skip, last_of, closes}

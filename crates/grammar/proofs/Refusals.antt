@@ -1,5 +1,6 @@
 -- On which grounds a script is refused, and where: 1 to 15, of a reading with room 16 as well, and no further than the script's end; 26 before them all.
 -- Each form that readers are made of has its law, so that a reader's law follows the reader's own text.
+use Rattle.std.specs.Prelude.{if◌then◌else◌}
 use mathlib.Core.Path.{◌≡◌, refl, subst}
 use mathlib.Core.Bool.{Bool, true, false, not}
 use mathlib.Core.Logic.{◌⊎◌, inl, inr, ⊎_elim}
@@ -14,7 +15,7 @@ use mir.Facts.{and_yes}
 use borrow.Author.Tests.{eqb-true, ltb-false}
 use lib.ListN.{length}
 use Rattle.tokens.specs.Limits.{most_bytes, most_tokens, most_depth}
-use Rattle.tokens.specs.Text.{if◌then◌else◌, script, within, count}
+use Rattle.tokens.specs.Text.{script, within, count}
 use Rattle.tokens.specs.Names.{Lists, good_lists}
 use Rattle.tokens.specs.Tokens.{Token, Lexed, lexed, refused as faulty, scan, final, finished, tokens, counts}
 use Rattle.tokens.proofs.Shapes.{Sorted, scan_sorted, scan_refused}

@@ -1,4 +1,5 @@
 -- The statements of a script, one behind the other.
+use Rattle.std.specs.Prelude.{if◌then◌else◌}
 use mathlib.Core.Path.{◌≡◌, refl, sym, ap, ◌∙◌, subst}
 use mathlib.Core.Bool.{Bool, true, false, not}
 use mathlib.Core.List.{List, [], ◌∷◌, ◌++◌, append_assoc, append-nil, map, map-append}
@@ -8,7 +9,7 @@ use native.Mathlib.Nat.{add_assoc, zero-add, add-zero}
 use lib.Seq.{take-append_seam}
 use lib.ListN.{length, take, length-append, length-map}
 use Rattle.tokens.specs.Limits.{most_depth}
-use Rattle.tokens.specs.Text.{if◌then◌else◌, count}
+use Rattle.tokens.specs.Text.{count}
 use Rattle.tokens.specs.Tokens.{Token, code, counts, end_of}
 use Rattle.grammar.specs.Trees.{Tree}
 use Rattle.grammar.specs.Readers.{Out, ok, refused as wrong, first, is, skip, last_of}

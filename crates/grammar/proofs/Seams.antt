@@ -1,4 +1,5 @@
 -- Texts behind which anything may stand: the seams of an amended script.
+use Rattle.std.specs.Prelude.{if◌then◌else◌}
 use mathlib.Core.Path.{◌≡◌, refl, sym, ap, ◌∙◌, subst}
 use mathlib.Core.Bool.{Bool, true, false, ◌||◌, not, true≢false}
 use mathlib.Core.List.{List, [], ◌∷◌, ◌++◌}
@@ -8,7 +9,7 @@ use lib.Dec.{T, leb, eqb}
 use lib.Seq.{take-suc, take-length, length-take-le}
 use lib.ListN.{length, take, get_or, length-append}
 use borrow.Author.Tests.{eqb-true, leb-true, leb-false}
-use Rattle.tokens.specs.Text.{if◌then◌else◌, bytes, leading, blank, count, begins, other}
+use Rattle.tokens.specs.Text.{bytes, leading, blank, count, begins, other}
 use Rattle.tokens.specs.Tokens.{Token, Lexeme, gap, piece, fault, lexeme, Lexed, lexed, refused as faulty, before, taken, scan, code, counts, end_of}
 use Rattle.tokens.proofs.Joins.{width, Joint, over, rest, here, firm, lexeme_inner, lexeme_firm}
 use Rattle.tokens.proofs.Cuts.{Wide, lexeme_wide, Start}

@@ -1,5 +1,6 @@
 -- The nodes of what is read are bounded by the tokens that were read: three for each token.
 -- A reader holds k nodes of credit, each token that is read adds three, and what was read weighs w at most what is held.
+use Rattle.std.specs.Prelude.{if◌then◌else◌}
 use mathlib.Core.Path.{◌≡◌, refl, subst}
 use mathlib.Core.Bool.{Bool, true, false, ◌&&◌, ◌||◌, not}
 use mathlib.Core.List.{List, [], ◌∷◌}
@@ -9,7 +10,7 @@ use Prim.Native.String.{String}
 use native.Mathlib.Omega.{arith}
 use lib.Dec.{leb, eqb}
 use lib.ListN.{length}
-use Rattle.tokens.specs.Text.{if◌then◌else◌, bytes, same, within}
+use Rattle.tokens.specs.Text.{bytes, same, within}
 use Rattle.tokens.specs.Names.{place, member}
 use Rattle.tokens.specs.Dates.{date}
 use Rattle.tokens.specs.Tokens.{Token, code}

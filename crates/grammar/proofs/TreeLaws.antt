@@ -1,10 +1,10 @@
 -- Trees with one more part, with the parts of another, and without places: their nodes and their parts.
+use Rattle.std.specs.Prelude.{if◌then◌else◌}
 use mathlib.Core.Path.{◌≡◌, refl, sym, ap, ◌∙◌}
 use mathlib.Core.Bool.{Bool, true, false}
 use Prim.Native.Nat.{ℕ, suc, ◌+◌, ◌≤◌}
 use native.Mathlib.Omega.{arith}
 use lib.Dec.{eqb}
-use Rattle.tokens.specs.Text.{if◌then◌else◌}
 use Rattle.grammar.specs.Trees.{Fields, fields, none, Tree, Trees, node, nil, ◌▹◌, snoc, join, parts, size, sizes, meant, meaning, meanings}
 
 -- a tree has a node

@@ -1,9 +1,9 @@
 -- The grammar, line by line as the paper has it under "Reading" and "Depth", in both editions. Places are those of the tokens that are handed in.
-use Rattle.std.specs.Prelude.{Bool, true, false, ◌&&◌, ◌||◌, not, List, [], ◌∷◌, ℕ, zero, suc, ◌-◌, leb, eqb, length, take, drop, Float}
+use Rattle.std.specs.Prelude.{Bool, true, false, ◌&&◌, ◌||◌, not, List, [], ◌∷◌, ℕ, zero, suc, ◌-◌, leb, eqb, length, take, drop, Float, if◌then◌else◌}
 use Rattle.std.proofs.Math.Option.{Option, none, some}
 use Prim.Native.String.{String}
 use Rattle.std.specs.Float.Ieee.{neg}
-use Rattle.tokens.specs.Text.{if◌then◌else◌, bytes, same, within}
+use Rattle.tokens.specs.Text.{bytes, same, within}
 use Rattle.tokens.specs.Names.{place, member}
 use Rattle.tokens.specs.Numbers.{value, bits_of}
 use Rattle.tokens.specs.Dates.{date}

@@ -1,6 +1,5 @@
 -- The latest date of records, over their words as they stand in memory. Dates are day counts, and 0 is none.
-use Rattle.std.specs.Prelude.{◌||◌, List, ℕ, zero, suc, max, eqb, drop, get_or}
-use Rattle.tokens.specs.Text.{if◌then◌else◌}
+use Rattle.std.specs.Prelude.{◌||◌, List, ℕ, zero, suc, max, eqb, drop, get_or, if◌then◌else◌}
 use Rattle.grammar.specs.Sizes.{record_width}
 use Rattle.grammar.specs.Trees.{Tree, Trees, node, ◌▹◌, Fields, fields}
 

@@ -1,7 +1,6 @@
 -- Readers: what reads a tree, or something else, from the front of a list of tokens.
-use Rattle.std.specs.Prelude.{Bool, true, false, ◌||◌, List, [], ◌∷◌, ℕ, zero, suc, eqb, length}
+use Rattle.std.specs.Prelude.{Bool, true, false, ◌||◌, List, [], ◌∷◌, ℕ, zero, suc, eqb, length, if◌then◌else◌}
 use Prim.Native.String.{String}
-use Rattle.tokens.specs.Text.{if◌then◌else◌}
 use Rattle.tokens.specs.Tokens.{Token, code, counts}
 
 -- what was read and the tokens left, or a refusal: its number and place

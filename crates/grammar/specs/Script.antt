@@ -1,7 +1,7 @@
 -- The reading of a whole script: its statements, or a refusal.
-use Rattle.std.specs.Prelude.{Bool, not, List, [], ◌∷◌, map, ℕ, zero, suc, ◌+◌, ◌-◌, ltb, eqb, length, take}
+use Rattle.std.specs.Prelude.{Bool, not, List, [], ◌∷◌, map, ℕ, zero, suc, ◌+◌, ◌-◌, ltb, eqb, length, take, if◌then◌else◌}
 use Rattle.tokens.specs.Limits.{most_bytes, most_tokens, most_depth}
-use Rattle.tokens.specs.Text.{if◌then◌else◌, script, every, other, count}
+use Rattle.tokens.specs.Text.{script, every, other, count}
 use Rattle.tokens.specs.Names.{Lists, good_lists, names}
 use Rattle.tokens.specs.Tokens.{Token, Lexed, lexed, refused as faulty, tokens, counts, end_of}
 use Rattle.grammar.specs.Trees.{Tree, size}

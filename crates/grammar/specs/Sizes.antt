@@ -1,6 +1,5 @@
 -- The widths of records and of the directory, and their capacities, each named once.
-use Rattle.std.specs.Prelude.{ℕ, ◌/◌, ltb}
-use Rattle.tokens.specs.Text.{if◌then◌else◌}
+use Rattle.std.specs.Prelude.{ℕ, ◌/◌, ltb, if◌then◌else◌}
 
 -- a record has eight words
 abbrev pub record_width : ℕ

@@ -2,8 +2,7 @@
 -- Kinds: 1 Variable, 2 Constant, 3 True, 4 False, 5 String, 6 List, 7 UnaryMinus, 8 Add, 9 Subtract, 10 Multiply, 11 Divide, 12 Pow, 13 Equal, 14 NotEqual, 15 Superior,
 -- 16 Inferior, 17 SuperiorOrEqual, 18 InferiorOrEqual, 19 And, 20 Or, 21 Ln, 22 Exp, 23 Min, 24 Max, 25 Cvg, 26 Fif, 27 Range, 28 Index, 29 Append, 30 Mean, 31 Std, 32 Spot,
 -- 33 equity spot, 34 Df, 35 RateIndex, 36 Pays, 37 Assign, 38 If, 39 ForEach.
-use Rattle.std.specs.Prelude.{List, [], ◌∷◌, ◌++◌, ℕ, suc, ◌+◌, eqb}
-use Rattle.tokens.specs.Text.{if◌then◌else◌}
+use Rattle.std.specs.Prelude.{List, [], ◌∷◌, ◌++◌, ℕ, suc, ◌+◌, eqb, if◌then◌else◌}
 
 -- f1 to f4
 pub data Fields : Type 0 where

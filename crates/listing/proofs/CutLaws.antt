@@ -1,4 +1,5 @@
 -- The listing of an input is that of its first 16,385 bytes: one more than a script may have tells that it is too long.
+use Rattle.std.specs.Prelude.{if◌then◌else◌}
 use mathlib.Core.Path.{◌≡◌, refl, sym, ap, ◌∙◌}
 use mathlib.Core.Bool.{Bool, true, false, not}
 use mathlib.Core.List.{List, [], ◌∷◌}
@@ -9,7 +10,7 @@ use lib.ListN.{length, take}
 use lib.Seq.{length-take-le, take_all, take-take}
 use borrow.Author.Tests.{lt-ltb, ltb-true, ltb-false}
 use Rattle.tokens.specs.Limits.{most_bytes}
-use Rattle.tokens.specs.Text.{if◌then◌else◌, script, leading, other, count}
+use Rattle.tokens.specs.Text.{script, leading, other, count}
 use Rattle.tokens.specs.Tokens.{tokens}
 use Rattle.tokens.specs.Names.{good_lists}
 use Rattle.tokens.specs.Places.{line as line_at, column as column_at, since}

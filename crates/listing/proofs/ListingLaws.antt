@@ -1,4 +1,5 @@
 -- Laws of the listing: what a reading leaves in memory is listed as what was read.
+use Rattle.std.specs.Prelude.{if◌then◌else◌}
 use mathlib.Core.Path.{◌≡◌, refl, ap, ◌∙◌}
 use mathlib.Core.Bool.{Bool, true, false}
 use mathlib.Core.List.{List, ◌++◌}
@@ -8,7 +9,7 @@ use lib.Dec.{ltb}
 use lib.ListN.{length, take, drop, length-drop}
 use lib.Seq.{take-append-le, drop-append-le}
 use borrow.Author.Tests.{eq-eqb, ne_eqb, ltb-false}
-use Rattle.tokens.specs.Text.{if◌then◌else◌, script}
+use Rattle.tokens.specs.Text.{script}
 use Rattle.grammar.specs.Sizes.{record_width, entry_width, record_room, statement_room, most_records, most_statements}
 use Rattle.grammar.specs.Grammar.{one}
 use Rattle.grammar.specs.Script.{Outcome, accepted, refused, fitting, read_script, reading_in, reading, nodes}

@@ -1,6 +1,5 @@
 -- The listing of a script.
-use Rattle.std.specs.Prelude.{List, [], ◌∷◌, ◌++◌, ℕ, ◌+◌, ◌*◌, eqb}
-use Rattle.tokens.specs.Text.{if◌then◌else◌}
+use Rattle.std.specs.Prelude.{List, [], ◌∷◌, ◌++◌, ℕ, ◌+◌, ◌*◌, eqb, if◌then◌else◌}
 use Rattle.tokens.specs.Names.{Lists}
 use Rattle.grammar.specs.Sizes.{most_records, most_statements}
 use Rattle.grammar.specs.Grammar.{one}

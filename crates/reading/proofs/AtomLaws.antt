@@ -1,4 +1,5 @@
 -- The tokens that are primaries of their own: what the bytes of a number and of a string are, and what the readers make of them.
+use Rattle.std.specs.Prelude.{if◌then◌else◌}
 use mathlib.Core.Path.{◌≡◌, refl, sym, ap, ◌∙◌, subst}
 use mathlib.Core.Bool.{Bool, true, false, ◌||◌, not, true≢false}
 use mathlib.Core.List.{List, [], ◌∷◌}
@@ -10,7 +11,7 @@ use lib.Dec.{eqb, ltb}
 use lib.ListN.{length, take, drop, get_or, length-append, length-take, length-drop}
 use lib.Seq.{take-take}
 use borrow.Author.Tests.{ltb-true, eqb-true, eqb-false, ne_eqb, eq-eqb, le-leb}
-use Rattle.tokens.specs.Text.{if◌then◌else◌, bytes, same, begins, every, leading, letter, digit, name_byte, number_byte, blank, other}
+use Rattle.tokens.specs.Text.{bytes, same, begins, every, leading, letter, digit, name_byte, number_byte, blank, other}
 use Rattle.tokens.specs.Numbers.{number_fault, value, value_of, signed, bits_of}
 use Rattle.tokens.specs.Names.{place}
 use Rattle.tokens.specs.Tokens.{Token, Lexeme, gap, piece, fault, word, numeral, quoted, sign, signs, keywords, entry, code, lexeme, final}

@@ -1,4 +1,5 @@
 -- Calls at a cursor: their names, the strings that they take, dates and currencies in these, and what is read behind a name.
+use Rattle.std.specs.Prelude.{if◌then◌else◌}
 use mathlib.Core.Path.{◌≡◌, refl, sym, ap, ◌∙◌, subst}
 use mathlib.Core.Bool.{Bool, true, false, ◌&&◌}
 use mathlib.Core.List.{List, []}
@@ -8,7 +9,7 @@ use native.Mathlib.Omega.{arith}
 use lib.Dec.{T, eqb, leb}
 use borrow.Author.Tests.{eq-eqb, ne_eqb}
 use lib.ListN.{length, take, drop}
-use Rattle.tokens.specs.Text.{if◌then◌else◌, bytes, same, every}
+use Rattle.tokens.specs.Text.{bytes, same, every}
 use Rattle.tokens.specs.Names.{names, place}
 use Rattle.tokens.specs.Dates.{date}
 use Rattle.tokens.specs.Tokens.{Token, code}

@@ -1,4 +1,5 @@
 -- What stands round the parts of a call, a list and a pays: the strings of a cvg, leaves, and what follows a part.
+use Rattle.std.specs.Prelude.{if◌then◌else◌}
 use mathlib.Core.Path.{◌≡◌, refl, sym, ap, ◌∙◌}
 use mathlib.Core.Bool.{Bool, true, false, ◌||◌}
 use mathlib.Core.List.{List, []}
@@ -7,7 +8,7 @@ use native.Mathlib.Omega.{arith}
 use lib.Dec.{eqb, leb}
 use lib.ListN.{length, take, drop, length-drop}
 use borrow.Author.Tests.{eqb-true, ne_eqb, eq-eqb, le-leb}
-use Rattle.tokens.specs.Text.{if◌then◌else◌, leading, other}
+use Rattle.tokens.specs.Text.{leading, other}
 use Rattle.tokens.specs.Names.{place}
 use Rattle.tokens.specs.Dates.{date}
 use Rattle.tokens.specs.Tokens.{Token, code, entry}

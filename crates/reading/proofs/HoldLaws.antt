@@ -1,4 +1,5 @@
 -- Cursors that hold a token of a text: what stands there, where the next one stands, and what the readers do there.
+use Rattle.std.specs.Prelude.{if◌then◌else◌}
 use mathlib.Core.Path.{◌≡◌, refl, sym, ap, ◌∙◌, subst}
 use mathlib.Core.Bool.{Bool, true, false, not}
 use mathlib.Core.List.{List, [], ◌∷◌, ◌++◌, append_assoc, map, map-append}
@@ -11,7 +12,7 @@ use borrow.Author.Tests.{ltb-true, ltb-false, lt-ltb, eqb-true, eqb-false, eq-eq
 use lib.ListN.{length, take, drop, get_or, length-append, length-take, length-drop, drop_of_length-le}
 use lib.Seq.{take_all, take-nil}
 use Rattle.tokens.specs.Limits.{most_bytes}
-use Rattle.tokens.specs.Text.{if◌then◌else◌, count}
+use Rattle.tokens.specs.Text.{count}
 use Rattle.tokens.specs.Tokens.{Token, Lexeme, gap, piece, fault, code, lexeme, Lexed, lexed, refused as faulty, before, taken, scan, final, counts, end_of}
 use Rattle.tokens.specs.Lexing.{marked, mark_from, mark_at, token_of, settle_from, cursor_of, cursor_at, one_more, advanced}
 use Rattle.tokens.specs.declared.lexing.Mark.{Mark}

@@ -1,4 +1,5 @@
 -- Parts of a list, of a call and of a pays: what each step of the code comes to in the definition. Each law is over plain values.
+use Rattle.std.specs.Prelude.{if◌then◌else◌}
 use mathlib.Core.Path.{◌≡◌, refl, sym, ap, ◌∙◌}
 use mathlib.Core.Bool.{Bool, true, false, ◌||◌, not}
 use mathlib.Core.List.{List, []}
@@ -8,7 +9,7 @@ use native.Mathlib.Omega.{arith}
 use lib.Dec.{eqb, leb}
 use borrow.Author.Tests.{eq-eqb, ne_eqb, eqb-true, eqb-false, le-leb, leb-true}
 use lib.ListN.{length}
-use Rattle.tokens.specs.Text.{if◌then◌else◌, bytes, same, within}
+use Rattle.tokens.specs.Text.{bytes, same, within}
 use Rattle.tokens.specs.Names.{member}
 use Rattle.tokens.specs.Dates.{date}
 use Rattle.tokens.specs.Tokens.{Token, code, entry}

@@ -1,4 +1,5 @@
 -- Laws of judging: what the scan and the reader of all statements answer is the judgement.
+use Rattle.std.specs.Prelude.{if◌then◌else◌}
 use mathlib.Core.Path.{◌≡◌, refl, sym, ap, ◌∙◌, subst}
 use mathlib.Core.Bool.{Bool, true, false, ◌&&◌}
 use mathlib.Core.List.{List, [], ◌∷◌, ◌++◌}
@@ -9,7 +10,7 @@ use lib.Dec.{T, ltb}
 use lib.ListN.{length, take, drop}
 use borrow.Author.Tests.{ltb-false}
 use Rattle.tokens.specs.Limits.{most_bytes, most_tokens}
-use Rattle.tokens.specs.Text.{if◌then◌else◌, script, leading, every, other, count}
+use Rattle.tokens.specs.Text.{script, leading, every, other, count}
 use Rattle.tokens.specs.Names.{Lists, good_list, good_lists}
 use Rattle.tokens.specs.Tokens.{Token, Lexed, lexed, refused as faulty, scan, final, code, counts, end_of, tokens}
 use Rattle.tokens.specs.Lexing.{script_end, summary, scan_of}

@@ -1,4 +1,5 @@
 -- Postfixes and names: what each step of the code comes to in the definition, over plain values.
+use Rattle.std.specs.Prelude.{if◌then◌else◌}
 use mathlib.Core.Path.{◌≡◌, refl, sym, ap, ◌∙◌, subst}
 use mathlib.Core.Bool.{Bool, true, false, ◌&&◌, ◌||◌, not, true≢false}
 use mathlib.Core.List.{List, []}
@@ -8,7 +9,7 @@ use native.Mathlib.Omega.{arith}
 use lib.Dec.{eqb, leb}
 use borrow.Author.Tests.{eq-eqb, ne_eqb, eqb-true, leb-true}
 use lib.ListN.{length}
-use Rattle.tokens.specs.Text.{if◌then◌else◌, bytes, same}
+use Rattle.tokens.specs.Text.{bytes, same}
 use Rattle.tokens.specs.Names.{member}
 use Rattle.tokens.specs.Tokens.{Token, code, final}
 use Rattle.tokens.specs.declared.cursor.Cursor.{Cursor}

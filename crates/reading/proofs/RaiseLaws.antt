@@ -1,4 +1,5 @@
 -- What a chain of `**` that groups right leaves in lent memory, whether it is long enough or not.
+use Rattle.std.specs.Prelude.{if◌then◌else◌}
 use mathlib.Core.Path.{◌≡◌, refl, sym, ap, ◌∙◌, subst}
 use mathlib.Core.Bool.{Bool, true, false}
 use mathlib.Core.Logic.{inl, inr}
@@ -10,7 +11,6 @@ use lib.Dec.{ltb}
 use lib.ListN.{length, length-append, length-set, set, get_or}
 use lib.Seq.{get_or-set_same, get_or-set_other, set-set, set_comm}
 use borrow.Author.Tests.{lt-ltb}
-use Rattle.tokens.specs.Text.{if◌then◌else◌}
 use Rattle.grammar.specs.Sizes.{record_width}
 use Rattle.grammar.specs.Trees.{Tree, Trees, node, fields, none as unused, kind_of, parts, size, sizes, row}
 use Rattle.grammar.specs.Grammar.{binary, onto}

@@ -1,4 +1,5 @@
 -- Laws of reading into lent memory: what a judgement, the room and the reader of all statements leave there.
+use Rattle.std.specs.Prelude.{if◌then◌else◌}
 use mathlib.Core.Path.{◌≡◌, refl, sym, ap, ◌∙◌, subst}
 use mathlib.Core.Bool.{Bool, true, false}
 use mathlib.Core.List.{List, [], ◌∷◌, ◌++◌, map}
@@ -7,7 +8,7 @@ use native.Mathlib.Omega.{arith}
 use lib.Dec.{ltb}
 use lib.ListN.{length, length-map, take}
 use borrow.Author.Tests.{ne_eqb, lt-ltb, le-ltb, ltb-true, ltb-false}
-use Rattle.tokens.specs.Text.{if◌then◌else◌, script}
+use Rattle.tokens.specs.Text.{script}
 use Rattle.tokens.specs.Names.{Lists}
 use Rattle.tokens.proofs.Outcomes.{one_outcome}
 use Rattle.grammar.specs.Sizes.{record_width, entry_width, most_records, most_statements, record_room, statement_room}

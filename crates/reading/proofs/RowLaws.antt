@@ -1,4 +1,5 @@
 -- Laws of records in lent memory: what stands there after a node's parts and the node, and after all.
+use Rattle.std.specs.Prelude.{if◌then◌else◌}
 use mathlib.Core.Path.{◌≡◌, refl, sym, ap, ◌∙◌}
 use mathlib.Core.Bool.{Bool, true, false}
 use mathlib.Core.List.{List, [], ◌∷◌, ◌++◌, append_assoc, append-nil}
@@ -10,7 +11,6 @@ use lib.Dec.{ltb}
 use lib.ListN.{length, length-append, length-set, set, take, drop, take-append-drop}
 use lib.Seq.{sets, sets-eq, length-take-le, take_at, drop_at, drop-append-add, drop-drop}
 use borrow.Author.Tests.{lt-ltb, le-ltb}
-use Rattle.tokens.specs.Text.{if◌then◌else◌}
 use Rattle.grammar.specs.Sizes.{record_width}
 use Rattle.grammar.specs.Trees.{Tree, Trees, node, nil, ◌▹◌, Fields, fields, snoc, join, parts, size, sizes, row, records, records_of}
 use Rattle.reading.specs.Rows.{rows, rows_of, put_words, put_at, put_all, put_row, put_rows}

@@ -1,6 +1,5 @@
 -- The primaries that are one token, as readers of their own.
-use Rattle.std.specs.Prelude.{Bool, ℕ}
-use Rattle.tokens.specs.Text.{if◌then◌else◌}
+use Rattle.std.specs.Prelude.{Bool, ℕ, if◌then◌else◌}
 use Rattle.tokens.specs.Numbers.{value, signed}
 use Rattle.grammar.specs.Trees.{Tree, none as unused}
 use Rattle.grammar.specs.Readers.{Reader, ◌>>=◌, ◌>>◌, is, give, fail, peek, the}

@@ -1,7 +1,7 @@
 -- Calls and methods by numbers, as the code tells them.
-use Rattle.std.specs.Prelude.{Bool, false, ◌&&◌, List, [], ◌∷◌, ℕ, leb, eqb}
+use Rattle.std.specs.Prelude.{Bool, false, ◌&&◌, List, [], ◌∷◌, ℕ, leb, eqb, if◌then◌else◌}
 use Prim.Native.String.{String}
-use Rattle.tokens.specs.Text.{if◌then◌else◌, bytes, same, within}
+use Rattle.tokens.specs.Text.{bytes, same, within}
 use Rattle.tokens.specs.Dates.{date}
 use Rattle.tokens.specs.Tokens.{Token}
 use Rattle.tokens.specs.Keys.{pack, lookup, keyed}

@@ -1,7 +1,7 @@
 -- What the readers of the code answer, in terms of the definition's readers.
-use Rattle.std.specs.Prelude.{◌≡◌, Bool, true, false, List, [], ◌∷◌, ◌++◌, ℕ, suc, ◌+◌, ◌-◌, ◌*◌, ◌≤◌, eqb, length, take, drop}
+use Rattle.std.specs.Prelude.{◌≡◌, Bool, true, false, List, [], ◌∷◌, ◌++◌, ℕ, suc, ◌+◌, ◌-◌, ◌*◌, ◌≤◌, eqb, length, take, drop, if◌then◌else◌}
 use Rattle.tokens.specs.Limits.{most_bytes}
-use Rattle.tokens.specs.Text.{if◌then◌else◌, leading, other, count}
+use Rattle.tokens.specs.Text.{leading, other, count}
 use Rattle.tokens.specs.Names.{names}
 use Rattle.tokens.specs.Tokens.{Token, Lexed, lexed, refused as faulty, scan, final, counts, end_of}
 use Rattle.tokens.specs.Lexing.{mark_at}

@@ -1,6 +1,5 @@
 -- A chain of `**` that groups right, in lent memory: while it is read, the root of each operand but the last holds where the operand's text begins.
-use Rattle.std.specs.Prelude.{◌≡◌, Bool, true, false, ◌⊎◌, List, [], ◌∷◌, ◌++◌, ℕ, ◌+◌, ◌-◌, ◌*◌, ◌%◌, ◌≤◌, ◌<◌, eqb, ltb, set, get_or}
-use Rattle.tokens.specs.Text.{if◌then◌else◌}
+use Rattle.std.specs.Prelude.{◌≡◌, Bool, true, false, ◌⊎◌, List, [], ◌∷◌, ◌++◌, ℕ, ◌+◌, ◌-◌, ◌*◌, ◌%◌, ◌≤◌, ◌<◌, eqb, ltb, set, get_or, if◌then◌else◌}
 use Rattle.grammar.specs.Sizes.{record_width}
 use Rattle.grammar.specs.Trees.{Tree, Trees, node, nil, kind_of, snoc, size, sizes}
 use Rattle.grammar.specs.Grammar.{onto}

@@ -1,6 +1,5 @@
 -- Records and entries one after the other in lent memory: each is written where it fits whole.
-use Rattle.std.specs.Prelude.{List, [], ◌∷◌, ◌++◌, ℕ, suc, ◌+◌, ◌-◌, ◌*◌, ◌/◌, leb, ltb, length, set, drop}
-use Rattle.tokens.specs.Text.{if◌then◌else◌}
+use Rattle.std.specs.Prelude.{List, [], ◌∷◌, ◌++◌, ℕ, suc, ◌+◌, ◌-◌, ◌*◌, ◌/◌, leb, ltb, length, set, drop, if◌then◌else◌}
 use Rattle.grammar.specs.Sizes.{record_width, entry_width}
 use Rattle.grammar.specs.Trees.{Tree, Trees, node, nil, ◌▹◌, fields, parts, sizes, row}
 use Rattle.grammar.specs.Latest.{latest_in}

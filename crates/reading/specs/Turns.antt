@@ -1,7 +1,7 @@
 -- The readers of the code inside an expression: what is one deeper, parts of a list, postfixes.
-use Rattle.std.specs.Prelude.{◌≡◌, Bool, ◌||◌, not, List, [], ◌⊎◌, ℕ, zero, suc, ◌+◌, ◌≤◌, ◌<◌, eqb, length, take, drop}
+use Rattle.std.specs.Prelude.{◌≡◌, Bool, ◌||◌, not, List, [], ◌⊎◌, ℕ, zero, suc, ◌+◌, ◌≤◌, ◌<◌, eqb, length, take, drop, if◌then◌else◌}
 use Rattle.std.proofs.Math.Option.{Option, none, some}
-use Rattle.tokens.specs.Text.{if◌then◌else◌, leading, other}
+use Rattle.tokens.specs.Text.{leading, other}
 use Rattle.tokens.specs.Names.{member}
 use Rattle.tokens.specs.Dates.{date}
 use Rattle.tokens.specs.Tokens.{Token}

@@ -1,7 +1,6 @@
 // How many bytes, records and statements lent memory has room for, and how many tokens there may be.
-ghost use Rattle.std.specs.Prelude.{◌≡◌, min, ltb};
+ghost use Rattle.std.specs.Prelude.{◌≡◌, min, ltb, if◌then◌else◌};
 ghost use Rattle.tokens.specs.Limits.{most_bytes};
-ghost use Rattle.tokens.specs.Text.{if◌then◌else◌};
 ghost use Rattle.grammar.specs.Sizes.{record_room, statement_room};
 
 use crate::records::{Entry, Node};

@@ -1,4 +1,5 @@
 -- A token is `;` or `}` exactly where its last byte is.
+use Rattle.std.specs.Prelude.{if◌then◌else◌}
 use mathlib.Core.Path.{◌≡◌, refl, sym, ap, ◌∙◌}
 use mathlib.Core.Bool.{Bool, true, false, ◌||◌, not, true≢false}
 use mathlib.Core.List.{List, [], ◌∷◌, ◌++◌}
@@ -9,7 +10,7 @@ use lib.Dec.{leb, ltb, eqb}
 use lib.Seq.{length-take-le, get_or-append-add}
 use borrow.Author.Tests.{ltb-true, eqb-true}
 use lib.ListN.{length, take, get_or}
-use Rattle.tokens.specs.Text.{if◌then◌else◌, bytes, same, begins, leading, letter, digit, name_byte, number_byte, blank, every}
+use Rattle.tokens.specs.Text.{bytes, same, begins, leading, letter, digit, name_byte, number_byte, blank, every}
 use Rattle.tokens.specs.Numbers.{number_fault}
 use Rattle.tokens.specs.Tokens.{Token, Lexeme, gap, piece, fault, word, numeral, quoted, sign, signs, keywords, entry, code, lexeme, Lexed, lexed, refused, before, taken, scan}
 use Rattle.tokens.proofs.Joins.{body}

@@ -1,4 +1,5 @@
 -- A text further on, and a text cut off at the end of a lexeme.
+use Rattle.std.specs.Prelude.{if◌then◌else◌}
 use mathlib.Core.Path.{◌≡◌, refl, sym, ap, ◌∙◌, subst}
 use mathlib.Core.Bool.{Bool, true, false, ◌||◌, not, true≢false}
 use mathlib.Core.List.{List, [], ◌∷◌, ◌++◌, map}
@@ -10,7 +11,7 @@ use lib.Dec.{T, leb, ltb, eqb}
 use lib.Seq.{take-append-le}
 use borrow.Author.Tests.{lt-ltb, eqb-true, leb-true}
 use lib.ListN.{length, take}
-use Rattle.tokens.specs.Text.{if◌then◌else◌, bytes, begins, leading, letter, digit, name_byte, number_byte, blank, every}
+use Rattle.tokens.specs.Text.{bytes, begins, leading, letter, digit, name_byte, number_byte, blank, every}
 use Rattle.tokens.specs.Numbers.{number_fault}
 use Rattle.tokens.specs.Tokens.{Token, Lexeme, gap, piece, fault, word, numeral, quoted, sign, signs, entry, cut, lexeme, Lexed, lexed, refused, before, taken, scan}
 use Rattle.tokens.proofs.Joins.{width, Joint, over, rest, here, joint_le, body, word_width, numeral_width, sign_stays}

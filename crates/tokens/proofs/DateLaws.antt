@@ -1,4 +1,5 @@
 -- Laws of dates: which texts are none, how their counts are ordered, and that a count gives the day back.
+use Rattle.std.specs.Prelude.{if◌then◌else◌}
 use mathlib.Core.Path.{◌≡◌, refl, ap, ◌∙◌}
 use mathlib.Core.Bool.{Bool, true, false, not, cond}
 use mathlib.Core.List.{List}
@@ -8,7 +9,6 @@ use lib.Dec.{eqb}
 use Rattle.calendar.specs.Calendar.{is_day, count, count_of, last_count, day_of, Before}
 use Rattle.calendar.proofs.CalendarLaws.{count_none, count_most, increasing}
 use Rattle.calendar.proofs.WayBack.{counted_day}
-use Rattle.tokens.specs.Text.{if◌then◌else◌}
 use Rattle.tokens.specs.Dates.{is_shape, written, is_date, date}
 use Rattle.tokens.proofs.NameLaws.{and_true_both}
 

@@ -1,4 +1,5 @@
 -- A literal's value is a number, never NaN: its divisor is a power of ten, a finite float that is not zero.
+use Rattle.std.specs.Prelude.{if◌then◌else◌}
 use mathlib.Core.Path.{◌≡◌, refl, subst⁻¹}
 use mathlib.Core.Bool.{Bool, true, false, not, cond}
 use mathlib.Core.List.{List}
@@ -9,7 +10,7 @@ use lib.IntN.{pos}
 use lib.Ieee.{Float, nan, inf, fin, Format, binary64, low, emax, prec, odd, units, round, of_int, div, neg, is_nan, of_bits, unlike, up, down}
 use lib.Ieee.Fits.{round_is}
 use borrow.Author.Tests.{eqb-true}
-use Rattle.tokens.specs.Text.{if◌then◌else◌, count}
+use Rattle.tokens.specs.Text.{count}
 use Rattle.tokens.specs.Numbers.{digits, decimals, number_fault, value, value_of}
 use Rattle.tokens.proofs.TableLaws.{divides, tens_divides}
 use Rattle.tokens.proofs.NumberLaws.{fault_none}

@@ -1,4 +1,5 @@
 -- A word is told by its key: what a table has for a word's bytes it has for their number. A keyword is told by its length and its bytes.
+use Rattle.std.specs.Prelude.{if◌then◌else◌}
 use mathlib.Core.Path.{◌≡◌, refl, sym, ap, ◌∙◌}
 use mathlib.Core.Bool.{Bool, true, false, ◌&&◌, not, true≢false}
 use mathlib.Core.List.{List, [], ◌∷◌, ◌++◌}
@@ -11,7 +12,7 @@ use lib.Dec.{T, leb, ltb, eqb}
 use borrow.Author.Tests.{eq-eqb, ne_eqb, eqb-true, eqb-false, lt-ltb, ltb-true, ltb-false, leb-true, leb-false}
 use lib.ListN.{length, get_or, take, drop, length-take, length-drop, drop_of_length-le, get_or-eq_default}
 use lib.Seq.{drop-cons, get_or-take, get_or-drop}
-use Rattle.tokens.specs.Text.{if◌then◌else◌, bytes, same, begins, every}
+use Rattle.tokens.specs.Text.{bytes, same, begins, every}
 use Rattle.tokens.specs.Tokens.{entry, pairs, lones, keywords, piece, fault, word, sign}
 use Rattle.tokens.specs.Keys.{pack, lookup, keyed, key_of, keyword_by, pair_by, first_byte, lone_by}
 use Rattle.tokens.proofs.Shapes.{entry_found, entry_every, begins_le, same_eq, same_not}

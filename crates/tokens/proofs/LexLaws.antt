@@ -1,4 +1,5 @@
 -- What stands at a place of a text: the first token there, by the tests of the code.
+use Rattle.std.specs.Prelude.{if◌then◌else◌}
 use mathlib.Core.Path.{◌≡◌, refl, sym, ap, ◌∙◌}
 use mathlib.Core.Bool.{Bool, true, false, ◌&&◌, ◌||◌, true≢false}
 use mathlib.Core.List.{List, [], ◌∷◌}
@@ -11,7 +12,7 @@ use lib.Dec.{eqb, ltb}
 use borrow.Author.Tests.{eq-eqb, ne_eqb, eqb-true, eqb-false, lt-ltb, le-ltb}
 use lib.ListN.{length, get_or, take, drop, length-drop}
 use lib.Seq.{drop-cons, get_or-drop}
-use Rattle.tokens.specs.Text.{if◌then◌else◌, bytes, begins, leading, letter, digit, name_byte, number_byte, blank, other}
+use Rattle.tokens.specs.Text.{bytes, begins, leading, letter, digit, name_byte, number_byte, blank, other}
 use Rattle.tokens.specs.Numbers.{number_fault}
 use Rattle.tokens.specs.Tokens.{piece, fault, word, numeral, quoted, sign, signs, entry, cut, code, lexeme}
 use Rattle.tokens.specs.Lexing.{lexeme_at, comment, word_at, number_at, string_at, gap_width, mark_of}

@@ -1,4 +1,5 @@
 -- What is kept while a literal is read, in capped counts, says what the definition says of its bytes.
+use Rattle.std.specs.Prelude.{if◌then◌else◌}
 use mathlib.Core.Path.{◌≡◌, refl, sym, ap₂, ◌∙◌}
 use mathlib.Core.Bool.{Bool, true, false, ◌||◌}
 use mathlib.Core.List.{List, [], ◌∷◌}
@@ -13,7 +14,7 @@ use lib.ListN.{length, get_or, drop, drop_of_length-le}
 use lib.Seq.{drop-cons}
 use borrow.Author.Tests.{lt-ltb, le-ltb, eq-eqb, ne_eqb, ltb-true, ltb-false, leb-false, eqb-true, eqb-false}
 use Rattle.tokens.specs.declared.numbers.Run.{Run}
-use Rattle.tokens.specs.Text.{if◌then◌else◌, count}
+use Rattle.tokens.specs.Text.{count}
 use Rattle.tokens.specs.Limits.{most_digits, most_decimals}
 use Rattle.tokens.specs.Numbers.{digits, decimals, fault_of, number_fault, quotient, value, value_of}
 use Rattle.tokens.specs.Runs.{up, grow, feed, feed_all, begin}

@@ -1,4 +1,5 @@
 -- Lines and columns, one byte at a time: a line from the front, a column backwards from its place.
+use Rattle.std.specs.Prelude.{if◌then◌else◌}
 use mathlib.Core.Path.{◌≡◌, refl, sym, ap, ◌∙◌}
 use mathlib.Core.Bool.{Bool, true, false}
 use mathlib.Core.List.{List, [], ◌∷◌, ◌++◌}
@@ -10,7 +11,7 @@ use lib.Dec.{eqb}
 use lib.ListN.{length, take, get_or, length-take, take-append-drop}
 use lib.Seq.{slice, slice-cons, slice_empty, take_all, take-suc}
 use borrow.Author.Tests.{eq-eqb, ne_eqb}
-use Rattle.tokens.specs.Text.{if◌then◌else◌, count, continuation}
+use Rattle.tokens.specs.Text.{count, continuation}
 use Rattle.tokens.specs.Places.{line, since, column}
 use Rattle.tokens.proofs.TextLaws.{count_few, count_join}
 

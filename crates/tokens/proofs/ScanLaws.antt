@@ -1,4 +1,5 @@
 -- The tokens from a place on, by the mark of the first: what the scan of a text and the token step lean on.
+use Rattle.std.specs.Prelude.{if◌then◌else◌}
 use mathlib.Core.Path.{◌≡◌, refl, sym, ap, ◌∙◌, subst}
 use mathlib.Core.Bool.{Bool, true, false, ◌||◌, not}
 use mathlib.Core.List.{List, [], ◌∷◌}
@@ -9,7 +10,7 @@ use lib.Dec.{eqb, ltb}
 use borrow.Author.Tests.{ltb-true, ltb-false, ne_eqb, eq-eqb, le-leb, lt-leb}
 use lib.ListN.{length, get_or, take, drop, length-take, length-drop, drop_of_length-le}
 use lib.Seq.{drop-drop}
-use Rattle.tokens.specs.Text.{if◌then◌else◌, bytes, begins, same, every, leading, letter, digit, name_byte, number_byte, blank, other, count}
+use Rattle.tokens.specs.Text.{bytes, begins, same, every, leading, letter, digit, name_byte, number_byte, blank, other, count}
 use lib.Ieee.{Float}
 use Rattle.tokens.specs.Numbers.{number_fault, value_of}
 use Rattle.tokens.specs.Tokens.{Token, Lexeme, gap, piece, fault, word, numeral, quoted, sign, signs, keywords, entry, code, lexeme, Lexed, lexed, refused, before, taken, scan, counts, end_of}

@@ -1,4 +1,5 @@
 -- What a lexeme can be, and what that says of a text's tokens.
+use Rattle.std.specs.Prelude.{if◌then◌else◌}
 use mathlib.Core.Path.{◌≡◌, refl, sym, ap, ◌∙◌, subst}
 use mathlib.Core.Bool.{Bool, true, false, ◌&&◌, ◌||◌, not, true≢false}
 use mathlib.Core.List.{List, [], ◌∷◌, ◌++◌}
@@ -9,7 +10,7 @@ use lib.Dec.{T, leb, ltb, eqb}
 use lib.Seq.{length-take-le, drop-append-add}
 use borrow.Author.Tests.{ltb-true, eqb-true, leb-true}
 use lib.ListN.{length, take, drop, length-append}
-use Rattle.tokens.specs.Text.{if◌then◌else◌, bytes, same, begins, leading, letter, digit, name_byte, number_byte, blank, every, count}
+use Rattle.tokens.specs.Text.{bytes, same, begins, leading, letter, digit, name_byte, number_byte, blank, every, count}
 use Rattle.tokens.specs.Limits.{most_digits, most_decimals}
 use Rattle.tokens.specs.Numbers.{digits, decimals, number_fault}
 use Rattle.tokens.specs.Tokens.{Token, Lexeme, gap, piece, fault, word, numeral, quoted, sign, signs, keywords, entry, code, lexeme, Lexed, lexed, refused, before, taken, scan}

@@ -1,4 +1,5 @@
 -- Counts, equal bytes, one byte at a time, and where a script ends.
+use Rattle.std.specs.Prelude.{if◌then◌else◌}
 use mathlib.Core.Path.{◌≡◌, sym, ap}
 use mathlib.Core.Bool.{Bool, true, false}
 use mathlib.Core.List.{List, [], ◌∷◌, ◌++◌}
@@ -9,7 +10,7 @@ use lib.ListN.{length, get_or, drop, drop_of_length-le}
 use lib.Seq.{drop-cons, length-take-le}
 use borrow.Author.Tests.{eq-eqb, ne_eqb, lt-ltb, le-ltb}
 use Rattle.tokens.specs.Limits.{most_bytes}
-use Rattle.tokens.specs.Text.{if◌then◌else◌, leading, other, same, count, script}
+use Rattle.tokens.specs.Text.{leading, other, same, count, script}
 use Rattle.tokens.specs.Lexing.{script_end}
 use Rattle.tokens.specs.declared.text.ScriptEnd.TheVariants as ends
 use Rattle.tokens.proofs.Shapes.{same_not, leading_le}

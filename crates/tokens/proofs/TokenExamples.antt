@@ -1,4 +1,5 @@
 -- Texts and their tokens, each computed by the definition: a table for each rule.
+use Rattle.std.specs.Prelude.{if◌then◌else◌}
 use mathlib.Core.Path.{◌≡◌, refl}
 use mathlib.Core.Bool.{Bool, true, false, ◌&&◌}
 use mathlib.Core.List.{List, [], ◌∷◌, ◌++◌, map}
@@ -6,7 +7,7 @@ use Prim.Native.Nat.{ℕ, zero, suc}
 use Prim.Native.String.{String}
 use lib.Dec.{eqb}
 use lib.ListN.{replicate}
-use Rattle.tokens.specs.Text.{if◌then◌else◌, bytes, same, every}
+use Rattle.tokens.specs.Text.{bytes, same, every}
 use Rattle.tokens.specs.Names.{push}
 use Rattle.tokens.specs.Numbers.{value}
 use Rattle.tokens.specs.Places.{place_of}

@@ -1,8 +1,8 @@
 -- Dates: yyyy-mm-dd, year 0001 to 9999, a true Gregorian day (ISO 8601).
-use Rattle.std.specs.Prelude.{Bool, ◌&&◌, List, ℕ, ◌+◌, ◌-◌, ◌*◌, ltb, eqb, length, get_or}
+use Rattle.std.specs.Prelude.{Bool, ◌&&◌, List, ℕ, ◌+◌, ◌-◌, ◌*◌, ltb, eqb, length, get_or, if◌then◌else◌}
 use Rattle.calendar.specs.declared.days.Day.{Day}
 use Rattle.calendar.specs.Calendar.{dated, is_day, count}
-use Rattle.tokens.specs.Text.{if◌then◌else◌, digit}
+use Rattle.tokens.specs.Text.{digit}
 
 -- the number that two digits at a place write, and 100 where they are not both digits
 abbrev pub pair : List ℕ → ℕ → ℕ

@@ -1,7 +1,7 @@
 -- Short words as numbers, by which contracts tell keywords and signs.
-use Rattle.std.specs.Prelude.{true, false, List, [], ◌∷◌, ℕ, ◌+◌, ◌*◌, leb, eqb, length, get_or}
+use Rattle.std.specs.Prelude.{true, false, List, [], ◌∷◌, ℕ, ◌+◌, ◌*◌, leb, eqb, length, get_or, if◌then◌else◌}
 use Prim.Native.String.{String}
-use Rattle.tokens.specs.Text.{if◌then◌else◌, bytes}
+use Rattle.tokens.specs.Text.{bytes}
 use Rattle.tokens.specs.Tokens.{pairs, lones, keywords}
 
 -- the bytes of a word as one number: the first byte lowest, and a one above the last

@@ -1,6 +1,5 @@
 -- The kinds of tokens as the code names them, and the number of each.
-use Rattle.std.specs.Prelude.{true, false, List, [], ◌∷◌, map, ℕ, eqb}
-use Rattle.tokens.specs.Text.{if◌then◌else◌}
+use Rattle.std.specs.Prelude.{true, false, List, [], ◌∷◌, map, ℕ, eqb, if◌then◌else◌}
 use Rattle.tokens.specs.Numbers.{value_of}
 use Rattle.tokens.specs.Keys.{lookup}
 use Rattle.tokens.specs.declared.kinds.Literal.{Literal}

@@ -1,7 +1,7 @@
 -- The token step, the scan of a whole text and the cursor, as values of the code.
-use Rattle.std.specs.Prelude.{Bool, true, false, ◌&&◌, ◌||◌, List, [], ◌∷◌, ℕ, zero, suc, ◌+◌, ◌-◌, leb, ltb, eqb, length, get_or, take, drop}
+use Rattle.std.specs.Prelude.{Bool, true, false, ◌&&◌, ◌||◌, List, [], ◌∷◌, ℕ, zero, suc, ◌+◌, ◌-◌, leb, ltb, eqb, length, get_or, take, drop, if◌then◌else◌}
 use Rattle.tokens.specs.Limits.{most_bytes, most_tokens}
-use Rattle.tokens.specs.Text.{if◌then◌else◌, leading, name_byte, number_byte, other, count, script}
+use Rattle.tokens.specs.Text.{leading, name_byte, number_byte, other, count, script}
 use Rattle.tokens.specs.Tokens.{Token, Lexeme, gap, piece, fault, word, numeral, quoted, cut, code, lexeme, Lexed, lexed, refused, scan, counts, end_of}
 use Rattle.tokens.specs.Kinds.{kind_of}
 use Rattle.tokens.specs.declared.text.ScriptEnd.{ScriptEnd}

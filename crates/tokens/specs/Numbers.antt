@@ -1,8 +1,8 @@
 -- Number literals: a digit, then digits and dots.
-use Rattle.std.specs.Prelude.{Bool, false, ◌&&◌, ◌||◌, not, List, [], ◌∷◌, ℕ, ◌+◌, ◌-◌, ◌*◌, ◌/◌, ◌%◌, ◌^◌, ltb, eqb, pos, Float}
+use Rattle.std.specs.Prelude.{Bool, false, ◌&&◌, ◌||◌, not, List, [], ◌∷◌, ℕ, ◌+◌, ◌-◌, ◌*◌, ◌/◌, ◌%◌, ◌^◌, ltb, eqb, pos, Float, if◌then◌else◌}
 use Rattle.std.specs.Float.{binary64}
 use Rattle.std.specs.Float.Ieee.{of_int, div, neg, to_bits}
-use Rattle.tokens.specs.Text.{if◌then◌else◌, count}
+use Rattle.tokens.specs.Text.{count}
 use Rattle.tokens.specs.Limits.{most_digits, most_decimals}
 use Rattle.tokens.specs.declared.numbers.Bits.{Bits}
 

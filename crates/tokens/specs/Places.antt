@@ -1,6 +1,6 @@
 -- Where a byte stands, as people count.
-use Rattle.std.specs.Prelude.{List, [], ◌∷◌, ℕ, suc, eqb, take}
-use Rattle.tokens.specs.Text.{if◌then◌else◌, count, continuation}
+use Rattle.std.specs.Prelude.{List, [], ◌∷◌, ℕ, suc, eqb, take, if◌then◌else◌}
+use Rattle.tokens.specs.Text.{count, continuation}
 use Rattle.tokens.specs.declared.places.Place.{Place}
 
 -- line is 1 plus the line feeds before

@@ -1,6 +1,5 @@
 -- What the walk over a literal keeps: capped counts, and a number that stops growing above the limit.
-use Rattle.std.specs.Prelude.{ℕ, ◌+◌, ◌-◌, ◌*◌, List, [], ◌∷◌, ltb, leb, eqb}
-use Rattle.tokens.specs.Text.{if◌then◌else◌}
+use Rattle.std.specs.Prelude.{ℕ, ◌+◌, ◌-◌, ◌*◌, List, [], ◌∷◌, ltb, leb, eqb, if◌then◌else◌}
 use Rattle.tokens.specs.Limits.{most_digits}
 use Rattle.tokens.specs.declared.numbers.Run.{Run}
 

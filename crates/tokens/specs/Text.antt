@@ -1,13 +1,7 @@
 -- Bytes, and small things on lists of them.
-use Rattle.std.specs.Prelude.{Bool, true, false, ◌&&◌, ◌||◌, not, List, [], ◌∷◌, ℕ, suc, ◌+◌, leb, eqb, take}
+use Rattle.std.specs.Prelude.{Bool, true, false, ◌&&◌, ◌||◌, not, List, [], ◌∷◌, ℕ, suc, ◌+◌, leb, eqb, take, if◌then◌else◌}
 use Prim.Native.Char.{code}
 use Prim.Native.String.{String, [] as empty, ◌∷◌ as ◌▸◌}
-
-infix 1 if◌then◌else◌
-module _ {ℓ} {A : Type ℓ} where
-  abbrev pub if◌then◌else◌ : Bool → A → A → A
-  if◌then◌else◌ true a b = a
-  if◌then◌else◌ false a b = b
 
 -- the bytes of an ASCII text
 unfoldable pub bytes : String → List ℕ

@@ -1,8 +1,8 @@
 -- Tokens: what a script's bytes are read as, before any grammar.
-use Rattle.std.specs.Prelude.{Bool, true, false, ◌||◌, not, List, [], ◌∷◌, ◌++◌, ℕ, zero, suc, ◌+◌, ◌-◌, ltb, eqb, length, take}
+use Rattle.std.specs.Prelude.{Bool, true, false, ◌||◌, not, List, [], ◌∷◌, ◌++◌, ℕ, zero, suc, ◌+◌, ◌-◌, ltb, eqb, length, take, if◌then◌else◌}
 use Prim.Native.String.{String}
 use lib.Text.{eqt}
-use Rattle.tokens.specs.Text.{if◌then◌else◌, bytes, same, begins, leading, letter, digit, name_byte, number_byte, blank, other}
+use Rattle.tokens.specs.Text.{bytes, same, begins, leading, letter, digit, name_byte, number_byte, blank, other}
 use Rattle.tokens.specs.Numbers.{number_fault}
 
 -- A token's kind is a number. Where a token makes a record, it is the record's kind: name 1, number 2, true 3, false 4, string 5.

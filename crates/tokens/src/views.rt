@@ -1,5 +1,5 @@
-// A view of a lent script. Functions over a struct that holds a slice are proved by hand, so they are few and thin; a
-// caller with a plain slice asks `token_after`.
+// A view of a lent script: a struct that holds the slice, with few and thin calls. A caller with a plain slice asks
+// `token_after`.
 ghost use Rattle.std.specs.Prelude.{◌≡◌};
 ghost use Rattle.tokens.specs.Lexing.{step_at};
 ghost use Rattle.tokens.specs.Views.{passed, place_after, view_at, moved, token_after};

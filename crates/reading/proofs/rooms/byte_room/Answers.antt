@@ -1,11 +1,11 @@
 -- the lesser of two, by a test
+use Rattle.std.specs.Prelude.{if◌then◌else◌}
 use mathlib.Core.Path.{◌≡◌, refl, ◌∙◌}
 use mathlib.Core.Bool.{Bool, true, false}
 use Prim.Native.Nat.{ℕ, min}
 use native.Mathlib.Omega.{arith}
 use lib.Dec.{ltb}
 use borrow.Author.Tests.{ltb-true, ltb-false}
-use Rattle.tokens.specs.Text.{if◌then◌else◌}
 use Rattle.reading.proofs.rooms.byte_room.Goals as goal
 
 lesser : (a n : ℕ) → (if ltb a n then a else n) ≡ min a n
