@@ -5,7 +5,8 @@
 mod lines;
 mod listing;
 
-ghost use Rattle.std.specs.Prelude.{◌≡◌, ◌≤◌, length, take, IfOk, IfSome};
+ghost use Rattle.std.specs.Prelude.{◌≡◌, ◌≤◌, length, take, IfOk, IfSome, OnOk};
+ghost use Rattle.std.specs.Io.KnownBytes.{Appends};
 ghost use Rattle.listing.specs.Listing.{listing, longest};
 ghost use Rattle.listing.specs.Inputs.{Within, Takes, ListsInput};
 
@@ -15,7 +16,7 @@ use reading::rooms::{MOST_RECORDS, RECORD_WIDTH};
 use std::env::{Env, FillError};
 use std::fmt::Display;
 use std::fs::File;
-use std::io::Read;
+use std::io::{Read, Write};
 use std::{io, str};
 use tokens::text::equal;
 
@@ -55,37 +56,54 @@ fn take_input<R: Read>(input: &mut R, out: &mut [u8]) -> io::Result<usize>
 fn list_input<R: Read>(input: &mut R, script: &mut [u8], text: &mut [u8]) -> io::Result<Listed>
     requires { (length script.old ≡ 16385) × (longest ≤ length text.old) }
     ensures lists { ListsInput result script.new text.new }
-    ensures known { IfOk result (λ l. IfSome (R.remaining input.old) (λ input. take l.lines text.new ≡ listing input)) }
+    ensures known { IfOk result (λ l. IfSome (R.remaining input.old) (λ bs. take l.lines text.new ≡ listing bs)) }
 {
     let came = take_input(input, script)?;
     let lines = list(&script[..came], text);
     Ok(Listed { came, lines })
 }
 
-// Writes a line to standard error: what failed, and why. If that fails too, there is nowhere to tell it.
-fn fail<D: Display + Drop>(rt: &HostRuntime, what: &[u8], why: D) {
-    let err = rt.stderr();
-    let _ = err.write_all(what);
-    let _ = err.write_all(b": ");
-    let _ = err.println(why);
+// Why an input was not listed: a read of it failed, or the write of its listing.
+#[derive(Drop)]
+enum Failed {
+    Read(io::Error),
+    Write(io::Error),
 }
 
 // Writes the listing of an input.
-fn write_listing<R: Read>(rt: &HostRuntime, input: &mut R, name: &[u8]) {
+fn write_listing<R: Read, W: Write>(input: &mut R, output: &mut W) -> Result<(), Failed>
+    ensures { OnOk result (IfSome (R.remaining input.old) (λ bs. Appends (W.contents output.old) (W.contents output.new) (listing bs))) }
+{
     let mut script = [0u8; SCRIPT_ROOM];
     let mut text = [0u8; TEXT_ROOM];
     match list_input(input, &mut script, &mut text) {
-        Ok(listed) => {
-            if let Err(error) = rt.write_all(&text[..listed.lines]) {
-                fail(rt, b"standard output", error);
-            }
-        }
-        Err(error) => fail(rt, name, error),
+        Ok(listed) => match output.write_all(&text[..listed.lines]) {
+            Ok(()) => Ok(()),
+            Err(error) => Err(Failed::Write(error)),
+        },
+        Err(error) => Err(Failed::Read(error)),
+    }
+}
+
+// Writes a line to standard error: what failed, and why. If that fails too, there is nowhere to tell it.
+fn fail<D: Display + Drop>(rt: &HostRuntime, what: &[u8], why: D) {
+    let err = rt.stderr();
+    let _ = Print::write_all(&err, what);
+    let _ = Print::write_all(&err, b": ");
+    let _ = err.println(why);
+}
+
+// Lists an input on standard output.
+fn list_named<R: Read>(rt: &HostRuntime, input: &mut R, name: &[u8]) {
+    match write_listing(input, &mut rt.stdout()) {
+        Ok(()) => {}
+        Err(Failed::Read(error)) => fail(rt, name, error),
+        Err(Failed::Write(error)) => fail(rt, b"standard output", error),
     }
 }
 
 fn list_standard_input(rt: &HostRuntime) {
-    write_listing(rt, &mut rt.stdin(), b"standard input");
+    list_named(rt, &mut rt.stdin(), b"standard input");
 }
 
 fn list_file(rt: &HostRuntime, path: &[u8]) {
@@ -98,7 +116,7 @@ fn list_file(rt: &HostRuntime, path: &[u8]) {
         return;
     };
     match File::open(rt, name) {
-        Ok(mut file) => write_listing(rt, &mut file, path),
+        Ok(mut file) => list_named(rt, &mut file, path),
         Err(error) => fail(rt, path, error),
     }
 }
