@@ -6,7 +6,7 @@ const LAST_YEAR: u32 = 9999;
 
 const LAST_COUNT: u32 = 3652059;
 
-#[derive(Drop)]
+#[derive(Clone, Copy)]
 pub struct Day {
     pub year: u32,
     pub month: u32,

@@ -34,8 +34,7 @@ cut_part lent r a n e q h p d =
       holds = t;
     }
 
--- two slices that are the same part begin at the same place and hold the same bytes. What else the logic has of a slice, the
--- name under which it tracks the bytes, no code sees
+-- two slices that are the same part begin at the same place and hold the same bytes
 same_part : (lent : Bor (List ℕ)) (p : Span) (r q : Bor (List ℕ)) → PartOf lent p r → PartOf lent p q → (r.ref_ptr ≡ q.ref_ptr) × (r.now ≡ q.now)
 same_part lent p r q x y = (one_outcome x.begins y.begins, one_outcome x.holds y.holds)
 

@@ -22,7 +22,7 @@ pub struct Counts {
 }
 
 // A script that can be read, or a refusal: its number and its byte.
-#[derive(Drop)]
+#[derive(Clone, Copy)]
 pub enum Judged {
     Good(Counts),
     Refused(u32, usize),

@@ -15,7 +15,7 @@ enum Name {
 }
 
 // Where a part stands: in the list of currencies or in the script, from which byte, and how many.
-#[derive(Drop)]
+#[derive(Clone, Copy)]
 pub struct Place {
     pub in_list: bool,
     pub from: usize,

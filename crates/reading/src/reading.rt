@@ -12,7 +12,7 @@ use crate::scripts::all;
 use tokens::places::place_of;
 
 // What a call answers: the number of its refusal, or 0; where; and what the memory holds then.
-#[derive(Drop)]
+#[derive(Clone, Copy)]
 pub struct Answer {
     pub number: u32,
     pub byte: usize,

@@ -10,14 +10,14 @@ use crate::codes::{
 };
 
 // A number token holds a number or a truth value.
-#[derive(Drop)]
+#[derive(Clone, Copy)]
 pub enum Literal {
     Number(f64),
     Truth(bool),
 }
 
 // What a token is.
-#[derive(Drop)]
+#[derive(Clone, Copy)]
 pub enum Kind {
     Value(Literal),
     Identifier,

@@ -10,7 +10,7 @@ use crate::text::{find, is_blank, is_digit, is_letter, is_name_byte, is_number_b
 use crate::words::{keyword, lone_sign, pair_key, pair_sign};
 
 // A token as readers keep it: its place and its kind's number; 100 and a ground where the text is refused there.
-#[derive(Drop)]
+#[derive(Clone, Copy)]
 pub struct Mark {
     pub start: usize,
     pub end: usize,

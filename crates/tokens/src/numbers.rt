@@ -28,14 +28,14 @@ const MOST_DIGITS: u64 = 9007199254740992;
 const MOST_DECIMALS: u32 = 15;
 
 // What is kept of a literal while its bytes are read: counts that stop above their limits.
-#[derive(Drop)]
+#[derive(Clone, Copy)]
 pub struct Run {
     pub dots: u32,
     pub digits: u64,
     pub decimals: u32,
 }
 
-#[derive(Drop)]
+#[derive(Clone, Copy)]
 pub struct Bits {
     pub high: u32,
     pub low: u32,

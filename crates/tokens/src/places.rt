@@ -4,7 +4,7 @@ ghost use Rattle.tokens.specs.Places.{line, column, place_of};
 
 use crate::text::is_continuation;
 
-#[derive(Drop)]
+#[derive(Clone, Copy)]
 pub struct Place {
     pub line: usize,
     pub column: usize,

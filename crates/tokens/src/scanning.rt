@@ -9,21 +9,21 @@ use crate::lexing::lex;
 use crate::numbers::value_of;
 
 // A token with its place: its first byte, and the byte past its last.
-#[derive(Drop)]
+#[derive(Clone, Copy)]
 pub struct Token {
     pub start: usize,
     pub end: usize,
     pub kind: Kind,
 }
 
-#[derive(Drop)]
+#[derive(Clone, Copy)]
 pub enum Found {
     Token(Token),
     Refused(u32, usize),
 }
 
 // A whole text: how many tokens and the last one's end, or the first refusal.
-#[derive(Drop)]
+#[derive(Clone, Copy)]
 pub enum Scanned {
     Counted(usize, usize),
     Refused(u32, usize),

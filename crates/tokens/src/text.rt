@@ -6,7 +6,7 @@ ghost use Rattle.tokens.specs.Lexing.{script_end};
 use crate::cursor::Cursor;
 
 // Where a script ends, or a refusal: its number and its byte.
-#[derive(Drop)]
+#[derive(Clone, Copy)]
 pub enum ScriptEnd {
     At(usize),
     Refused(u32, usize),

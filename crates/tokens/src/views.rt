@@ -7,7 +7,7 @@ ghost use Rattle.tokens.specs.Views.{passed, place_after, view_at, moved, token_
 use crate::scanning::{Found, step};
 
 // The script as it was lent, and a place in it. As to the token step, the text's length alone ends it.
-#[derive(Drop)]
+#[derive(Clone, Copy)]
 pub struct View<'a> {
     pub script: &'a [u8],
     pub at: usize,

@@ -15,8 +15,8 @@ use tokens::text::equal;
 // What a line comes to where the call gave or left something else, beside the sizes above the room.
 pub const DIFFERS: usize = 32770;
 
-fn has_ground(answer: &Numbers, a: &Answer) -> bool
-    ensures { result ≡ ground_stored answer.now a.now }
+fn has_ground(answer: &Numbers, a: Answer) -> bool
+    ensures { result ≡ ground_stored answer.now a }
 {
     if a.number as usize != answer[0] {
         return false;
@@ -24,8 +24,8 @@ fn has_ground(answer: &Numbers, a: &Answer) -> bool
     a.byte == answer[1] && (a.line == answer[2] && a.column == answer[3])
 }
 
-fn has_counts(answer: &Numbers, a: &Answer) -> bool
-    ensures { result ≡ counts_stored answer.now a.now }
+fn has_counts(answer: &Numbers, a: Answer) -> bool
+    ensures { result ≡ counts_stored answer.now a }
 {
     if a.bytes != answer[4] {
         return false;
@@ -34,15 +34,15 @@ fn has_counts(answer: &Numbers, a: &Answer) -> bool
         && (a.records == answer[6] && (a.tokens == answer[7] && a.latest == answer[8]))
 }
 
-fn has_edition(answer: &Numbers, a: &Answer) -> bool
-    ensures { result ≡ edition_stored answer.now a.now }
+fn has_edition(answer: &Numbers, a: Answer) -> bool
+    ensures { result ≡ edition_stored answer.now a }
 {
     a.edition as usize == answer[9]
 }
 
 // Whether an answer is the stored one, in all its ten numbers.
-pub fn agrees(answer: &Numbers, a: &Answer) -> bool
-    ensures { result ≡ answer_stored answer.now a.now }
+pub fn agrees(answer: &Numbers, a: Answer) -> bool
+    ensures { result ≡ answer_stored answer.now a }
 {
     has_ground(answer, a) && (has_counts(answer, a) && has_edition(answer, a))
 }

@@ -13,8 +13,8 @@ use std::io::Stdout;
 use tokens::text::equal;
 
 // Whether a part begins at this place of this source, and is so long.
-fn is_placed(found: &Place, in_list: bool, place: usize, size: usize) -> bool
-    ensures { result ≡ place_stored found.now in_list place size }
+fn is_placed(found: Place, in_list: bool, place: usize, size: usize) -> bool
+    ensures { result ≡ place_stored found in_list place size }
 {
     if found.in_list != in_list {
         return false;
@@ -56,7 +56,7 @@ fn is_found(
     size: usize,
 ) -> bool {
     let found = place_of(script, currencies, record, start, second);
-    if is_placed(&found, in_list, place, size) {
+    if is_placed(found, in_list, place, size) {
         return true;
     }
     say_place(out, found);

@@ -75,7 +75,7 @@ fn take_edition(s: &[u8], at: usize, end: usize, state: &mut State) -> usize
 fn compared(out: Stdout, answer: &Numbers, given: Answer, tally: &mut Tallies) -> usize {
     let ground = answer[0];
     count(tally, ground);
-    if agrees(answer, &given) {
+    if agrees(answer, given) {
         return 0;
     }
     count_difference(tally, ground);
