@@ -6,6 +6,7 @@ mod lines;
 mod listing;
 
 ghost use Rattle.std.specs.Prelude.{◌≡◌, ◌≤◌, length, take, IfOk, IfSome, OnOk};
+ghost use Rattle.std.specs.Io.{StartsWith};
 ghost use Rattle.std.specs.Io.KnownBytes.{Appends};
 ghost use Rattle.listing.specs.Listing.{listing, longest};
 ghost use Rattle.listing.specs.Inputs.{Within, Takes, ListsInput};
@@ -14,7 +15,7 @@ use crate::lines::WORD_BYTES;
 use crate::listing::list;
 use reading::rooms::{MOST_RECORDS, RECORD_WIDTH};
 use std::env::{Env, FillError};
-use std::fmt::Display;
+use std::fmt::{Display, InlineText};
 use std::fs::File;
 use std::io::{Read, Write};
 use std::{io, str};
@@ -28,6 +29,9 @@ const TEXT_ROOM: usize = WORD_BYTES * (3 + RECORD_WIDTH * MOST_RECORDS);
 
 // More than any path has.
 const PATH_ROOM: usize = 4096;
+
+// More than any reason has.
+const REASON_ROOM: usize = 512;
 
 // How many bytes of an input came, and how many its listing has.
 #[derive(Clone, Copy)]
@@ -85,12 +89,22 @@ fn write_listing<R: Read, W: Write>(input: &mut R, output: &mut W) -> Result<(),
     }
 }
 
+// A reason without the end ` (os error N)`, since std adds that to what the C library says.
+fn words(reason: &str) -> &str
+    ensures { StartsWith reason.now result.now }
+{
+    match reason.rsplit_once(" (os error ") {
+        Some((words, number)) if number.ends_with(')') => words,
+        _ => reason,
+    }
+}
+
 // Writes a line to standard error: what failed, and why. If that fails too, there is nowhere to tell it.
 fn fail<D: Display + Drop>(rt: &HostRuntime, what: &[u8], why: D) {
     let err = rt.stderr();
     let _ = Print::write_all(&err, what);
     let _ = Print::write_all(&err, b": ");
-    let _ = err.println(why);
+    let _ = err.println(words(InlineText::<REASON_ROOM>::of(why).as_str()));
 }
 
 // Lists an input on standard output.
