@@ -1,15 +1,18 @@
 // A script read into lent memory.
 ghost use Rattle.std.specs.Prelude.{◌≡◌};
-ghost use Rattle.grammar.specs.Script.{number_of};
+ghost use Rattle.tokens.specs.Refusals.{number_of};
+ghost use Rattle.tokens.specs.LentLists.{lists_of};
+ghost use Rattle.grammar.specs.Script.{number_of as edition_number};
 ghost use Rattle.reading.specs.Meets.{edition_by};
-ghost use Rattle.reading.specs.Judging.{lists_in};
-ghost use Rattle.reading.specs.Reading.{accepted_with, refused_at, latest_read, LeavesIn, Leaves};
+ghost use Rattle.reading.specs.Reading.{accepted_with, refused_at, answered, LeavesIn, Leaves};
 
-use crate::answers::All;
-use crate::judging::{Counts, Judged, judge};
+use crate::judging::{Counts, judge};
+use crate::language::Language;
 use crate::rooms::{record_room, statement_room};
 use crate::scripts::all;
+use tokens::lists::Lists;
 use tokens::places::place_of;
+use tokens::refusals::{Ground, Refusal};
 
 // What a call answers: the number of its refusal, or 0; where; and what the memory holds then.
 #[derive(Clone, Copy)]
@@ -30,22 +33,20 @@ pub struct Answer {
 pub fn read(
     script: &[u8],
     edition: u32,
-    reserved: &[u8],
-    currencies: &[u8],
-    counters: &[u8],
+    lists: &Lists,
     records: &mut [u32],
     directory: &mut [u32],
 ) -> Answer
-    ensures { Leaves edition (lists_in reserved.now currencies.now counters.now) script.now records.old directory.old result records.new directory.new }
+    ensures { Leaves edition (lists_of lists.now) script.now records.old directory.old result records.new directory.new }
 {
-    match edition {
-        1 => read_in(
-            script, false, reserved, currencies, counters, records, directory,
-        ),
-        2 => read_in(
-            script, true, reserved, currencies, counters, records, directory,
-        ),
-        _ => refusal(script, 26, 0),
+    let two = match edition {
+        1 => false,
+        2 => true,
+        _ => return refusal(script, Refusal { ground: Ground::Edition, byte: 0 }),
+    };
+    match read_in(script, two, lists, records, directory) {
+        Ok(accepted) => accepted,
+        Err(e) => refusal(script, e),
     }
 }
 
@@ -53,54 +54,29 @@ pub fn read(
 fn read_in(
     script: &[u8],
     two: bool,
-    reserved: &[u8],
-    currencies: &[u8],
-    counters: &[u8],
+    lists: &Lists,
     records: &mut [u32],
     directory: &mut [u32],
-) -> Answer
-    ensures { LeavesIn (edition_by two) (lists_in reserved.now currencies.now counters.now) script.now records.old directory.old result records.new directory.new }
+) -> Result<Answer, Refusal>
+    ensures { LeavesIn (edition_by two) (lists_of lists.now) script.now records.old directory.old (answered script.now result) records.new directory.new }
 {
-    match judge(script, two, reserved, currencies, counters) {
-        Judged::Refused(k, b) => refusal(script, k, b),
-        Judged::Good(c) => {
-            if c.records > record_room(records.len()) {
-                return refusal(script, 16, c.bytes);
-            }
-            if c.statements > statement_room(directory.len()) {
-                return refusal(script, 16, c.bytes);
-            }
-            let r = all(
-                &script[..c.bytes],
-                two,
-                reserved,
-                currencies,
-                counters,
-                records,
-                directory,
-            );
-            acceptance(two, c, latest_in(r))
-        }
+    let c = judge(script, two, lists)?;
+    if c.records > record_room(records.len()) || c.statements > statement_room(directory.len()) {
+        return Err(Refusal { ground: Ground::Room, byte: c.bytes });
     }
+    let language = Language { two, lists: *lists };
+    let r = all(&script[..c.bytes], &language, records, directory)?;
+    Ok(acceptance(two, c, r.latest as usize))
 }
 
-fn latest_in(r: All) -> usize
-    ensures { result ≡ latest_read r }
-{
-    match r {
-        All::Done(_, _, latest) => latest as usize,
-        All::Refused(_, _) => 0,
-    }
-}
-
-fn number_of(two: bool) -> u32
-    ensures { result ≡ number_of (edition_by two) }
+fn edition_number(two: bool) -> u32
+    ensures { result ≡ edition_number (edition_by two) }
 {
     if two { 2 } else { 1 }
 }
 
 fn acceptance(two: bool, c: Counts, latest: usize) -> Answer
-    ensures { result ≡ accepted_with (number_of (edition_by two)) c latest }
+    ensures { result ≡ accepted_with (edition_number (edition_by two)) c latest }
 {
     Answer {
         number: 0,
@@ -112,18 +88,18 @@ fn acceptance(two: bool, c: Counts, latest: usize) -> Answer
         records: c.records,
         tokens: c.tokens,
         latest,
-        edition: number_of(two),
+        edition: edition_number(two),
     }
 }
 
 // A refusal, with the line and the column of its byte; the counts are 0, and so are the latest date and the edition.
-pub fn refusal(script: &[u8], number: u32, byte: usize) -> Answer
-    ensures { result ≡ refused_at script.now number byte }
+pub fn refusal(script: &[u8], e: Refusal) -> Answer
+    ensures { result ≡ refused_at script.now (number_of e.ground) e.byte }
 {
-    let place = place_of(script, byte);
+    let place = place_of(script, e.byte);
     Answer {
-        number,
-        byte,
+        number: e.ground.number(),
+        byte: e.byte,
         line: place.line,
         column: place.column,
         bytes: 0,

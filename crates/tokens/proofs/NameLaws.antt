@@ -11,7 +11,8 @@ use borrow.Author.Tests.{ltb-true, ltb-false, leb-true, eq-eqb, ne_eqb, le-leb, 
 use lib.ListN.{length, get_or, drop, take, drop_of_length-le, length-drop, take-append-drop}
 use lib.Seq.{drop-cons, drop-drop, take_all, take-add}
 use Rattle.tokens.specs.Text.{same, every, leading, other}
-use Rattle.tokens.specs.Names.{push, names, ended, place, member, distinct, good_name, good_names, usd_first, good_list}
+use Rattle.std.specs.Prelude.{Some, None}
+use Rattle.tokens.specs.Names.{push, names, ended, place, index_of, member, distinct, good_name, good_names, usd_first, good_list}
 use Rattle.tokens.proofs.Shapes.{same_eq, leading_le}
 
 pub and_true_both : (a b : Bool) → (a && b) ≡ true → (a ≡ true) × (b ≡ true)
@@ -296,3 +297,13 @@ good_few money l h =
     let a = and_true_both (ended l) (good_names money (names l) && usd_first money (names l)) h in
     let b = and_true_both (good_names money (names l)) (usd_first money (names l)) a.1 in
     leb-true (length (names l)) 256 (and_true_both (leb (length (names l)) 256) (every (good_name money) (names l) && distinct (names l)) b.0).0
+
+-- ---- a place as the code has it
+
+pub index_some : (p k : ℕ) → index_of p ≡ Some k → p ≡ suc k
+index_some zero k e = absurd (cc)
+index_some (suc n) k e = cc
+
+pub index_none : (p : ℕ) → index_of p ≡ None → p ≡ 0
+index_none zero e = refl
+index_none (suc n) e = absurd (cc)

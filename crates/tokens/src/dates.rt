@@ -1,6 +1,6 @@
 // A date as ISO 8601 writes it.
 ghost use Rattle.std.specs.Prelude.{◌≡◌, ◌+◌, ◌-◌, ◌≤◌, ◌<◌, length};
-ghost use Rattle.tokens.specs.Dates.{pair, is_shape, date};
+ghost use Rattle.tokens.specs.Dates.{pair, is_shape, date, unless_0};
 
 use crate::text::is_digit;
 use calendar::days::count_of;
@@ -32,13 +32,14 @@ fn is_shape(s: &[u8]) -> bool
     s.len() == 10 && (s[4] == 45 && (s[7] == 45 && (pair_at(s, 0) < 100 && pair_at(s, 2) < 100)))
 }
 
-// The count of the day that a text writes; 0 where it is no date.
-pub fn date_of(s: &[u8]) -> u32
-    ensures { result ≡ date s.now }
+// The count of the day that a text writes.
+pub fn date_of(s: &[u8]) -> Option<u32>
+    ensures { result ≡ unless_0 (date s.now) }
 {
     if !is_shape(s) {
-        return 0;
+        return None;
     }
     let y = pair_at(s, 0) * 100 + pair_at(s, 2);
-    count_of(y, pair_at(s, 5), pair_at(s, 8))
+    let day = count_of(y, pair_at(s, 5), pair_at(s, 8));
+    if day == 0 { None } else { Some(day) }
 }

@@ -1,7 +1,7 @@
 // Lent lists of names: reserved words, currencies, day counters.
 ghost use Rattle.std.specs.Prelude.{◌≡◌, false, ◌-◌, ◌≤◌, ◌<◌, eqb, length, take, drop};
 ghost use Rattle.tokens.specs.Text.{bytes};
-ghost use Rattle.tokens.specs.Names.{names, ended, place, good_length, good_byte, good_name, good_names, good_list};
+ghost use Rattle.tokens.specs.Names.{names, ended, place, index_of, good_length, good_byte, good_name, good_names, good_list};
 ghost use Rattle.tokens.specs.Slots.{slot_of, double_by};
 ghost use Rattle.tokens.specs.Sieve.{Sifts};
 
@@ -12,20 +12,20 @@ const MOST_NAMES: usize = 256;
 const LONGEST_NAME: usize = 32;
 
 // The place of a name in a list, by a walk from name to name.
-fn walked(list: &[u8], name: &[u8]) -> usize
-    ensures { result ≡ place (names list.now) name.now }
+fn walked(list: &[u8], name: &[u8]) -> Option<usize>
+    ensures { result ≡ index_of (place (names list.now) name.now) }
 {
     let mut at: usize = 0;
     let mut k: usize = 0;
     while at < list.len() {
         let e = find(list, at, 10);
-        k += 1;
         if equal(&list[at..e], name) {
-            return k;
+            return Some(k);
         }
+        k += 1;
         at = e + 1;
     }
-    0
+    None
 }
 
 // 0 where two bytes are equal.
@@ -77,12 +77,12 @@ fn may_hold(list: &[u8], name: &[u8]) -> bool
     lowest(list, n, name[0], name[n - 1]) == 0
 }
 
-// The place of a name in a list, from 0, plus 1; 0 where it is absent.
-pub fn place_in(list: &[u8], name: &[u8]) -> usize
-    ensures { result ≡ place (names list.now) name.now }
+// The place of a name in a list, from 0.
+pub fn place_in(list: &[u8], name: &[u8]) -> Option<usize>
+    ensures { result ≡ index_of (place (names list.now) name.now) }
 {
     if !may_hold(list, name) {
-        return 0;
+        return None;
     }
     walked(list, name)
 }
@@ -142,7 +142,7 @@ fn is_double(list: &[u8], at: usize, e: usize, slot: u8) -> bool
     if slot == 0 {
         return false;
     }
-    place_in(&list[..at], &list[at..e]) != 0
+    place_in(&list[..at], &list[at..e]).is_some()
 }
 
 // Not too many names, each good, none twice: in one walk, with the slots of the names passed.
@@ -180,7 +180,10 @@ fn is_ended(list: &[u8]) -> bool
 fn is_usd_first(list: &[u8]) -> bool
     ensures { result ≡ eqb (place (names list.now) (bytes "USD")) 1 }
 {
-    place_in(list, b"USD") == 1
+    match place_in(list, b"USD") {
+        Some(k) => k == 0,
+        None => false,
+    }
 }
 
 // Whether a list is well formed, as one of currencies or as another.
