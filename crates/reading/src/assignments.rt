@@ -28,7 +28,11 @@ pub fn ended(
 {
     let r = expression(s, language, false, c, depth, out, n)?;
     let at = take(s, r.at, SEMICOLON)?;
-    Ok(Read { at, records: r.records, string: r.string })
+    Ok(Read {
+        at,
+        records: r.records,
+        string: r.string,
+    })
 }
 
 // A pays, whose word stands at c, and its `;`, which is optional.
@@ -48,7 +52,11 @@ pub fn paid(
     if r.at.code != SEMICOLON {
         return Ok(r);
     }
-    Ok(Read { at: next(s, r.at), records: r.records, string: r.string })
+    Ok(Read {
+        at: next(s, r.at),
+        records: r.records,
+        string: r.string,
+    })
 }
 
 // `x = e;`: the name stands at c, and the sign at d.
@@ -68,7 +76,11 @@ fn assign(
     let r = ended(s, language, next(s, d), depth, out, v.records)?;
     let k = r.records;
     put(out, k, plain(Kind::Assign as u32, k - n + 1, 2, c.start));
-    Ok(Read { at: r.at, records: k + 1, string: 0 })
+    Ok(Read {
+        at: r.at,
+        records: k + 1,
+        string: 0,
+    })
 }
 
 // The variable at c, written twice; d stands behind it.
@@ -86,7 +98,11 @@ fn doubled(
     let v = variable_at(s, reserved, c, d, out, n)?;
     let m = v.records;
     put(out, m, named_node(Kind::Variable, c, 1, 0, c.start));
-    Ok(Read { at: v.at, records: m + 1, string: 0 })
+    Ok(Read {
+        at: v.at,
+        records: m + 1,
+        string: 0,
+    })
 }
 
 // `x += e;` and its like: the name stands at c, and the sign at d.
@@ -106,8 +122,16 @@ fn compound(
     let r = ended(s, language, next(s, d), depth, out, v.records)?;
     let k = r.records;
     put(out, k, plain((d.code - 20) as u32, k - n, 2, c.start));
-    put(out, k + 1, plain(Kind::Assign as u32, k - n + 2, 2, c.start));
-    Ok(Read { at: r.at, records: k + 2, string: 0 })
+    put(
+        out,
+        k + 1,
+        plain(Kind::Assign as u32, k - n + 2, 2, c.start),
+    );
+    Ok(Read {
+        at: r.at,
+        records: k + 2,
+        string: 0,
+    })
 }
 
 // `x pays ..`: the name stands at c, and the word at d.
@@ -127,8 +151,16 @@ fn assign_paid(
     let r = paid(s, language, d, depth, out, v.records)?;
     let k = r.records;
     put(out, k, plain(Kind::Add as u32, k - n, 2, c.start));
-    put(out, k + 1, plain(Kind::Assign as u32, k - n + 2, 2, c.start));
-    Ok(Read { at: r.at, records: k + 2, string: 0 })
+    put(
+        out,
+        k + 1,
+        plain(Kind::Assign as u32, k - n + 2, 2, c.start),
+    );
+    Ok(Read {
+        at: r.at,
+        records: k + 2,
+        string: 0,
+    })
 }
 
 // The sign that decides of a statement that a name begins, behind which d stands: none behind a line break, which no longer

@@ -82,7 +82,11 @@ fn string_at(s: &[u8], c: Cursor, d: Cursor, out: &mut [u32], n: u32) -> Read
 {
     let content = c.start + 1;
     let size = (c.end - c.start - 2) as u32;
-    put(out, n, leaf(Kind::String, content as u32, size, 0, 0, c.start));
+    put(
+        out,
+        n,
+        leaf(Kind::String, content as u32, size, 0, 0, c.start),
+    );
     Read {
         at: d,
         records: n + 1,
@@ -91,13 +95,7 @@ fn string_at(s: &[u8], c: Cursor, d: Cursor, out: &mut [u32], n: u32) -> Read
 }
 
 // A primary that is one token: a number, a truth value or a string; d stands behind it.
-pub fn atom_at(
-    s: &[u8],
-    c: Cursor,
-    d: Cursor,
-    out: &mut [u32],
-    n: u32,
-) -> Result<Read, Fault>
+pub fn atom_at(s: &[u8], c: Cursor, d: Cursor, out: &mut [u32], n: u32) -> Result<Read, Fault>
     requires { Ready s.now c n × Follows s.now c d }
     ensures { Meets s.now (atom (toks_at s.now c.start)) n out.old result out.new }
 {

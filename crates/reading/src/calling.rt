@@ -7,7 +7,7 @@ ghost use Rattle.grammar.specs.Readers.{Out};
 ghost use Rattle.grammar.specs.Grammar.{payday};
 ghost use Rattle.reading.specs.Meets.{words_in, toks_at, Holds, Ready, Few, Meets, MeetsLeaf, Before};
 ghost use Rattle.reading.specs.Rows.{kind_number};
-ghost use Rattle.reading.specs.Turns.{Closing, FollowsItem, Shown, shown_by, Inside, content_at, cvg_fault, call_fault, ground_or_0, special_of, pays_stop, Behind, negated_by};
+ghost use Rattle.reading.specs.Turns.{Closing, FollowsItem, Shown, shown_by, Inside, content_at, cvg_fault, call_fault, ground_or_0, special_of, pays_stop, negated_by};
 
 use crate::answers::{Fault, Leaf, Read, Texts};
 use crate::atoms::next;

@@ -114,12 +114,7 @@ pub fn optional_date(s: &[u8], c: Cursor, sign: u8) -> Result<Number, Fault>
 }
 
 // Where this sign stands, a currency behind it; else 0.
-pub fn optional_currency(
-    s: &[u8],
-    currencies: &[u8],
-    c: Cursor,
-    sign: u8,
-) -> Result<Number, Fault>
+pub fn optional_currency(s: &[u8], currencies: &[u8], c: Cursor, sign: u8) -> Result<Number, Fault>
     requires { Holds s.now c × Few currencies.now × (sign ≡ 0 → ⊥) }
     ensures { MeetsNumber s.now (optional_by sign 0 (a_currency (words_in [] currencies.now [])) (toks_at s.now c.start)) result }
 {
@@ -144,13 +139,7 @@ fn equity_at(s: &[u8], place: u16, c: Cursor, d: Cursor) -> Result<Leaf, Fault>
 }
 
 // A pair of currencies, the first of which is known; c stands behind it.
-fn pair_at(
-    s: &[u8],
-    currencies: &[u8],
-    place: u16,
-    first: u32,
-    c: Cursor,
-) -> Result<Leaf, Fault>
+fn pair_at(s: &[u8], currencies: &[u8], place: u16, first: u32, c: Cursor) -> Result<Leaf, Fault>
     requires { Holds s.now c × Few currencies.now }
     ensures { MeetsLeaf s.now (pair (words_in [] currencies.now []) place first (toks_at s.now c.start)) result }
 {
@@ -169,13 +158,7 @@ fn pair_at(
 }
 
 // What stands behind the first string of a Spot, at c, up to its closing sign; d stands behind the string.
-fn spot_of(
-    s: &[u8],
-    currencies: &[u8],
-    place: u16,
-    c: Cursor,
-    d: Cursor,
-) -> Result<Leaf, Fault>
+fn spot_of(s: &[u8], currencies: &[u8], place: u16, c: Cursor, d: Cursor) -> Result<Leaf, Fault>
     requires { Holds s.now c × Follows s.now c d × (c.code ≡ 5) × Few currencies.now }
     ensures { MeetsLeaf s.now (spot_of (words_in [] currencies.now []) place (token_at s.now c) (toks_at s.now d.start)) result }
 {
@@ -263,14 +246,7 @@ fn date_in(s: &[u8], c: Cursor) -> Option<u32>
 }
 
 // The dates of a RateIndex are judged when all of it is read: its name is the string at a, the dates those at b and c.
-fn rate(
-    s: &[u8],
-    place: u16,
-    a: Cursor,
-    b: Cursor,
-    c: Cursor,
-    d: Cursor,
-) -> Result<Leaf, Fault>
+fn rate(s: &[u8], place: u16, a: Cursor, b: Cursor, c: Cursor, d: Cursor) -> Result<Leaf, Fault>
     requires { Holds s.now a × Holds s.now b × Holds s.now c × Holds s.now d × (a.code ≡ 5) × (b.code ≡ 5) × (c.code ≡ 5) }
     ensures { MeetsLeaf s.now (rate_of place (token_at s.now a) (token_at s.now b) (token_at s.now c) (toks_at s.now d.start)) result }
 {

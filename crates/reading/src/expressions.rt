@@ -59,7 +59,11 @@ pub fn expression(
         }
         let j = join(out, sign, n, i.records, i.string, c.start);
         if !is_looser(language.two, alone, code) {
-            return Ok(Read { at: r.at, records: j.records, string: j.string });
+            return Ok(Read {
+                at: r.at,
+                records: j.records,
+                string: j.string,
+            });
         }
         at = next(s, r.at);
         m = j.records;
@@ -91,11 +95,19 @@ fn comparison(
         let r = sum(s, language, alone, at, depth, out, m)?;
         let j = join(out, sign, n, r.records, r.string, c.start);
         if sign != 0 {
-            return Ok(Read { at: r.at, records: j.records, string: j.string });
+            return Ok(Read {
+                at: r.at,
+                records: j.records,
+                string: j.string,
+            });
         }
         let code = r.at.code;
         if !is_comparator(alone, code) {
-            return Ok(Read { at: r.at, records: j.records, string: j.string });
+            return Ok(Read {
+                at: r.at,
+                records: j.records,
+                string: j.string,
+            });
         }
         at = next(s, r.at);
         m = j.records;
@@ -125,7 +137,11 @@ fn sum(
         let j = join(out, sign, n, r.records, r.string, c.start);
         let code = r.at.code;
         if !is_sum(alone, code) {
-            return Ok(Read { at: r.at, records: j.records, string: j.string });
+            return Ok(Read {
+                at: r.at,
+                records: j.records,
+                string: j.string,
+            });
         }
         at = next(s, r.at);
         m = j.records;
@@ -155,7 +171,11 @@ fn product(
         let j = join(out, sign, n, r.records, r.string, c.start);
         let code = r.at.code;
         if !is_product(alone, code) {
-            return Ok(Read { at: r.at, records: j.records, string: j.string });
+            return Ok(Read {
+                at: r.at,
+                records: j.records,
+                string: j.string,
+            });
         }
         at = next(s, r.at);
         m = j.records;
@@ -185,9 +205,24 @@ fn power(
         let r = primary(s, language, at, depth, out, m)?;
         let code = r.at.code;
         let more = is_power(code);
-        let j = step(out, language.two, more, count, n, fits, r.records, r.string, c.start, at.start);
+        let j = step(
+            out,
+            language.two,
+            more,
+            count,
+            n,
+            fits,
+            r.records,
+            r.string,
+            c.start,
+            at.start,
+        );
         if !more {
-            return Ok(Read { at: r.at, records: j.records, string: j.string });
+            return Ok(Read {
+                at: r.at,
+                records: j.records,
+                string: j.string,
+            });
         }
         at = next(s, r.at);
         m = j.records;
@@ -212,9 +247,7 @@ fn signed(
 {
     let code = c.code;
     if is_raised(language.two, code) {
-        return expression(
-            s, language, true,  c, depth, out, n,
-        );
+        return expression(s, language, true, c, depth, out, n);
     }
     primary(s, language, c, depth, out, n)
 }
@@ -292,7 +325,11 @@ fn parenthesis(
     }
     let r = expression(s, language, false, d, depth - 1, out, n)?;
     let at = take(s, r.at, CLOSE_PAREN)?;
-    Ok(Read { at, records: r.records, string: r.string })
+    Ok(Read {
+        at,
+        records: r.records,
+        string: r.string,
+    })
 }
 
 // A list with postfixes; d stands behind its `[`, at c.
@@ -314,7 +351,11 @@ fn list(
     }
     let r = items(s, language, d, CLOSE_BRACKET, depth - 1, out, n)?;
     let m = r.records;
-    put(out, m, plain(Kind::List as u32, m - n + 1, r.count, c.start));
+    put(
+        out,
+        m,
+        plain(Kind::List as u32, m - n + 1, r.count, c.start),
+    );
     let f = next(s, r.at);
     postfixes(s, language, c.start, f, depth, out, n, m + 1)
 }
@@ -397,7 +438,11 @@ fn call(
         return Err(Fault::at(c, ground));
     }
     put(out, m, plain(kind as u32, m - n + 1, r.count, c.start));
-    Ok(Read { at: r.at, records: m + 1, string: 0 })
+    Ok(Read {
+        at: r.at,
+        records: m + 1,
+        string: 0,
+    })
 }
 
 // An argument list and both its parentheses.
@@ -418,7 +463,12 @@ fn arguments(
         return Err(Fault::at(c, Ground::Depth));
     }
     let r = items(s, language, d, CLOSE_PAREN, depth - 1, out, n)?;
-    Ok(Items { at: next(s, r.at), records: r.records, count: r.count, texts: r.texts })
+    Ok(Items {
+        at: next(s, r.at),
+        records: r.records,
+        count: r.count,
+        texts: r.texts,
+    })
 }
 
 // Expressions with commas between them, up to the closing sign, which is not taken; a comma may trail.
@@ -438,7 +488,11 @@ fn items(
     let mut at = c;
     let mut m = n;
     let mut count: u32 = 0;
-    let mut texts = Texts { first: 0, second: 0, third: 0 };
+    let mut texts = Texts {
+        first: 0,
+        second: 0,
+        third: 0,
+    };
     while at.code != close {
         let r = expression(s, language, false, at, depth, out, m)?;
         at = follow(s, r.at, close)?;
@@ -446,7 +500,12 @@ fn items(
         m = r.records;
         count += 1;
     }
-    Ok(Items { at, records: m, count, texts })
+    Ok(Items {
+        at,
+        records: m,
+        count,
+        texts,
+    })
 }
 
 // Postfixes of what was read before, whose text begins at the place, and whose records are those from n to m.
@@ -471,7 +530,11 @@ fn postfixes(
         at = r.at;
         k = r.records;
     }
-    Ok(Read { at, records: k, string: 0 })
+    Ok(Read {
+        at,
+        records: k,
+        string: 0,
+    })
 }
 
 // One postfix, whose sign stands at c.
@@ -523,7 +586,11 @@ fn method(
         return Err(Fault::at(c, Ground::Arguments));
     };
     put(out, k, plain(kind as u32, k - n + 1, r.count + 1, place));
-    Ok(Read { at: r.at, records: k + 1, string: 0 })
+    Ok(Read {
+        at: r.at,
+        records: k + 1,
+        string: 0,
+    })
 }
 
 // An index, behind its `[`.
@@ -545,5 +612,9 @@ fn index(
     let k = r.records;
     let at = take(s, r.at, CLOSE_BRACKET)?;
     put(out, k, plain(Kind::Index as u32, k - n + 1, 2, place));
-    Ok(Read { at, records: k + 1, string: 0 })
+    Ok(Read {
+        at,
+        records: k + 1,
+        string: 0,
+    })
 }

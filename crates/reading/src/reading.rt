@@ -42,7 +42,13 @@ pub fn read(
     let two = match edition {
         1 => false,
         2 => true,
-        _ => return refusal(script, Refusal { ground: Ground::Edition, byte: 0 }),
+        _ => return refusal(
+            script,
+            Refusal {
+                ground: Ground::Edition,
+                byte: 0,
+            },
+        ),
     };
     match read_in(script, two, lists, records, directory) {
         Ok(accepted) => accepted,
@@ -62,7 +68,10 @@ fn read_in(
 {
     let c = judge(script, two, lists)?;
     if c.records > record_room(records.len()) || c.statements > statement_room(directory.len()) {
-        return Err(Refusal { ground: Ground::Room, byte: c.bytes });
+        return Err(Refusal {
+            ground: Ground::Room,
+            byte: c.bytes,
+        });
     }
     let language = Language { two, lists: *lists };
     let r = all(&script[..c.bytes], &language, records, directory)?;

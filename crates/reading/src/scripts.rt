@@ -68,5 +68,9 @@ pub fn all(
         n = r.records;
         k += 1;
     }
-    Ok(All { statements: k, records: n, latest })
+    Ok(All {
+        statements: k,
+        records: n,
+        latest,
+    })
 }

@@ -59,13 +59,21 @@ fn conditional(
     let k = body.records;
     if body.at.code != ELSE {
         put(out, k, branch(c.start, k - n + 1, body.count + 1, 0));
-        return Ok(Read { at: body.at, records: k + 1, string: 0 });
+        return Ok(Read {
+            at: body.at,
+            records: k + 1,
+            string: 0,
+        });
     }
     let other = block(s, language, next(s, body.at), depth - 1, out, k)?;
     let j = other.records;
     let parts = body.count + other.count + 1;
     put(out, j, branch(c.start, j - n + 1, parts, body.count + 1));
-    Ok(Read { at: other.at, records: j + 1, string: 0 })
+    Ok(Read {
+        at: other.at,
+        records: j + 1,
+        string: 0,
+    })
 }
 
 // `for v in e { .. }`, whose word stands at c.
@@ -89,8 +97,16 @@ fn repetition(
     let r = expression(s, language, false, e, depth - 1, out, n)?;
     let body = block(s, language, r.at, depth - 1, out, r.records)?;
     let k = body.records;
-    put(out, k, named_node(Kind::ForEach, d, k - n + 1, body.count + 1, c.start));
-    Ok(Read { at: body.at, records: k + 1, string: 0 })
+    put(
+        out,
+        k,
+        named_node(Kind::ForEach, d, k - n + 1, body.count + 1, c.start),
+    );
+    Ok(Read {
+        at: body.at,
+        records: k + 1,
+        string: 0,
+    })
 }
 
 // `{ .. }`: statements up to the closing sign.
@@ -115,5 +131,9 @@ fn block(
         m = r.records;
         count += 1;
     }
-    Ok(Block { at: next(s, at), records: m, count })
+    Ok(Block {
+        at: next(s, at),
+        records: m,
+        count,
+    })
 }
