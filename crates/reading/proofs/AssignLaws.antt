@@ -17,11 +17,11 @@ use Rattle.grammar.specs.Readers.{Out, ok, refused, Reader, bind, ◌>>=◌, ◌
 use Rattle.grammar.specs.Grammar.{Language, binary, variable, optional, expression, pays, ended, named, paid, target, assign, compound, assign_paid, name_first, next_kind}
 use Rattle.reading.specs.Rows.{rows, put_row, put_rows, node_row}
 use Rattle.reading.specs.Meets.{language_in, toks_at, token_at, Holds, Ready, Follows, Takes, Reads, Meets}
-use Rattle.reading.specs.Bodies.{sign_behind, ReadsTwice, MeetsTwice, loop_head}
+use Rattle.std.specs.Prelude.{Result, Ok, Err}
+use Rattle.reading.specs.Faults.{refused_by}
+use Rattle.reading.specs.Bodies.{sign_behind, ReadsTwice, loop_head, MeetsHead}
 use Rattle.reading.specs.declared.records.Node.{Node}
-use Rattle.reading.specs.declared.answers.Read.{Read}
-use Rattle.reading.specs.declared.answers.Read.TheVariants.{Done, Refused}
-use Rattle.reading.specs.declared.answers.Took.TheVariants as took
+use Rattle.reading.specs.declared.answers.Fault.{Fault}
 use Rattle.grammar.proofs.SizeLaws.{Sized, EachSized, ended_size, paid_size}
 use Rattle.reading.proofs.HoldLaws.{start_in, end_in, second_is, ask_yes, ask_no, the_then, the_next, the_then_not, read_then, read_next}
 use Rattle.reading.proofs.RowLaws.{size_leaf, size_two, after_leaf, after_two, put_rows_same}
@@ -51,13 +51,11 @@ module _ (W : Language) (t : List ℕ) (c : Cursor) (h : Holds t c) where
       unfolding named give ◌>>◌ ◌>>=◌
       head_in = head_named ∙ (rw free)
 
-      pub head_open : (b : ℕ) → Takes t 51 d (took.Not b) → loop_head W (toks_at t c.start) ≡ refused 8 b
-      unfolding code ◌>>◌ ◌>>=◌ the
-      head_open b g = head_in ∙ (rw g)
-
-      pub head_is : (f : Cursor) → Takes t 51 d (took.Next f) → Holds t f × (c.code ≡ 1) × (loop_head W (toks_at t c.start) ≡ ok (token_at t c) (toks_at t f.start))
-      unfolding code give
-      head_is f g = (g.0.holds, name, head_in ∙ the_next w.holds g.0 (λ z. omega (arith, z, g.1)) "in" (sym g.1) (give (token_at t c)))
+      -- what is taken behind the variable is what is answered
+      pub head_meets : (r : Result Cursor Fault) → Takes t 51 d r → MeetsHead t (loop_head W (toks_at t c.start)) c r
+      unfolding code give ◌>>◌ ◌>>=◌ the
+      head_meets (Ok f) g = (g.0.holds, name, head_in ∙ the_next w.holds g.0 (λ z. omega (arith, z, g.1)) "in" (sym g.1) (give (token_at t c)))
+      head_meets (Err e) g = head_in ∙ (rw g)
 
 -- ---- `e;`
 
@@ -71,11 +69,11 @@ module _ (W : Language) (p : Reader Tree) (t : List ℕ) (c : Cursor) (n : ℕ) 
     unfolding ended ◌>>=◌
     ending = rw r.is
 
-    pub ended_open : (b : ℕ) → Takes t 48 d (took.Not b) → ended W p (toks_at t c.start) ≡ refused 8 b
+    pub ended_open : (a : Fault) → Takes t 48 d (Err a) → ended W p (toks_at t c.start) ≡ refused_by a
     unfolding code ◌>>◌ ◌>>=◌ the
-    ended_open b g = ending ∙ (rw g)
+    ended_open a g = ending ∙ (rw g)
 
-    pub ended_closed : (e : Cursor) → Takes t 48 d (took.Next e) → Reads t (ended W p (toks_at t c.start)) n o e m q o'
+    pub ended_closed : (e : Cursor) → Takes t 48 d (Ok e) → Reads t (ended W p (toks_at t c.start)) n o e m q o'
     unfolding give code
     ended_closed e g =
         record {
@@ -142,17 +140,6 @@ pub named_one : (W : Language) (u : Token) (ts : List Token) (x : Tree) (us : Li
 named_one W u ts x us e = ap size (sym (named_is W u ts x us e).0) ∙ size_leaf 1 u.from u.text (fields u.from (length u.text) 0 0)
 
 -- ---- a variable that is written twice
-
-module _ (t : List ℕ) (R : Out Tree) (n : ℕ) (o : List ℕ) (r : Read) (o₁ : List ℕ) where
-  pub twice_refused : (o₂ : List ℕ) (k b : ℕ) → r ≡ Refused k b → Meets t R n o r o₁ → MeetsTwice t R n o r o₂
-  twice_refused o₂ k b e h = rw e (rw e at h)
-
-  pub twice_done : (c : Cursor) (m q : ℕ) → r ≡ Done c m q → MeetsTwice t R n o r o₁ → ReadsTwice t R n o c m o₁
-  twice_done c m q e h = rw e at h
-
-  pub twice_refused_on : (R' : Out Tree) (n' : ℕ) (o₂ o₃ : List ℕ) (k b : ℕ) → r ≡ Refused k b → MeetsTwice t R n o r o₁ → (R ≡ refused k b → R' ≡ refused k b)
-      → Meets t R' n' o₂ r o₃
-  twice_refused_on R' n' o₂ o₃ k b e h f = rw e (f (rw e at h))
 
 token_length : {t : List ℕ} {c : Cursor} → Holds t c → length (token_at t c).text ≡ c.end - c.start
 token_length {t} {c} h = omega (arith, length-take (c.end - c.start) (drop c.start t), length-drop c.start t, start_in h, end_in h)
