@@ -20,9 +20,9 @@ use Rattle.tokens.specs.declared.lexing.Mark.{Mark}
 use Rattle.tokens.specs.declared.kinds.Kind.{Kind}
 use Rattle.tokens.specs.declared.kinds.Kind.TheVariants.{Value}
 use Rattle.tokens.specs.declared.kinds.Literal.TheVariants.{Number}
-use Rattle.tokens.specs.declared.scanning.Found.TheVariants as found
-use Rattle.tokens.specs.declared.scanning.Scanned.{Scanned}
-use Rattle.tokens.specs.declared.scanning.Scanned.TheVariants as scanned
+use Rattle.tokens.specs.Found as found
+use Rattle.tokens.specs.Scanned.{Scanned}
+use Rattle.tokens.specs.Scanned as scanned
 use Rattle.tokens.proofs.Joins.{body}
 use Rattle.tokens.proofs.Cuts.{Wide, lexeme_wide}
 use Rattle.tokens.proofs.Shapes.{Sound, sound, lexeme_fits, scan_drop, entry_every}

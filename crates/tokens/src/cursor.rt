@@ -4,7 +4,7 @@ ghost use Rattle.tokens.specs.Limits.{most_bytes};
 ghost use Rattle.tokens.specs.Lexing.{cursor_at, advanced, one_more};
 
 use crate::codes::{EOF, NEWLINE};
-use crate::lexing::lex;
+use crate::lexing::{Mark, lex};
 
 // The token that stands at the cursor, Newlines aside: its first byte, the byte past its last, its code, and whether a
 // Newline stands before it. With it how many tokens were taken before, and the end of the last of them.
@@ -50,7 +50,7 @@ impl Cursor {
         let mut i = at as usize;
         let mut broken = false;
         loop {
-            let m = lex(text, i);
+            let m = lex(text, i).unwrap_or_else(Mark::from);
             if m.code != NEWLINE {
                 return Cursor {
                     start: m.start as u16,
