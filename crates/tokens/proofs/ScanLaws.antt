@@ -1,5 +1,5 @@
 -- The tokens from a place on, by the mark of the first: what the scan of a text and the token step lean on.
-use Rattle.std.specs.Prelude.{if◌then◌else◌}
+use Rattle.std.specs.Prelude.{Result, if◌then◌else◌}
 use mathlib.Core.Path.{◌≡◌, refl, sym, ap, ◌∙◌, subst}
 use mathlib.Core.Bool.{Bool, true, false, ◌||◌, not}
 use mathlib.Core.List.{List, [], ◌∷◌}
@@ -14,7 +14,9 @@ use Rattle.tokens.specs.Text.{bytes, begins, same, every, leading, letter, digit
 use lib.Ieee.{Float}
 use Rattle.tokens.specs.Numbers.{number_fault, value_of}
 use Rattle.tokens.specs.Tokens.{Token, Lexeme, gap, piece, fault, word, numeral, quoted, sign, signs, keywords, entry, code, lexeme, Lexed, lexed, refused, before, taken, scan, counts, end_of}
-use Rattle.tokens.specs.Lexing.{lexeme_at, gap_width, final, mark_of, mark_from, mark_at, token_of, judged_by, summary, step_at}
+use Rattle.tokens.specs.Keys.{key_of, keyword_by}
+use Rattle.tokens.specs.Lexing.{lexeme_at, gap_width, final, mark_of, mark_from, mark_at, Tells, token_of, judged_by, summary, step_at}
+use Rattle.tokens.specs.declared.refusals.Refusal.{Refusal}
 use Rattle.tokens.specs.Kinds.{kind_by}
 use Rattle.tokens.specs.declared.lexing.Mark.{Mark}
 use Rattle.tokens.specs.declared.kinds.Kind.{Kind}
@@ -27,12 +29,13 @@ use Rattle.tokens.proofs.Joins.{body}
 use Rattle.tokens.proofs.Cuts.{Wide, lexeme_wide}
 use Rattle.tokens.proofs.Shapes.{Sound, sound, lexeme_fits, scan_drop, entry_every}
 use Rattle.tokens.proofs.NumberLaws.{fault_small}
+use Rattle.tokens.proofs.KeyLaws.{Bytes, smalls, keyword_is}
 use Rattle.tokens.proofs.LexLaws.{front}
 use Rattle.tokens.proofs.MarkLaws.{start_at, start_within, skip_at, mark_over, mark_on, mark_here}
 
 -- ---- kinds are small, so that a fault's number is none
 
-abbrev Low : Lexeme → Type 0
+abbrev pub Low : Lexeme → Type 0
 Low (gap n) = Unit {0}
 Low (piece κ n) = κ < 99
 Low (fault f) = f < 99
@@ -40,7 +43,7 @@ Low (fault f) = f < 99
 abbrev low_entry : String × ℕ → Bool
 low_entry e = ltb e.1 99
 
-word_low : (w : List ℕ) (n : ℕ) → Low (word w n)
+pub word_low : (w : List ℕ) (n : ℕ) → Low (word w n)
 unfolding word every
 word_low w n = go (eqb E.1 99) refl
   where
@@ -50,6 +53,9 @@ word_low w n = go (eqb E.1 99) refl
     go : (t : Bool) → eqb E.1 99 ≡ t → Low (piece (if t then 1 else E.1) n)
     go true e = omega arith
     go false e = ltb-true E.1 99 (entry_every low_entry (λ s. same (bytes s) w) keywords tt e)
+
+pub keyword_low : (w : List ℕ) → Bytes w → keyword_by (key_of w) < 100
+keyword_low w h = omega (arith, subst Low (keyword_is w 0 (smalls w h)) (word_low w 0))
 
 numeral_low : (w : List ℕ) (n : ℕ) → Low (numeral w n)
 unfolding numeral
@@ -67,7 +73,7 @@ quoted_low bs n = go (ltb n (length bs))
     go true = omega arith
     go false = omega arith
 
-sign_low : (bs : List ℕ) → Low (sign bs)
+pub sign_low : (bs : List ℕ) → Low (sign bs)
 unfolding sign every
 sign_low bs = go (eqb E.1 99) refl
   where
@@ -92,6 +98,10 @@ low b bs = go (blank b) (eqb b 10) (eqb b 35 || begins (bytes "//") (b ∷ bs)) 
     go false false false false false false = sign_low (b ∷ bs)
 
 -- ---- what a mark stands for
+
+-- what the code answers tells one mark alone
+pub tells : (r : Result Mark Refusal) {m n : Mark} → m ≡ n → Tells m r → Tells n r
+tells r e h = subst (λ (x : Mark). Tells x r) e h
 
 -- the text's end, a token of n bytes, or a fault stands where the mark of a place starts
 pub data Stands (s : List ℕ) (m : Mark) : Type 0 where

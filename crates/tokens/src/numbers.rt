@@ -139,13 +139,10 @@ pub fn value_of(w: &[u8]) -> f64
     ensures { result ≡ value_of w.now }
 {
     let run = measured(w);
-    let digits = run.digits;
-    let decimals = run.decimals;
-    if judged(run.dots, digits, decimals).is_err() {
-        return 0.0;
+    match judged(run.dots, run.digits, run.decimals) {
+        Err(_) => 0.0,
+        Ok(()) => run.digits as f64 / ten_to(run.decimals as usize) as f64,
     }
-    let tens = ten_to(decimals as usize);
-    digits as f64 / tens as f64
 }
 
 fn halves(n: u64) -> Bits
