@@ -1,5 +1,5 @@
 -- The tokens from a place on, by the mark of the first: what the scan of a text and the token step lean on.
-use Rattle.std.specs.Prelude.{Result, if◌then◌else◌}
+use Rattle.std.specs.Prelude.{Result, Err, if◌then◌else◌}
 use mathlib.Core.Path.{◌≡◌, refl, sym, ap, ◌∙◌, subst}
 use mathlib.Core.Bool.{Bool, true, false, ◌||◌, not}
 use mathlib.Core.List.{List, [], ◌∷◌}
@@ -15,15 +15,17 @@ use lib.Ieee.{Float}
 use Rattle.tokens.specs.Numbers.{number_fault, value_of}
 use Rattle.tokens.specs.Tokens.{Token, Lexeme, gap, piece, fault, word, numeral, quoted, sign, signs, keywords, entry, code, lexeme, Lexed, lexed, refused, before, taken, scan, counts, end_of}
 use Rattle.tokens.specs.Keys.{key_of, keyword_by}
-use Rattle.tokens.specs.Lexing.{lexeme_at, gap_width, final, mark_of, mark_from, mark_at, Tells, token_of, judged_by, summary, step_at}
+use Rattle.tokens.specs.Lexing.{lexeme_at, gap_width, final, mark_of, mark_from, mark_at, refused_mark, Tells, token_of, judged_by, summary, step_at}
+use Rattle.tokens.specs.Refusals.{number_of}
 use Rattle.tokens.specs.declared.refusals.Refusal.{Refusal}
 use Rattle.tokens.specs.Kinds.{kind_by}
 use Rattle.tokens.specs.declared.lexing.Mark.{Mark}
 use Rattle.tokens.specs.declared.kinds.Kind.{Kind}
 use Rattle.tokens.specs.declared.kinds.Kind.TheVariants.{Value}
 use Rattle.tokens.specs.declared.kinds.Literal.TheVariants.{Number}
+use Rattle.tokens.specs.Found.{as_found}
 use Rattle.tokens.specs.Found as found
-use Rattle.tokens.specs.Scanned.{Scanned}
+use Rattle.tokens.specs.Scanned.{Scanned, as_scanned}
 use Rattle.tokens.specs.Scanned as scanned
 use Rattle.tokens.proofs.Joins.{body}
 use Rattle.tokens.proofs.Cuts.{Wide, lexeme_wide}
@@ -266,6 +268,11 @@ module _ (s : List ℕ) (at n last : ℕ) (m : Mark) (is : m ≡ mark_at s at) w
   pub summary_fault : 100 ≤ m.code → scanned.Refused (m.code - 100) m.start ≡ Rest n last at
   summary_fault z = ap (summary n last (length s)) (sym (rw (← is) at (scan_fault s at (rw is at z))))
 
+  pub summary_refused : (e : Refusal) → refused_mark e ≡ m → as_scanned (Err e) ≡ Rest n last at
+  summary_refused e h =
+      let k : m.code - 100 ≡ number_of e.ground = omega (arith, ap (λ (x : Mark). x.code) h) in
+      (λ i. scanned.Refused (sym k i) (ap (λ (x : Mark). x.start) h i)) ∙ summary_fault (omega (arith, ap (λ (x : Mark). x.code) h))
+
   module _ (some : m.code ≡ 0 → ⊥) (whole : m.code < 100) where
     inside : (m.start < m.end) × (m.end ≤ length s)
     inside = rw is (token_within s at (rw is at some) (rw is at whole))
@@ -296,6 +303,11 @@ module _ (s : List ℕ) (at : ℕ) (m : Mark) (is : m ≡ mark_at s at) where
   pub step_fault : 100 ≤ m.code → found.Refused (m.code - 100) m.start ≡ step_at s at
   unfolding step_at
   step_fault h = rw (← is, le-leb 100 m.code h)
+
+  pub step_refused : (e : Refusal) → refused_mark e ≡ m → as_found (Err e) ≡ step_at s at
+  step_refused e h =
+      let k : m.code - 100 ≡ number_of e.ground = omega (arith, ap (λ (x : Mark). x.code) h) in
+      (λ i. found.Refused (sym k i) (ap (λ (x : Mark). x.start) h i)) ∙ step_fault (omega (arith, ap (λ (x : Mark). x.code) h))
 
   pub step_number : m.code ≡ 2 → (x : Float) → x ≡ value_of (take (m.end - m.start) (drop m.start s))
       → found.Token (record { start = m.start; end = m.end; kind = Value (Number x) }) ≡ step_at s at
