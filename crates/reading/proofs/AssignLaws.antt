@@ -14,14 +14,18 @@ use Rattle.tokens.specs.Tokens.{Token, code}
 use Rattle.tokens.specs.declared.cursor.Cursor.{Cursor}
 use Rattle.grammar.specs.Trees.{Tree, place_of, fields, none as unused, size, row}
 use Rattle.grammar.specs.Readers.{Out, ok, refused, Reader, bind, ◌>>=◌, ◌>>◌, is, give, fail_at, the}
-use Rattle.grammar.specs.Grammar.{Language, binary, variable, optional, expression, pays, ended, named, paid, target, assign, compound, assign_paid, name_first, next_kind}
+use Rattle.grammar.specs.Grammar.{Language, binary, variable, optional, expression, pays, ended, named, paid, target, assign, compound, assign_paid, name_first, next_kind, primary}
 use Rattle.reading.specs.Rows.{rows, put_row, put_rows, node_row}
-use Rattle.reading.specs.Meets.{language_in, toks_at, token_at, Holds, Ready, Follows, Takes, Reads, Meets}
+use Rattle.reading.specs.Meets.{words_in, language_in, language_of, toks_at, token_at, Holds, Ready, Follows, Takes, Reads, Meets}
 use Rattle.std.specs.Prelude.{Result, Ok, Err}
+use Rattle.std.specs.Result.{IsErrAnd}
 use Rattle.reading.specs.Faults.{refused_by}
-use Rattle.reading.specs.Bodies.{sign_behind, ReadsTwice, loop_head, MeetsHead}
+use Rattle.reading.specs.Turns.{inner}
+use Rattle.reading.specs.Bodies.{begun_at, sign_behind, ReadsTwice, loop_head, MeetsHead}
 use Rattle.reading.specs.declared.records.Node.{Node}
 use Rattle.reading.specs.declared.answers.Fault.{Fault}
+use Rattle.reading.specs.declared.answers.Read.{Read}
+use Rattle.reading.specs.declared.language.Language.{Language as Lent}
 use Rattle.grammar.proofs.SizeLaws.{Sized, EachSized, ended_size, paid_size}
 use Rattle.reading.proofs.HoldLaws.{start_in, end_in, second_is, ask_yes, ask_no, the_then, the_next, the_then_not, read_then, read_next}
 use Rattle.reading.proofs.RowLaws.{size_leaf, size_two, after_leaf, after_two, put_rows_same}
@@ -29,6 +33,12 @@ use Rattle.reading.proofs.ChainLaws.{reads_within, binary_plain}
 use Rattle.reading.proofs.AtomLaws.{named_not}
 use Rattle.reading.proofs.SignLaws.{is_it, is_other}
 use Rattle.reading.proofs.StepLaws.{bind_refused}
+
+-- ---- the error that a `?` passes on
+
+pub meets_err : (t : List ℕ) (R : Out Tree) (n : ℕ) (o : List ℕ) (r : Result Read Fault) (o' : List ℕ) (e : Fault) → IsErrAnd r (λ y. y ≡ e) → R ≡ refused_by e → Meets t R n o r o'
+meets_err t R n o (Ok x) o' e h g = absurd h
+meets_err t R n o (Err y) o' e h g = rw h g
 
 -- ---- the head of a loop
 
@@ -188,11 +198,20 @@ twice_assigned t R n o k l x e g m m₂ o₁ o₂ o₃ o₄ one p q p₂ q₂ q�
 
 -- ---- assignments
 
--- L has the reserved names of W, and maybe not its other lists
-module _ (L W : Language) (same : (u : Token) → named L u ≡ named W u) (t : List ℕ) (c d : Cursor) (n : ℕ) (o : List ℕ) (ready : Ready t c n) (w : Follows t c d)
-    (name : c.code ≡ 1) where
+-- of a name the reserved names alone decide
+module _ (lent : Lent) (t : List ℕ) (c d : Cursor) (n : ℕ) (o : List ℕ) (ready : Ready t c n) (w : Follows t c d) (name : c.code ≡ 1) where
+  abbrev W : Language
+  W = language_of lent
+
+  abbrev L : Language
+  L = words_in lent.lists.reserved.now [] []
+
   abbrev N : Out Tree
   N = named L (token_at t c) (toks_at t d.start)
+
+  same : (u : Token) → named L u ≡ named W u
+  unfolding named
+  same u = refl
 
   some_name : c.code ≡ 0 → ⊥
   some_name z = omega (arith, z, name)
@@ -315,42 +334,46 @@ module _ (L W : Language) (same : (u : Token) → named L u ≡ named W u) (t : 
 -- ---- what a name begins, by what stands behind it
 
 -- what stands behind a token, by the cursor behind it: a line break matters in the first edition alone
-pub sign_is : (second : Bool) (r x y t : List ℕ) (c d : Cursor) → Follows t c d → (c.code ≡ 0 → ⊥) → next_kind (language_in second r x y) (toks_at t c.start) ≡ sign_behind second d
+sign_is : (second : Bool) (r x y t : List ℕ) (c d : Cursor) → Follows t c d → (c.code ≡ 0 → ⊥) → next_kind (language_in second r x y) (toks_at t c.start) ≡ sign_behind second d
 sign_is false r x y t c d w z = w.next_is z
 sign_is true r x y t c d w z = second_is w z
 
-module _ (second : Bool) (r x y : List ℕ) (p : Reader Tree) (i : Option (Reader Tree)) (t : List ℕ) (c d : Cursor) (w : Follows t c d) (name : c.code ≡ 1) where
-  abbrev W : Language
-  W = language_in second r x y
+module _ (lent : Lent) (depth : ℕ) (t : List ℕ) (c d : Cursor) (w : Follows t c d) (name : c.code ≡ 1) where
+  abbrev G : Language
+  G = language_of lent
+
+  abbrev p : Reader Tree
+  p = primary G depth
 
   abbrev F : ℕ → Out Tree
-  F k = name_first W p i k (toks_at t c.start)
+  F k = name_first G p (inner G depth) k (toks_at t c.start)
 
-  module _ (k : ℕ) (b : k ≡ sign_behind second d) where
-    by_sign : F (next_kind W (toks_at t c.start)) ≡ F k
-    by_sign = ap F (sign_is second r x y t c d w (λ z. omega (arith, z, name)) ∙ sym b)
+  module _ (k : ℕ) (b : k ≡ sign_behind lent.two d) where
+    by_sign : F (next_kind G (toks_at t c.start)) ≡ F k
+    by_sign =
+        ap F (sign_is lent.two lent.lists.reserved.now lent.lists.currencies.now lent.lists.counters.now t c d w (λ z. omega (arith, z, name)) ∙ sym b)
 
     -- a sign that decides stands at d
     pub sign_at : (k ≡ 55 → ⊥) → d.code ≡ k
-    sign_at z = go (not second && d.broken) b
+    sign_at z = go (not lent.two && d.broken) b
       where
         go : (e : Bool) → k ≡ (if e then 55 else d.code) → d.code ≡ k
         go true e = absurd (z e)
         go false e = sym e
 
-    pub first_assign : k ≡ 37 → F (next_kind W (toks_at t c.start)) ≡ assign W p (toks_at t c.start)
+    pub first_assign : k ≡ 37 → begun_at G depth (toks_at t c.start) ≡ assign G p (toks_at t c.start)
     unfolding name_first code
     first_assign e = by_sign ∙ ap F e
 
-    pub first_compound : 28 ≤ k → k ≤ 31 → F (next_kind W (toks_at t c.start)) ≡ compound W p (toks_at t c.start)
+    pub first_compound : 28 ≤ k → k ≤ 31 → begun_at G depth (toks_at t c.start) ≡ compound G p (toks_at t c.start)
     unfolding name_first code
     first_compound l h = by_sign ∙ (rw (ne_eqb k 37 (λ z. omega (arith, z, h)), le-leb 28 k l, le-leb k 31 h))
 
-    pub first_paid : k ≡ 36 → F (next_kind W (toks_at t c.start)) ≡ assign_paid W i (toks_at t c.start)
+    pub first_paid : k ≡ 36 → begun_at G depth (toks_at t c.start) ≡ assign_paid G (inner G depth) (toks_at t c.start)
     unfolding name_first code
     first_paid e = by_sign ∙ ap F e
 
-    pub first_ended : (k ≡ 37 → ⊥) → (28 ≤ k → k ≤ 31 → ⊥) → (k ≡ 36 → ⊥) → F (next_kind W (toks_at t c.start)) ≡ ended W p (toks_at t c.start)
+    pub first_ended : (k ≡ 37 → ⊥) → (28 ≤ k → k ≤ 31 → ⊥) → (k ≡ 36 → ⊥) → begun_at G depth (toks_at t c.start) ≡ ended G p (toks_at t c.start)
     unfolding name_first code
     first_ended u v z = by_sign ∙ (rw (ne_eqb k 37 u, out (leb 28 k) (leb k 31) refl refl, ne_eqb k 36 z))
       where
