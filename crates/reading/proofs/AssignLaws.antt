@@ -1,15 +1,15 @@
 -- Statements of one expression, and the head of a loop: what each step of the code comes to in the definition.
 use Rattle.std.specs.Prelude.{if◌then◌else◌}
 use mathlib.Core.Path.{◌≡◌, refl, sym, ap, ◌∙◌}
-use mathlib.Core.Bool.{Bool, true, false, ◌&&◌, not}
+use mathlib.Core.Bool.{Bool, true, false, ◌&&◌, not, true≢false}
 use mathlib.Core.List.{List, []}
 use mathlib.Core.Option.{Option}
-use Prim.Native.Nat.{ℕ, ◌+◌, ◌-◌, ◌≤◌}
+use Prim.Native.Nat.{ℕ, zero, suc, ◌+◌, ◌-◌, ◌≤◌}
 use native.Mathlib.Omega.{arith}
 use lib.Dec.{leb}
 use borrow.Author.Tests.{ne_eqb, le-leb, leb-true}
 use lib.ListN.{length, drop, length-take, length-drop}
-use Rattle.tokens.specs.Names.{place, member}
+use Rattle.tokens.specs.Names.{place, index_of, member}
 use Rattle.tokens.specs.Tokens.{Token, code}
 use Rattle.tokens.specs.declared.cursor.Cursor.{Cursor}
 use Rattle.grammar.specs.Trees.{Tree, place_of, fields, none as unused, size, row}
@@ -18,6 +18,7 @@ use Rattle.grammar.specs.Grammar.{Language, binary, variable, optional, expressi
 use Rattle.reading.specs.Rows.{rows, put_row, put_rows, node_row}
 use Rattle.reading.specs.Meets.{words_in, language_in, language_of, toks_at, token_at, Holds, Ready, Follows, Takes, Reads, Meets}
 use Rattle.std.specs.Prelude.{Result, Ok, Err}
+use Rattle.std.specs.Option.{is_some}
 use Rattle.std.specs.Result.{IsErrAnd}
 use Rattle.reading.specs.Faults.{refused_by}
 use Rattle.reading.specs.Turns.{inner}
@@ -42,24 +43,35 @@ meets_err t R n o (Err y) o' e h g = rw h g
 
 -- ---- the head of a loop
 
-module _ (W : Language) (t : List ℕ) (c : Cursor) (h : Holds t c) where
-  pub head_not : (c.code ≡ 1 → ⊥) → loop_head W (toks_at t c.start) ≡ refused 8 c.start
-  unfolding code
-  head_not z = the_then_not h "name" (λ e. z (sym e)) _
+-- a name without index is not in the list
+unplaced : (p : ℕ) → is_some (index_of p) ≡ false → p ≡ 0
+unplaced zero e = refl
+unplaced (suc k) e = absurd (cc)
 
-  module _ (d : Cursor) (w : Follows t c d) (name : c.code ≡ 1) where
+module _ (W : Language) (t : List ℕ) (c : Cursor) (h : Holds t c) where
+  pub head_not : (a : Fault) → Takes t 1 c (Err a) → loop_head W (toks_at t c.start) ≡ refused_by a
+  unfolding code ◌>>=◌ the
+  head_not a g = rw g
+
+  module _ (d : Cursor) (g : Takes t 1 c (Ok d)) where
+    name : c.code ≡ 1
+    name = g.1
+
+    w : Follows t c d
+    w = g.0
+
     head_named : loop_head W (toks_at t c.start) ≡ (named W (token_at t c) >> (the "in" >> give (token_at t c))) (toks_at t d.start)
     unfolding code
     head_named = the_then h w (λ z. omega (arith, z, name)) "name" (sym name) _
 
-    pub head_reserved : (place W.reserved (token_at t c).text ≡ 0 → ⊥) → loop_head W (toks_at t c.start) ≡ refused 9 c.start
+    pub head_reserved : is_some (index_of (place W.reserved (token_at t c).text)) ≡ true → loop_head W (toks_at t c.start) ≡ refused 9 c.start
     unfolding ◌>>◌ ◌>>=◌
-    head_reserved z = head_named ∙ ap (bind (λ x. the "in" >> give (token_at t c))) (named_not W h z (toks_at t d.start))
+    head_reserved z = head_named ∙ ap (bind (λ x. the "in" >> give (token_at t c))) (named_not W h (λ y. true≢false (sym z ∙ ap (λ (k : ℕ). is_some (index_of k)) y)) (toks_at t d.start))
 
-    module _ (free : place W.reserved (token_at t c).text ≡ 0) where
+    module _ (free : is_some (index_of (place W.reserved (token_at t c).text)) ≡ false) where
       head_in : loop_head W (toks_at t c.start) ≡ (the "in" >> give (token_at t c)) (toks_at t d.start)
       unfolding named give ◌>>◌ ◌>>=◌
-      head_in = head_named ∙ (rw free)
+      head_in = head_named ∙ (rw (unplaced (place W.reserved (token_at t c).text) free))
 
       -- what is taken behind the variable is what is answered
       pub head_meets : (r : Result Cursor Fault) → Takes t 51 d r → MeetsHead t (loop_head W (toks_at t c.start)) c r
