@@ -5,9 +5,6 @@ use Rattle.reading.proofs.HoldLaws.{start_in}
 use Rattle.reading.proofs.AssignLaws.{twice_reads, named_one}
 use Rattle.reading.proofs.assignments.doubled.Goals as goal
 
-pub returns-in_err-v : goal.returns-in_err-v
-returns-in_err-v c = search rules
-
 pub named_node-requires : goal.named_node-requires
 named_node-requires c = start_in c.requires.0.0
 
