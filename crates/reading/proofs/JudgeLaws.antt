@@ -14,10 +14,10 @@ use Rattle.tokens.specs.Text.{script, leading, every, other, count}
 use Rattle.tokens.specs.Names.{Lists, good_list, good_lists}
 use Rattle.tokens.specs.Tokens.{Token, Lexed, lexed, refused as faulty, scan, final, code, counts, end_of, tokens}
 use Rattle.tokens.specs.Lexing.{script_end, summary, scan_of}
-use Rattle.tokens.specs.declared.text.ScriptEnd.{ScriptEnd}
-use Rattle.tokens.specs.declared.text.ScriptEnd.TheVariants as ends
-use Rattle.tokens.specs.declared.scanning.Scanned.{Scanned}
-use Rattle.tokens.specs.declared.scanning.Scanned.TheVariants as scanned
+use Rattle.tokens.specs.ScriptEnd.{ScriptEnd}
+use Rattle.tokens.specs.ScriptEnd as ends
+use Rattle.tokens.specs.Scanned.{Scanned}
+use Rattle.tokens.specs.Scanned as scanned
 use Rattle.tokens.proofs.Shapes.{leading_le}
 use Rattle.tokens.proofs.TextLaws.{script_length}
 use Rattle.tokens.proofs.NameLaws.{good_few}

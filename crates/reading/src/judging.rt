@@ -9,8 +9,8 @@ use crate::language::Language;
 use crate::scripts::all;
 use tokens::lists::Lists;
 use tokens::refusals::{Ground, Refusal};
-use tokens::scanning::{Scanned, scan};
-use tokens::text::{ScriptEnd, find, script_end};
+use tokens::scanning::scan;
+use tokens::text::{find, script_end};
 
 // What a reading holds: bytes, statements, records, tokens, and where its last token ends.
 #[derive(Clone, Copy)]
@@ -26,13 +26,7 @@ pub struct Counts {
 pub fn judge(script: &[u8], two: bool, lists: &Lists) -> Result<Counts, Refusal>
     ensures { judged result ≡ judgement (edition_by two) (lists_of lists.now) script.now }
 {
-    let n = match script_end(script) {
-        ScriptEnd::At(n) => n,
-        ScriptEnd::Refused(_, b) => return Err(Refusal {
-            ground: Ground::TooLong,
-            byte: b,
-        }),
-    };
+    let n = script_end(script)?;
     if !lists.are_well_formed() {
         return Err(Refusal {
             ground: Ground::List,
@@ -54,19 +48,7 @@ fn judge_text(s: &[u8], language: &Language) -> Result<Counts, Refusal>
     requires { (length s.now ≤ 16384) × Few language.now.lists.currencies.now }
     ensures { judged result ≡ text_judgement (edition_by language.now.two) (lists_of language.now.lists) s.now }
 {
-    let scanned = match scan(s) {
-        Scanned::Counted(tokens, last) => Counts {
-            bytes: 0,
-            statements: 0,
-            records: 0,
-            tokens,
-            last,
-        },
-        Scanned::Refused(_, b) => return Err(Refusal {
-            ground: Ground::TooLong,
-            byte: b,
-        }),
-    };
+    let scanned = scan(s)?;
     let read = all(s, language, &mut [0; 1], &mut [0; 1])?;
     Ok(Counts {
         bytes: s.len(),

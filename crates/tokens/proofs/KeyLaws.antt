@@ -1,5 +1,5 @@
 -- A word is told by its key: what a table has for a word's bytes it has for their number. A keyword is told by its length and its bytes.
-use Rattle.std.specs.Prelude.{if◌then◌else◌}
+use Rattle.std.specs.Prelude.{Option, Some, None as no_code, if◌then◌else◌}
 use mathlib.Core.Path.{◌≡◌, refl, sym, ap, ◌∙◌}
 use mathlib.Core.Bool.{Bool, true, false, ◌&&◌, not, true≢false}
 use mathlib.Core.List.{List, [], ◌∷◌, ◌++◌}
@@ -14,7 +14,7 @@ use lib.ListN.{length, get_or, take, drop, length-take, length-drop, drop_of_len
 use lib.Seq.{drop-cons, get_or-take, get_or-drop}
 use Rattle.tokens.specs.Text.{bytes, same, begins, every}
 use Rattle.tokens.specs.Tokens.{entry, pairs, lones, keywords, piece, fault, word, sign}
-use Rattle.tokens.specs.Keys.{pack, lookup, keyed, key_of, keyword_by, pair_by, first_byte, lone_by}
+use Rattle.tokens.specs.Keys.{pack, lookup, keyed, key_of, keyword_by, known, pair_by, first_byte, lone_by}
 use Rattle.tokens.proofs.Shapes.{entry_found, entry_every, begins_le, same_eq, same_not}
 use Rattle.tokens.proofs.NameLaws.{and_true_both}
 
@@ -281,6 +281,21 @@ pub keyword_spelled : (s : String) (w : List ℕ) → length w ≡ length (bytes
 keyword_spelled s w l h = ap (λ (v : List ℕ). keyword_by (key_of v)) (sym (spelled_from 0 (bytes s) w (omega arith) h))
 
 -- ---- signs
+
+-- what the code answers of a table's number: the code that it is, or that there is none
+pub known_some : {c n : ℕ} → Some c ≡ known n → (c ≡ n) × (c ≡ 99 → ⊥)
+known_some {c} {n} e = go (eqb n 99) refl e
+  where
+    go : (t : Bool) → eqb n 99 ≡ t → ◌≡◌ {A = Option ℕ} (Some c) (if t then no_code else Some n) → (c ≡ n) × (c ≡ 99 → ⊥)
+    go true p q = absurd (cc)
+    go false p q = let r : c ≡ n = cc in (r, λ z. eqb-false n 99 p (sym r ∙ z))
+
+pub known_none : {n : ℕ} → no_code ≡ known n → n ≡ 99
+known_none {n} e = go (eqb n 99) refl e
+  where
+    go : (t : Bool) → eqb n 99 ≡ t → ◌≡◌ {A = Option ℕ} no_code (if t then no_code else Some n) → n ≡ 99
+    go true p q = eqb-true n 99 p
+    go false p q = absurd (cc)
 
 -- what a table of signs of two bytes has for what begins with b and c
 pair_begins : (b c : ℕ) (cs : List ℕ) → entry (λ s. begins (bytes s) (b ∷ c ∷ cs)) pairs ≡ entry (λ s. same (bytes s) (b ∷ c ∷ [])) pairs

@@ -2,11 +2,11 @@
 use mathlib.Core.Path.{◌≡◌, refl, ap}
 use mathlib.Core.Bool.{Bool, true, false, not}
 use mathlib.Core.List.{List, [], ◌∷◌}
-use Prim.Native.Nat.{ℕ, suc, ◌+◌, ◌≤◌, ◌<◌}
+use Prim.Native.Nat.{ℕ, zero, suc, ◌+◌, ◌≤◌, ◌<◌, min}
 use native.Mathlib.Numerals.{add-one}
 use native.Mathlib.Omega.{arith}
 use borrow.Author.Tests.{eq-eqb, ne_eqb}
-use lib.ListN.{length, get_or, drop, drop_of_length-le}
+use lib.ListN.{length, get_or, take, drop, drop_of_length-le}
 use lib.Seq.{drop-cons}
 use Rattle.tokens.specs.Text.{leading, other}
 
@@ -49,3 +49,15 @@ module _ (f : ℕ → Bool) where
 
     pub end_over : {x : ℕ} → length s ≤ i → i + leading f (drop i s) ≡ x → i ≡ x
     end_over h p = omega (arith, leading_over h)
+
+-- the same of the first bytes of a text
+pub leading_take : (f : ℕ → Bool) (n : ℕ) (s : List ℕ) → leading f (take n s) ≡ min n (leading f s)
+unfolding leading
+leading_take f zero s = omega arith
+leading_take f (suc n) [] = omega arith
+leading_take f (suc n) (b ∷ bs) = go (f b) (leading_take f n bs)
+  where
+    go : (t : Bool) → leading f (take n bs) ≡ min n (leading f bs)
+        → (elim t as (λ _. ℕ) [ true ↦ suc (leading f (take n bs)) | false ↦ 0 ]) ≡ min (suc n) (elim t as (λ _. ℕ) [ true ↦ suc (leading f bs) | false ↦ 0 ])
+    go true h = omega arith
+    go false h = omega arith

@@ -213,12 +213,12 @@ module _ (s : List ℕ) (at : ℕ) where
         rw (keyword_is (take (suc n) (drop at s)) (suc n) (smalls (take (suc n) (drop at s)) (bytes_take (suc n) (drop at s) (bytes_drop at s h))), w, r)
 
     module _ (e : ℕ) (p : e ≡ at + 1 + leading number_byte (drop (at + 1) s)) where
-      pub number_faulty : (f : ℕ) → f ≡ number_fault (take (e - at) (drop at s)) → (f ≡ 0 → ⊥) → record { start = at; end = at; code = 100 + f } ≡ mark_of at (number_at s at)
+      pub number_faulty : (f : ℕ) → f ≡ number_fault (take (e - at) (drop at s)) → 1 ≤ f → record { start = at; end = at; code = 100 + f } ≡ mark_of at (number_at s at)
       unfolding numeral
       number_faulty f q h =
           let n = leading number_byte (drop (at + 1) s) in
           let w : number_fault (take (suc n) (drop at s)) ≡ f = sym (q ∙ ap number_fault (part_is n e p)) in
-          rw (w, ne_eqb f 0 h)
+          rw (w, ne_eqb f 0 (λ z. omega (arith, z)))
 
       pub number_is : number_fault (take (e - at) (drop at s)) ≡ 0 → record { start = at; end = e; code = 2 } ≡ mark_of at (number_at s at)
       unfolding numeral

@@ -1,5 +1,6 @@
 -- Laws of the definitions, for the layers above and for the proofs of this one.
 pub mod Outcomes
+pub mod RefusalLaws
 pub mod Joins
 pub mod Cuts
 pub mod Shapes

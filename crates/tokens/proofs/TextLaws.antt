@@ -12,7 +12,7 @@ use borrow.Author.Tests.{eq-eqb, ne_eqb, lt-ltb, le-ltb}
 use Rattle.tokens.specs.Limits.{most_bytes}
 use Rattle.tokens.specs.Text.{leading, other, same, count, script}
 use Rattle.tokens.specs.Lexing.{script_end}
-use Rattle.tokens.specs.declared.text.ScriptEnd.TheVariants as ends
+use Rattle.tokens.specs.ScriptEnd as ends
 use Rattle.tokens.proofs.Shapes.{same_not, leading_le}
 
 -- ---- counts

@@ -1,10 +1,10 @@
 // The cursor: a place in a script and the token that stands there.
 ghost use Rattle.std.specs.Prelude.{◌≡◌, take};
 ghost use Rattle.tokens.specs.Limits.{most_bytes};
-ghost use Rattle.tokens.specs.Lexing.{cursor_at, advanced, one_more};
+ghost use Rattle.tokens.specs.Lexing.{mark_at, cursor_at, advanced, one_more};
 
 use crate::codes::{EOF, NEWLINE};
-use crate::lexing::lex;
+use crate::lexing::{Mark, lex};
 
 // The token that stands at the cursor, Newlines aside: its first byte, the byte past its last, its code, and whether a
 // Newline stands before it. With it how many tokens were taken before, and the end of the last of them.
@@ -29,6 +29,13 @@ fn script_of(s: &[u8]) -> &[u8]
     &s[0..most]
 }
 
+// The first token at or behind a place, or the refusal there.
+fn mark_at(text: &[u8], at: usize) -> Mark
+    ensures { result ≡ mark_at text.now at }
+{
+    lex(text, at).unwrap_or_else(Mark::from)
+}
+
 fn one_more(n: u16) -> u16
     ensures { result ≡ one_more n }
 {
@@ -50,7 +57,7 @@ impl Cursor {
         let mut i = at as usize;
         let mut broken = false;
         loop {
-            let m = lex(text, i);
+            let m = mark_at(text, i);
             if m.code != NEWLINE {
                 return Cursor {
                     start: m.start as u16,

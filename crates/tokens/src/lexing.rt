@@ -2,19 +2,33 @@
 ghost use Rattle.std.specs.Prelude.{◌≡◌, ◌+◌, ◌<◌, length, drop};
 ghost use Rattle.tokens.specs.Text.{leading, name_byte, number_byte};
 ghost use Rattle.tokens.specs.Tokens.{sign};
-ghost use Rattle.tokens.specs.Lexing.{lexeme_at, gap_width, byte_at, comment, word_at, number_at, string_at, mark_of, mark_at};
+ghost use Rattle.tokens.specs.Lexing.{lexeme_at, gap_width, byte_at, comment, word_at, number_at, string_at, mark_of, mark_at, refused_mark, Tells};
 
-use crate::codes::{EOF, FAULT, NEWLINE, NONE, NUMBER, STRING};
+use crate::codes::{EOF, NEWLINE, NUMBER, STRING};
 use crate::numbers::number_fault;
+use crate::refusals::{Ground, Refusal};
 use crate::text::{find, is_blank, is_digit, is_letter, is_name_byte, is_number_byte};
 use crate::words::{keyword, lone_sign, pair_key, pair_sign};
 
-// A token as readers keep it: its place and its kind's number; 100 and a ground where the text is refused there.
+// A token as readers keep it: its place and its kind's number.
 #[derive(Clone, Copy)]
 pub struct Mark {
     pub start: usize,
     pub end: usize,
     pub code: u8,
+}
+
+// A refusal as readers keep it: no bytes, and 100 and the ground's number for a kind's.
+impl From<Refusal> for Mark {
+    ghost from_gives = { λ e m. m ≡ refused_mark e };
+
+    fn from(e: Refusal) -> Mark {
+        Mark {
+            start: e.byte,
+            end: e.byte,
+            code: 100 + e.ground.number() as u8,
+        }
+    }
 }
 
 // The byte at a place, and 0 behind the end.
@@ -75,38 +89,35 @@ fn gap_end(s: &[u8], at: usize) -> usize
 }
 
 // The sign at a place: the longest wins.
-fn sign_at(s: &[u8], at: usize) -> Mark
+fn sign_at(s: &[u8], at: usize) -> Result<Mark, Refusal>
     requires { at < length s.now }
-    ensures { result ≡ mark_of at (sign (drop at s.now)) }
+    ensures { Tells (mark_of at (sign (drop at s.now))) result }
 {
     let b = s[at];
-    let two = pair_sign(pair_key(b, byte_at(s, at + 1)));
-    if two != NONE {
-        return Mark {
+    if let Some(code) = pair_sign(pair_key(b, byte_at(s, at + 1))) {
+        return Ok(Mark {
             start: at,
             end: at + 2,
-            code: two,
-        };
+            code,
+        });
     }
-    let one = lone_sign(b);
-    if one != NONE {
-        return Mark {
+    if let Some(code) = lone_sign(b) {
+        return Ok(Mark {
             start: at,
             end: at + 1,
-            code: one,
-        };
+            code,
+        });
     }
-    Mark {
-        start: at,
-        end: at,
-        code: FAULT + 3,
-    }
+    Err(Refusal {
+        ground: Ground::Character,
+        byte: at,
+    })
 }
 
 // The name or the keyword at a place where a letter stands.
 fn word_at(s: &[u8], at: usize) -> Mark
     requires { at < length s.now }
-    ensures { result ≡ mark_of at (word_at s.now at) }
+    ensures { (result ≡ mark_of at (word_at s.now at)) × (result.code < 100) }
 {
     let end = name_end(s, at + 1);
     let code = keyword(&s[at..end]);
@@ -118,54 +129,48 @@ fn word_at(s: &[u8], at: usize) -> Mark
 }
 
 // The number at a place where a digit stands.
-fn number_at(s: &[u8], at: usize) -> Mark
+fn number_at(s: &[u8], at: usize) -> Result<Mark, Refusal>
     requires { at < length s.now }
-    ensures { result ≡ mark_of at (number_at s.now at) }
+    ensures { Tells (mark_of at (number_at s.now at)) result }
 {
     let end = number_end(s, at + 1);
-    let fault = number_fault(&s[at..end]);
-    if fault != 0 {
-        return Mark {
+    match number_fault(&s[at..end]) {
+        Ok(()) => Ok(Mark {
             start: at,
-            end: at,
-            code: FAULT + fault,
-        };
-    }
-    Mark {
-        start: at,
-        end,
-        code: NUMBER,
+            end,
+            code: NUMBER,
+        }),
+        Err(ground) => Err(Refusal { ground, byte: at }),
     }
 }
 
 // The string at a place where a quote stands.
-fn string_at(s: &[u8], at: usize) -> Mark
+fn string_at(s: &[u8], at: usize) -> Result<Mark, Refusal>
     requires { at < length s.now }
-    ensures { result ≡ mark_of at (string_at s.now at) }
+    ensures { Tells (mark_of at (string_at s.now at)) result }
 {
     let quote = find(s, at + 1, 34);
     if quote < s.len() {
-        return Mark {
+        return Ok(Mark {
             start: at,
             end: quote + 1,
             code: STRING,
-        };
+        });
     }
-    Mark {
-        start: at,
-        end: at,
-        code: FAULT + 4,
-    }
+    Err(Refusal {
+        ground: Ground::OpenString,
+        byte: at,
+    })
 }
 
 // The token at a place where no blank and no comment stands.
-fn token_at(s: &[u8], at: usize) -> Mark
+fn token_at(s: &[u8], at: usize) -> Result<Mark, Refusal>
     requires { (at < length s.now) × (gap_width (lexeme_at s.now at) ≡ 0) }
-    ensures { result ≡ mark_of at (lexeme_at s.now at) }
+    ensures { Tells (mark_of at (lexeme_at s.now at)) result }
 {
     let b = s[at];
     if is_letter(b) {
-        return word_at(s, at);
+        return Ok(word_at(s, at));
     }
     if is_digit(b) {
         return number_at(s, at);
@@ -174,18 +179,18 @@ fn token_at(s: &[u8], at: usize) -> Mark
         return string_at(s, at);
     }
     if b == 10 {
-        return Mark {
+        return Ok(Mark {
             start: at,
             end: at + 1,
             code: NEWLINE,
-        };
+        });
     }
     sign_at(s, at)
 }
 
-// The first token at or behind a place, Newlines among them.
-pub fn lex(s: &[u8], at: usize) -> Mark
-    ensures { result ≡ mark_at s.now at }
+// The first token at or behind a place, Newlines among them, or a refusal there.
+pub fn lex(s: &[u8], at: usize) -> Result<Mark, Refusal>
+    ensures { Tells (mark_at s.now at) result }
 {
     let mut i = at;
     while i < s.len() {
@@ -195,9 +200,9 @@ pub fn lex(s: &[u8], at: usize) -> Mark
         }
         i = end;
     }
-    Mark {
+    Ok(Mark {
         start: i,
         end: i,
         code: EOF,
-    }
+    })
 }

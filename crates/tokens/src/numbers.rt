@@ -1,8 +1,10 @@
 // Number literals: whether the bytes of one are taken, its value as an f64, and that value's bits.
 ghost use Rattle.std.specs.Prelude.{◌≡◌, not, ◌-◌, ◌<◌, ◌^◌, ◌/◌, ◌%◌, T};
 ghost use Rattle.std.specs.Float.Ieee.{neg, is_nan};
-ghost use Rattle.tokens.specs.Numbers.{number_fault, fault_of, value_of, signed, bits_of};
+ghost use Rattle.tokens.specs.Numbers.{number_fault, fault_of, as_fault, value_of, signed, bits_of};
 ghost use Rattle.tokens.specs.Runs.{up, grow, feed, feed_all, begin};
+
+use crate::refusals::Ground;
 
 const TENS: [u64; 16] = [
     1,
@@ -105,24 +107,21 @@ fn measured(w: &[u8]) -> Run
     run
 }
 
-fn judged(dots: u32, digits: u64, decimals: u32) -> u8
-    ensures { result ≡ fault_of dots digits decimals }
+fn judged(dots: u32, digits: u64, decimals: u32) -> Result<(), Ground>
+    ensures { as_fault result ≡ fault_of dots digits decimals }
 {
     if 1 < dots {
-        return 5;
+        return Err(Ground::Number);
     }
-    if MOST_DIGITS < digits {
-        return 6;
+    if MOST_DIGITS < digits || MOST_DECIMALS < decimals {
+        return Err(Ground::LongNumber);
     }
-    if MOST_DECIMALS < decimals {
-        return 6;
-    }
-    0
+    Ok(())
 }
 
-// The ground on which the bytes of a literal are refused: 5 before 6, and 0 where they are taken.
-pub fn number_fault(w: &[u8]) -> u8
-    ensures { result ≡ number_fault w.now }
+// Whether the bytes of a literal are taken, or the ground on which they are refused: 5 before 6.
+pub fn number_fault(w: &[u8]) -> Result<(), Ground>
+    ensures { as_fault result ≡ number_fault w.now }
 {
     let run = measured(w);
     judged(run.dots, run.digits, run.decimals)
@@ -140,13 +139,10 @@ pub fn value_of(w: &[u8]) -> f64
     ensures { result ≡ value_of w.now }
 {
     let run = measured(w);
-    let digits = run.digits;
-    let decimals = run.decimals;
-    if judged(run.dots, digits, decimals) != 0 {
-        return 0.0;
+    match judged(run.dots, run.digits, run.decimals) {
+        Err(_) => 0.0,
+        Ok(()) => run.digits as f64 / ten_to(run.decimals as usize) as f64,
     }
-    let tens = ten_to(decimals as usize);
-    digits as f64 / tens as f64
 }
 
 fn halves(n: u64) -> Bits

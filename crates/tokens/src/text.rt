@@ -1,16 +1,11 @@
 // Bytes: their classes, where one of them stands first, and where a script ends.
 ghost use Rattle.std.specs.Prelude.{◌≡◌, ◌+◌, drop};
 ghost use Rattle.tokens.specs.Text.{within, digit, capital, letter, name_byte, number_byte, blank, continuation, leading, other, same};
+ghost use Rattle.tokens.specs.ScriptEnd.{as_end};
 ghost use Rattle.tokens.specs.Lexing.{script_end};
 
 use crate::cursor::Cursor;
-
-// Where a script ends, or a refusal: its number and its byte.
-#[derive(Clone, Copy)]
-pub enum ScriptEnd {
-    At(usize),
-    Refused(u32, usize),
-}
+use crate::refusals::{Ground, Refusal};
 
 fn is_within(low: u8, high: u8, b: u8) -> bool
     ensures { result ≡ within low high b }
@@ -95,18 +90,16 @@ pub fn equal(a: &[u8], b: &[u8]) -> bool
 }
 
 // The script is the bytes before the first zero byte. It is not looked for behind the most bytes that a script may have.
-pub fn script_end(bytes: &[u8]) -> ScriptEnd
-    ensures { result ≡ script_end bytes.now }
+pub fn script_end(bytes: &[u8]) -> Result<usize, Refusal>
+    ensures { as_end result ≡ script_end bytes.now }
 {
-    let mut i: usize = 0;
-    while i < bytes.len() {
-        if bytes[i] == 0 {
-            return ScriptEnd::At(i);
-        }
-        if i == Cursor::BYTES {
-            return ScriptEnd::Refused(1, 0);
-        }
-        i += 1;
+    let most = bytes.len().min(Cursor::BYTES + 1);
+    let end = find(&bytes[..most], 0, 0);
+    if Cursor::BYTES < end {
+        return Err(Refusal {
+            ground: Ground::TooLong,
+            byte: 0,
+        });
     }
-    ScriptEnd::At(i)
+    Ok(end)
 }

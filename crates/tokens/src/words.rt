@@ -1,11 +1,11 @@
 // Keywords, told by their length and then by their bytes; signs and names of calls, told by the number that their bytes make.
 ghost use Rattle.std.specs.Prelude.{◌≡◌, ◌+◌, ◌*◌, length};
-ghost use Rattle.tokens.specs.Keys.{key_of, keyword_by, pair_by, lone_by};
+ghost use Rattle.tokens.specs.Keys.{key_of, keyword_by, known, pair_by, lone_by};
 
 use crate::codes::{
     AND, ASSIGN, CLOSE_BRACKET, CLOSE_CURLY, CLOSE_PAREN, COMMA, DIVIDE, DIVIDE_ASSIGN, DOT, ELSE,
     END, EQUAL, FALSE, FOR, IF, IN, INFERIOR, INFERIOR_OR_EQUAL, MINUS, MINUS_ASSIGN, MULTIPLY,
-    MULTIPLY_ASSIGN, NAME, NONE, NOT, NOT_EQUAL, ON, OPEN_BRACKET, OPEN_CURLY, OPEN_PAREN, OR,
+    MULTIPLY_ASSIGN, NAME, NOT, NOT_EQUAL, ON, OPEN_BRACKET, OPEN_CURLY, OPEN_PAREN, OR,
     PAYS, PLUS, PLUS_ASSIGN, POWER, SEMICOLON, SUPERIOR, SUPERIOR_OR_EQUAL, THEN, TRUE,
 };
 
@@ -134,44 +134,46 @@ pub fn keyword(w: &[u8]) -> u8
 }
 
 // The code of the sign of two bytes that a key packs.
-pub fn pair_sign(key: u32) -> u8
-    ensures { result ≡ pair_by key }
+#[tactic(auto, unfolding(crate::specs::Computing::computing))]
+pub fn pair_sign(key: u32) -> Option<u8>
+    ensures { result ≡ known (pair_by key) }
 {
     match key {
-        0x1_3d_2b => PLUS_ASSIGN,
-        0x1_3d_2d => MINUS_ASSIGN,
-        0x1_3d_2a => MULTIPLY_ASSIGN,
-        0x1_3d_2f => DIVIDE_ASSIGN,
-        0x1_2a_2a => POWER,
-        0x1_3d_3d => EQUAL,
-        0x1_3d_21 => NOT_EQUAL,
-        0x1_3d_3e => SUPERIOR_OR_EQUAL,
-        0x1_3d_3c => INFERIOR_OR_EQUAL,
-        _ => NONE,
+        0x1_3d_2b => Some(PLUS_ASSIGN),
+        0x1_3d_2d => Some(MINUS_ASSIGN),
+        0x1_3d_2a => Some(MULTIPLY_ASSIGN),
+        0x1_3d_2f => Some(DIVIDE_ASSIGN),
+        0x1_2a_2a => Some(POWER),
+        0x1_3d_3d => Some(EQUAL),
+        0x1_3d_21 => Some(NOT_EQUAL),
+        0x1_3d_3e => Some(SUPERIOR_OR_EQUAL),
+        0x1_3d_3c => Some(INFERIOR_OR_EQUAL),
+        _ => None,
     }
 }
 
 // The code of the sign that is one byte.
-pub fn lone_sign(b: u8) -> u8
-    ensures { result ≡ lone_by b }
+#[tactic(auto, unfolding(crate::specs::Computing::computing))]
+pub fn lone_sign(b: u8) -> Option<u8>
+    ensures { result ≡ known (lone_by b) }
 {
     match b {
-        b'+' => PLUS,
-        b'-' => MINUS,
-        b'*' => MULTIPLY,
-        b'/' => DIVIDE,
-        b'>' => SUPERIOR,
-        b'<' => INFERIOR,
-        b'=' => ASSIGN,
-        b'(' => OPEN_PAREN,
-        b')' => CLOSE_PAREN,
-        b'{' => OPEN_CURLY,
-        b'}' => CLOSE_CURLY,
-        b'[' => OPEN_BRACKET,
-        b']' => CLOSE_BRACKET,
-        b',' => COMMA,
-        b'.' => DOT,
-        b';' => SEMICOLON,
-        _ => NONE,
+        b'+' => Some(PLUS),
+        b'-' => Some(MINUS),
+        b'*' => Some(MULTIPLY),
+        b'/' => Some(DIVIDE),
+        b'>' => Some(SUPERIOR),
+        b'<' => Some(INFERIOR),
+        b'=' => Some(ASSIGN),
+        b'(' => Some(OPEN_PAREN),
+        b')' => Some(CLOSE_PAREN),
+        b'{' => Some(OPEN_CURLY),
+        b'}' => Some(CLOSE_CURLY),
+        b'[' => Some(OPEN_BRACKET),
+        b']' => Some(CLOSE_BRACKET),
+        b',' => Some(COMMA),
+        b'.' => Some(DOT),
+        b';' => Some(SEMICOLON),
+        _ => None,
     }
 }
