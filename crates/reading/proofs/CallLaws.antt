@@ -3,7 +3,7 @@ use Rattle.std.specs.Prelude.{Result, Ok, Err, Option, Some, None, if◌then◌e
 use mathlib.Core.Path.{◌≡◌, refl, sym, ap, ◌∙◌, subst}
 use mathlib.Core.Bool.{Bool, true, false, ◌&&◌}
 use mathlib.Core.List.{List, []}
-use Prim.Native.Nat.{ℕ, suc, ◌+◌, ◌-◌, ◌≤◌}
+use Prim.Native.Nat.{ℕ, zero, suc, ◌+◌, ◌-◌, ◌≤◌}
 use Prim.Native.String.{String}
 use native.Mathlib.Omega.{arith}
 use lib.Dec.{T, eqb, leb}
@@ -107,9 +107,9 @@ module _ (W : Language) (u : Token) (ts : List Token) where
   unfolding currency_of fail_at
   money_bad z = ap (λ (b : Bool). (if b then fail_at u 12 else give (place W.currencies (content u))) ts) (eq-eqb (place W.currencies (content u)) 0 z)
 
-  pub money_is : {x : ℕ} → place W.currencies (content u) ≡ suc x → currency_of W u ts ≡ ok (suc x) ts
+  pub money_is : (x : ℕ) → place W.currencies (content u) ≡ x + 1 → currency_of W u ts ≡ ok (x + 1) ts
   unfolding currency_of give
-  money_is {x} e =
+  money_is x e =
       ap (λ (b : Bool). (if b then fail_at u 12 else give (place W.currencies (content u))) ts) (ne_eqb (place W.currencies (content u)) 0 (λ p. omega (arith, p, e)))
       ∙ ap (λ (y : ℕ). ok y ts) e
 
@@ -136,11 +136,11 @@ module _ {t : List ℕ} {c : Cursor} (h : Holds t c) {d : Cursor} (y : Takes t 5
         then_ok (the_by 5) (toks_at t c.start) (currency_of W) y.2
         ∙ money_bad W (token_at t c) (toks_at t d.start) (index_none _ (sym place_of_content ∙ z))
 
-    pub currency_is : {x : ℕ} → r ≡ Some x → a_currency W (toks_at t c.start) ≡ ok (suc x) (toks_at t d.start)
+    pub currency_is : {x : ℕ} → r ≡ Some x → a_currency W (toks_at t c.start) ≡ ok (x + 1) (toks_at t d.start)
     unfolding a_currency the code
     currency_is z =
         then_ok (the_by 5) (toks_at t c.start) (currency_of W) y.2
-        ∙ money_is W (token_at t c) (toks_at t d.start) (index_some _ _ (sym place_of_content ∙ z))
+        ∙ money_is W (token_at t c) (toks_at t d.start) _ (omega (arith, index_some _ _ (sym place_of_content ∙ z)))
 
 -- the place of a currency fits a word
 pub place_fits : (l : List ℕ) → Few l → {r : Option ℕ} {x : ℕ} (n : List ℕ) → r ≡ index_of (place (names l) n) → r ≡ Some x → x + 1 ≤ 256
@@ -209,9 +209,9 @@ module _ {t : List ℕ} {c : Cursor} (h : Holds t c) (s : c.code ≡ 5) (W : Lan
       ap (λ (b : Bool). (if b then equity W l (token_at t c) else pair W l (place W.currencies (content (token_at t c)))) ts)
       (eq-eqb (place W.currencies (content (token_at t c))) 0 (index_none _ (sym place_of ∙ z)))
 
-  pub spot_pair : {x : ℕ} → r ≡ Some x → spot_of W l (token_at t c) ts ≡ pair W l (suc x) ts
+  pub spot_pair : {x : ℕ} → r ≡ Some x → spot_of W l (token_at t c) ts ≡ pair W l (x + 1) ts
   spot_pair {x} z =
-      let p : place W.currencies (content (token_at t c)) ≡ suc x = index_some _ _ (sym place_of ∙ z) in
+      let p : place W.currencies (content (token_at t c)) ≡ x + 1 = omega (arith, index_some _ _ (sym place_of ∙ z)) in
       ap (λ (b : Bool). (if b then equity W l (token_at t c) else pair W l (place W.currencies (content (token_at t c)))) ts)
       (ne_eqb (place W.currencies (content (token_at t c))) 0 (λ q. omega (arith, p, q)))
       ∙ ap (λ (y : ℕ). pair W l y ts) p
@@ -342,6 +342,10 @@ rate_is {t} {a} {d} h s k l v w {x} {y} e g n q =
     leaf_is 35 l (content (token_at t a)) (a.start + 1) (a.end - a.start - 2) x y n q (λ z. omega arith) k
     (rate_both l (token_at t a) v w (toks_at t d.start) e g
     ∙ (λ i. ok (node 35 l (content (token_at t a)) (fields (p i) (content_length h s i) x y) nil) (toks_at t d.start)))
+
+pub date_in : {t : List ℕ} {c : Cursor} → Holds t c → c.code ≡ 5 → {r : Option ℕ} → r ≡ unless_0 (date (take (c.end - 1 - (c.start + 1)) (drop (c.start + 1) t)))
+    → r ≡ unless_0 (date (content (token_at t c)))
+date_in h s e = e ∙ ap (λ (l : List ℕ). unless_0 (date l)) (sym (content_is h s))
 
 -- what stands behind each of its strings
 abbrev behind_last : ℕ → Token → Token → Token → Reader Tree
