@@ -16,6 +16,7 @@ use Rattle.tokens.specs.Tokens.{Token, code}
 use Rattle.tokens.specs.Keys.{pack, lookup, keyed, key_of}
 use Rattle.tokens.specs.declared.cursor.Cursor.{Cursor}
 use Rattle.tokens.proofs.KeyLaws.{Bytes, small, smalls, key_same}
+use Rattle.tokens.proofs.Shapes.{same_eq}
 use Rattle.tokens.proofs.NameLaws.{place_le, index_some, index_none}
 use Rattle.grammar.specs.Trees.{Tree, node, nil, fields}
 use Rattle.grammar.specs.Readers.{Out, ok, refused, Reader, bind, ◌>>=◌, ◌>>◌, give, fail_at, the}
@@ -417,6 +418,10 @@ kinds_meet false false false false false false false false true j k = refl
 kinds_meet false false false false false false false false false true k = refl
 kinds_meet false false false false false false false false false false k = refl
 
+pub call_long : (w : List ℕ) → same (bytes "RateIndex") w ≡ true → 35 ≡ call_kind w
+unfolding call_kind call_of same bytes
+call_long w e = subst (λ (v : List ℕ). ◌≡◌ {A = ℕ} 35 (call_kind v)) (same_eq (bytes "RateIndex") w e) refl
+
 module _ (w : List ℕ) (h : Bytes w) where
   abbrev key_is : String → Bool
   key_is s = eqb (key_of w) (pack (bytes s))
@@ -432,18 +437,13 @@ module _ (w : List ℕ) (h : Bytes w) where
       (told "Spot" tt (omega arith) x) (told "Df" tt (omega arith) x) (same (bytes "RateIndex") w))
       ∙ kinds_meet (key_is "ln") (key_is "exp") (key_is "pow") (key_is "min") (key_is "max") (key_is "cvg") (key_is "fif") (key_is "range") (key_is "Spot") (key_is "Df") (same (bytes "RateIndex") w)
 
-  module _ (k : ℕ) (e : k ≡ call_by (key_of w)) where
-    by_kind : call_kind w ≡ (if eqb k 0 then (if same (bytes "RateIndex") w then 35 else 0) else k)
-    by_kind = call_is ∙ ap (λ (x : ℕ). if eqb x 0 then (if same (bytes "RateIndex") w then 35 else 0) else x) (sym e)
-
-    pub call_short : (k ≡ 0 → ⊥) → k ≡ call_kind w
-    call_short z = sym (by_kind ∙ ap (λ (b : Bool). if b then (if same (bytes "RateIndex") w then 35 else 0) else k) (ne_eqb k 0 z))
-
-    pub call_long : k ≡ 0 → (b : Bool) → b ≡ same (bytes "RateIndex") w → call_kind w ≡ (if b then 35 else 0)
-    call_long z b q =
-        by_kind
-        ∙ (ap (λ (x : Bool). if x then (if same (bytes "RateIndex") w then 35 else 0) else k) (eq-eqb k 0 z)
-        ∙ ap (λ (x : Bool). if x then 35 else 0) (sym q))
+  -- no other name than RateIndex is longer than a key
+  pub call_other : same (bytes "RateIndex") w ≡ false → call_by (key_of w) ≡ call_kind w
+  call_other z = sym (call_is ∙ go (call_by (key_of w)) (ap (λ (b : Bool). if◌then◌else◌ {A = ℕ} b 35 0) z))
+    where
+      go : (k : ℕ) → ◌≡◌ {A = ℕ} (if same (bytes "RateIndex") w then 35 else 0) 0 → (if eqb k 0 then (if same (bytes "RateIndex") w then 35 else 0) else k) ≡ k
+      go zero e = e
+      go (suc k) e = rw (ne_eqb (suc k) 0 (λ z. omega (arith, z)))
 
   -- methods by their keys
   pub method_is : (n k : ℕ) → k ≡ key_of w → method_kind w n ≡ (if eqb k (pack (bytes "append")) && eqb n 1 then 29
