@@ -1,5 +1,5 @@
 -- What stands round the parts of a call, a list and a pays: the strings of a cvg, leaves, and what follows a part.
-use Rattle.std.specs.Prelude.{if◌then◌else◌}
+use Rattle.std.specs.Prelude.{Ok, if◌then◌else◌}
 use mathlib.Core.Path.{◌≡◌, refl, sym, ap, ◌∙◌}
 use mathlib.Core.Bool.{Bool, true, false, ◌||◌}
 use mathlib.Core.List.{List, []}
@@ -23,7 +23,7 @@ use Rattle.reading.specs.Meets.{words_in, language_in, toks_at, token_at, Holds,
 use Rattle.reading.specs.Turns.{item_end, Shown, content_at, cvg_fault, call_fault}
 use Rattle.reading.specs.declared.answers.Texts.{Texts}
 use Rattle.reading.specs.declared.records.Node.{Node}
-use Rattle.reading.specs.declared.answers.Leaf.TheVariants as leaf
+use Rattle.reading.specs.declared.answers.Leaf.{Leaf}
 use Rattle.reading.proofs.HoldLaws.{peek_is, fail_is, the_next}
 use Rattle.reading.proofs.RowLaws.{before_node, size_node}
 use Rattle.reading.proofs.AtomLaws.{leaf_reads}
@@ -164,9 +164,10 @@ module _ (C : List (List ℕ)) (k n : ℕ) (es : Trees) (e : n ≡ parts es) whe
 -- ---- leaves
 
 -- a leaf that is written
-pub leaf_written : {t : List ℕ} {R : Out Tree} {n : ℕ} {o o' : List ℕ} {d : Cursor} (x : Node) → MeetsLeaf t R (leaf.Is d x) → o' ≡ put_row o n (node_row x)
-    → Reads t R n o d (n + 1) 0 o'
-leaf_written x h w =
+pub leaf_written : {t : List ℕ} {R : Out Tree} {n : ℕ} {o o' : List ℕ} (l : Leaf) → MeetsLeaf t R (Ok l) → o' ≡ put_row o n (node_row l.node)
+    → Reads t R n o l.at (n + 1) 0 o'
+leaf_written l h w =
+    let x = l.node in
     leaf_reads x.kind x.place h.4.0 (fields x.f1 x.f2 x.f3 x.f4) h.3 h.0 h.4.1 (w ∙ (rw (h.1, h.2)))
 
 -- ---- the date and the currency of a pays
