@@ -19,7 +19,12 @@ use Rattle.grammar.specs.Readers.{Out, ok, refused, Reader, bind, ◌>>=◌, ◌
 use Rattle.grammar.specs.Grammar as G
 use Rattle.grammar.specs.Grammar.{Language, expression, items, closed, arguments, deeper, primary, calls, call_of, cvg, call, payday, payments, payment, pays, listed, postfixes, currency_of, a_currency}
 use Rattle.reading.specs.Calls.{call_kind, right_count}
-use Rattle.reading.specs.Rows.{put_row}
+use Rattle.reading.specs.Rows.{put_row, kind_number}
+use Rattle.reading.specs.declared.records.Kind.{Kind}
+use Rattle.reading.proofs.KindLaws.{kind_some}
+use Rattle.tokens.specs.Refusals.{number_of}
+use Rattle.tokens.specs.declared.refusals.Ground.{Ground}
+use Rattle.tokens.proofs.RefusalLaws.{number_in}
 use Rattle.reading.specs.Meets.{words_in, language_in, toks_at, token_at, Holds, Room, Ready, Follows, Takes, string_at, Quoted, Reads, Meets, Before}
 use Rattle.reading.specs.Turns.{inner, list_postfixed, pays_stop, Closing, item_end, item_turn_by, items_by, FollowsItem, string_of, AllQuoted, Shown, shown_by, ReadsItems, call_fault, Tops}
 use Rattle.std.specs.Prelude.{Result, Ok, Err}
@@ -387,7 +392,13 @@ pub arguments_within : (W : Language) (depth : ℕ) (t : List ℕ) (c : Cursor) 
 arguments_within W depth t c n o d m k x o' r room =
     items_within t (arguments W (inner W depth)) (arguments_size W (inner W depth) (inner_sized W depth)) c n o d m k x o' r room
 
-module _ (W : Language) (depth : ℕ) (tok : Token) (k : ℕ) (e : k ≡ call_kind tok.text) (l : 1 ≤ k) (u : k < 32) where
+module _ (W : Language) (depth : ℕ) (tok : Token) (κ : Kind) (e : kind_number κ ≡ call_kind tok.text) (u : kind_number κ < 32) where
+  abbrev k : ℕ
+  k = kind_number κ
+
+  l : 1 ≤ k
+  l = kind_some κ
+
   abbrev Row : ℕ × ℕ × ℕ
   Row = call_of tok.text calls
 
@@ -432,21 +443,22 @@ module _ (W : Language) (depth : ℕ) (tok : Token) (k : ℕ) (e : k ≡ call_ki
     call_refused j b q = rw q
 
     module _ (n : ℕ) (o : List ℕ) (d : Cursor) (m cnt : ℕ) (x : Texts) (o' : List ℕ)
-        (r : ReadsItems t (arguments W (inner W depth) (toks_at t c.start)) n o d m cnt x o') (f : ℕ)
-        (fault : (es : Trees) → Shown t es x → cnt ≡ parts es → f ≡ call_fault W.counters k es) where
-      call_is : call W (inner W depth) tok (call_of tok.text calls) (toks_at t c.start) ≡ judged r.items (toks_at t d.start) f
+        (r : ReadsItems t (arguments W (inner W depth) (toks_at t c.start)) n o d m cnt x o') where
+      call_is : (f : ℕ) → ((es : Trees) → Shown t es x → cnt ≡ parts es → f ≡ call_fault W.counters k es)
+          → call W (inner W depth) tok (call_of tok.text calls) (toks_at t c.start) ≡ judged r.items (toks_at t d.start) f
       unfolding call ◌>>=◌
-      call_is = (rw r.is) ∙ (body_is r.items (toks_at t d.start) ∙ ap (judged r.items (toks_at t d.start)) (sym (fault r.items r.shown r.parts_are)))
+      call_is f fault = (rw r.is) ∙ (body_is r.items (toks_at t d.start) ∙ ap (judged r.items (toks_at t d.start)) (sym (fault r.items r.shown r.parts_are)))
 
-      pub call_faulty : (f ≡ 0 → ⊥) → call W (inner W depth) tok (call_of tok.text calls) (toks_at t c.start) ≡ refused f tok.from
-      call_faulty z = call_is ∙ (rw (ne_eqb f 0 z))
+      pub call_faulty : (g : Ground) → ((es : Trees) → Shown t es x → cnt ≡ parts es → number_of g ≡ call_fault W.counters k es)
+          → call W (inner W depth) tok (call_of tok.text calls) (toks_at t c.start) ≡ refused (number_of g) tok.from
+      call_faulty g fault = call_is (number_of g) fault ∙ (rw (ne_eqb (number_of g) 0 (λ z. omega (arith, z, number_in g))))
 
-      pub call_done : f ≡ 0 → (o₂ : List ℕ) → o₂ ≡ put_row o' m (row k (m - n + 1) cnt unused tok.from)
+      pub call_done : ((es : Trees) → Shown t es x → cnt ≡ parts es → 0 ≡ call_fault W.counters k es) → (o₂ : List ℕ) → o₂ ≡ put_row o' m (row k (m - n + 1) cnt unused tok.from)
           → Reads t (call W (inner W depth) tok (call_of tok.text calls) (toks_at t c.start)) n o d (m + 1) 0 o₂
-      call_done z o₂ v =
+      call_done fault o₂ v =
           record {
             tree = node k tok.from [] unused r.items;
-            is = call_is ∙ (rw (eq-eqb f 0 z));
+            is = call_is 0 fault;
             counts = omega (arith, size_node k tok.from [] unused r.items, r.counts);
             writes = before_node k tok.from [] unused (record { counts = r.counts; writes = r.writes }) (omega (arith, r.counts)) r.parts_are v;
             holds = r.holds;

@@ -16,11 +16,14 @@ use Rattle.tokens.specs.declared.cursor.Cursor.{Cursor}
 use Rattle.grammar.specs.Trees.{Tree, Trees, node, nil, ◌▹◌, fields, none as unused, parts, row}
 use Rattle.grammar.specs.Readers.{Out, ok, refused, Reader, bind, ◌>>=◌, ◌>>◌, Turn, again, done, follow, loop, give, fail, fail_at, read, the}
 use Rattle.grammar.specs.Grammar.{Language, binary, deeper, expression, arguments, method, method_of, index_of, postfix_turn, postfixes, calls, call_of, call, named, variable, name, spot, df, rate_index, currency_of, a_currency, equity, pair, primary}
-use Rattle.reading.specs.Rows.{put_row}
+use Rattle.reading.specs.Rows.{put_row, kind_number, kind_at}
+use Rattle.reading.specs.declared.records.Kind.{Kind}
+use Rattle.reading.specs.declared.records.Kind.TheVariants as kind
+use Rattle.reading.proofs.KindLaws.{kind_back}
 use Rattle.reading.specs.Calls.{call_kind, method_kind}
 use Rattle.reading.specs.Meets.{words_in, language_in, toks_at, token_at, Holds, Room, Ready, Follows, the_by, Takes, string_at, Quoted, Reads, Meets, Before}
 use Rattle.reading.specs.Signs.{postfix_sign}
-use Rattle.std.specs.Prelude.{Result, Ok, Err}
+use Rattle.std.specs.Prelude.{Result, Ok, Err, Some}
 use Rattle.tokens.specs.declared.refusals.Ground.TheVariants as ground
 use Rattle.reading.specs.Faults.{fault_at, refused_by}
 use Rattle.reading.specs.Turns.{inner, ReadsItems, special_of, Unquoted, Tops, ReadsTurn, MeetsTurn, MeetsTurns}
@@ -296,12 +299,23 @@ module _ (W : Language) (I : Option (Reader Tree)) (each : Each I) (l : ℕ) (t 
 
 -- ---- names
 
-pub above : (k : ℕ) → (k ≡ 0 → ⊥) → 1 ≤ k
-above zero z = absurd (z refl)
-above (suc k) z = omega arith
-
 call_low : (w : List ℕ) → (call_of w calls).0 < 32
 call_low w = row_says (λ c. c.0 < 32) w calls (omega arith) (omega arith, (omega arith, (omega arith, (omega arith, (omega arith, (omega arith, (omega arith, (omega arith, tt))))))))
+
+-- a call's kind that is none of the three that are read on their own
+pub call_kind_low : (k : Kind) (w : List ℕ) → kind_number k ≡ call_kind w → (k ≡ kind.Spot → ⊥) → (k ≡ kind.Df → ⊥) → (k ≡ kind.RateIndex → ⊥) → kind_number k < 32
+unfolding call_kind
+call_kind_low k w e s d r = go (leb 1 (call_of w calls).0) (same (bytes "Spot") w) (same (bytes "Df") w) (same (bytes "RateIndex") w) e
+  where
+    is : (j : Kind) → kind_number k ≡ kind_number j → k ≡ j
+    is j q = let p : Some k ≡ Some j = sym (kind_back k) ∙ (ap kind_at q ∙ kind_back j) in cc
+
+    go : (a b x y : Bool) → kind_number k ≡ (if a then (call_of w calls).0 else if b then 32 else if x then 34 else if y then 35 else 0) → kind_number k < 32
+    go true b x y q = omega (arith, q, call_low w)
+    go false true x y q = absurd (s (is kind.Spot q))
+    go false false true y q = absurd (d (is kind.Df q))
+    go false false false true q = absurd (r (is kind.RateIndex q))
+    go false false false false q = omega (arith, q)
 
 module _ (W : Language) (I : Option (Reader Tree)) (u : Token) (ts : List Token) where
   abbrev Named : ℕ → Reader Tree → Type 0
@@ -388,9 +402,9 @@ module _ (s₂ : Bool) (res cur cou : List ℕ) (I : Option (Reader Tree)) (t : 
       (g ∙ ap (λ (p : Reader Tree). p (toks_at t d.start)) s) h
 
   -- an ordinary call
-  pub name_call : (κ ≡ 0 → ⊥) → κ < 32 → (x : Result Read Fault) (o₂ : List ℕ)
+  pub name_call : 1 ≤ κ → κ < 32 → (x : Result Read Fault) (o₂ : List ℕ)
       → Meets t (call (language_in s₂ res cur cou) I (token_at t c) (call_of (token_at t c).text calls) (toks_at t d.start)) n o x o₂
       → Meets t (name (language_in s₂ res cur cou) I (token_at t c) (toks_at t d.start)) n o x o₂
   name_call z l x o₂ h =
       meets_as t (name (language_in s₂ res cur cou) I (token_at t c) (toks_at t d.start)) (call (language_in s₂ res cur cou) I (token_at t c) (call_of (token_at t c).text calls) (toks_at t d.start)) n o x o₂
-      (Facts.2 (omega (arith, ki, above κ z)) (omega (arith, l, ki))) h
+      (Facts.2 (omega (arith, ki, z)) (omega (arith, l, ki))) h

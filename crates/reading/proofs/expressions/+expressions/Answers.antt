@@ -1,453 +1,400 @@
-use Rattle.std.proofs.Common.{rules, ◌≡◌, true, List, ℕ, ◌<◌, ◌+◌, ◌-◌, ◌*◌, ◌≤◌, length, ◌/◌, ◌%◌, Bool, false, nat_eq, nat_lt, [], ◌∷◌, ◌++◌, slice_index_or, slice_set, bit_and, bit_or, Fits, w8, w32, w64, Bor, MutBor}
+-- The readers of expressions, which call one another: each meets the reader of its level.
+use Prim.Native.Nat.{◌-◌}
+use native.Mathlib.Omega.{arith}
+use mathlib.Core.Path.{refl, sym, ap, ◌∙◌}
+use Rattle.std.specs.Prelude.{Ok}
+use Rattle.std.proofs.lemmas.Result.{err_from_is_err_and}
 use Rattle.grammar.specs.Trees.{Tree}
-use Rattle.grammar.specs.Grammar.{calls, call_of, primary}
-use Rattle.reading.specs.Calls.{call_kind}
-use Rattle.reading.specs.Rows.{kind_number}
-use Rattle.reading.specs.Meets.{language_of, toks_at, token_at, Holds, Ready, Few, Follows, Meets}
-use Rattle.reading.specs.Signs.{postfix_sign}
-use Rattle.reading.specs.Turns.{expression_or, comparison_or, sum_or, product_or, power_at, signed_at, minus_at, parenthesised, list_postfixed, pays_at, name_at, call_at, arguments_at, items_at, postfixes_at, postfix_turn_at, method_at, index_at, Closing, Closed, MeetsItems, Tops, MeetsTurns}
+use Rattle.grammar.specs.Readers.{Reader}
+use Rattle.grammar.specs.Grammar as G
+use Rattle.grammar.specs.Grammar.{primary}
+use Rattle.grammar.proofs.GrammarLaws.{primary_law}
+use Rattle.grammar.proofs.KindLaws.{primary_low}
+use Rattle.grammar.proofs.SizeLaws.{primary_size, signed_size}
+use Rattle.reading.specs.Meets.{language_of, toks_at, token_at}
+use Rattle.reading.specs.Turns.{inner, sum_or, negated_by, postfix_turn_at, method_at, index_at}
+use Rattle.reading.proofs.HoldLaws.{start_in, end_in}
+use Rattle.reading.proofs.KindLaws.{kind_some}
+use Rattle.reading.proofs.ChainLaws.{power_level, product_level, sum_level, product_gates, sum_gates, sum_short, tighter_level, looser_level, tighter_some, looser_some, nests_as, nest_refused, nest_numbers, nest_less, nest_tighter, nest_whole_numbers, nest_exit, nest_looser, chain_exit, pend_as, pend_next, pend_refused, pend_numbers, pend_chain, pend_less}
+use Rattle.reading.proofs.PowerLaws.{signed_right, powers_first, powers_refused, powers_numbers, powers_exit, powers_less, powers_next}
+use Rattle.reading.proofs.StepLaws.{meets_as, follow_ready, put_fields, behind_read, raisable_two, signed_here, minus_lone, minus_0, minus_deep, reads_as, comparison_gates, compare_ready, compare_refused, compare_numbers, compare_last, compare_none, parenthesis_deep, parenthesis_refused, parenthesis_open, parenthesis_closed, prim_paren, prim_plus_0, prim_plus, prim_list, prim_pays, prim_atom, prim_name, prim_minus, inner_sized}
+use Rattle.reading.proofs.ItemLaws.{items_start, items_exit, items_refused, items_numbers, items_wrong, items_less, items_next, shown_inside, arguments_no, arguments_0, arguments_refused, arguments_done, arguments_within, call_refused, call_faulty, call_done, list_0, list_refused, list_numbers, list_after, list_done, list_tops, pay_start, pay_refused, pay_numbers, pay_less, pay_next, pays_0, pays_ready, pays_refused, pays_done}
+use Rattle.reading.proofs.PostfixLaws.{turns_as, ready_behind, each_inner, index_refuses, index_open, index_numbers, index_reads, method_unnamed, method_refuses, method_none, method_numbers, method_reads, postfix_dot, postfix_low, postfix_index, postfix_fewer, post_enter, post_exit, post_refused, post_more, call_kind_low, name_refuses, name_numbers, name_reads, name_special, name_call}
 use Rattle.reading.proofs.expressions.+expressions.Goals as goal
 
--- src/expressions.rt:461:13
 pub arguments-returns-in_err-d : goal.arguments-returns-in_err-d
-arguments-returns-in_err-d t c = ?
+arguments-returns-in_err-d t c = 
+    let p = err_from_is_err_and c.from_residual.result c.from_residual.ensures.1 in
+    rw (p.1, p.2) (arguments_no (language_of c.args.language.now) c.args.depth c.args.s.now c.args.c c.requires.0.0 _ c.in_err-d.ensures)
 
--- src/expressions.rt:463:9
 pub arguments-returns-then-depth-eq0 : goal.arguments-returns-then-depth-eq0
-arguments-returns-then-depth-eq0 t c = ?
+arguments-returns-then-depth-eq0 t c = rw c.at.ensures (arguments_0 (language_of c.args.language.now) c.args.depth c.args.s.now c.args.c c.requires.0.0 c.in_ok-d.ensures.1 c.if-depth-eq0.true)
 
--- src/expressions.rt:465:13
 pub arguments-returns-in_err-r : goal.arguments-returns-in_err-r
-arguments-returns-in_err-r t c = ?
+arguments-returns-in_err-r t c = 
+    let p = err_from_is_err_and c.from_residual-in_err-r.result c.from_residual-in_err-r.ensures.1 in
+    rw (p.1, p.2) (arguments_refused (language_of c.args.language.now) c.args.depth c.args.s.now c.args.c c.requires.0.0 c.in_ok-d.ensures.1 c.if-depth-eq0.false _ c.in_ok-d.ensures.0 _ _ c.in_err-r.ensures.0)
 
--- src/expressions.rt:449:1
 pub arguments-returns : goal.arguments-returns
-arguments-returns t c = ?
+arguments-returns t c = arguments_done (language_of c.args.language.now) c.args.depth c.args.s.now c.args.c c.requires.0.0 c.in_ok-d.ensures.1 c.if-depth-eq0.false _ c.in_ok-d.ensures.0 _ _ _ _ _ _ _ c.in_ok-r.ensures.0 c.in_ok-r.ensures.1 c.next.result c.next.ensures
 
--- src/expressions.rt:435:13
 pub call-returns-in_err-r : goal.call-returns-in_err-r
-call-returns-in_err-r t c = ?
+call-returns-in_err-r t c = 
+    let p = err_from_is_err_and c.from_residual.result c.from_residual.ensures.1 in
+    rw (p.1, p.2) (call_refused (language_of c.args.language.now) c.args.depth (token_at c.args.s.now c.args.c) c.args.kind c.requires.4 c.requires.5 c.args.s.now c.args.d _ _ c.in_err-r.ensures)
 
--- src/expressions.rt:437:26
 pub call-call_fault-requires : goal.call-call_fault-requires
-call-call_fault-requires t c = ?
+call-call_fault-requires t c = shown_inside _ _ _ c.in_ok-r.ensures.shown
 
--- src/expressions.rt:438:9
 pub call-returns-in-Err : goal.call-returns-in-Err
-call-returns-in-Err t c = ?
+call-returns-in-Err t c = rw c.at.ensures (call_faulty (language_of c.args.language.now) c.args.depth (token_at c.args.s.now c.args.c) c.args.kind c.requires.4 c.requires.5 c.args.s.now c.args.d _ _ _ _ _ _ _ c.in_ok-r.ensures _ c.in-Err.ensures)
 
--- src/expressions.rt:440:36
 pub call-overflow_add-m : goal.call-overflow_add-m
-call-overflow_add-m t c = ?
+call-overflow_add-m t c = omega (arith, arguments_within (language_of c.args.language.now) c.args.depth c.args.s.now c.args.d _ _ _ _ _ _ _ c.in_ok-r.ensures c.requires.0.1)
 
--- src/expressions.rt:443:18
 pub call-overflow_add-result : goal.call-overflow_add-result
-call-overflow_add-result t c = ?
+call-overflow_add-result t c = omega (arith, arguments_within (language_of c.args.language.now) c.args.depth c.args.s.now c.args.d _ _ _ _ _ _ _ c.in_ok-r.ensures c.requires.0.1)
 
--- src/expressions.rt:421:1
 pub call-returns : goal.call-returns
-call-returns t c = ?
+call-returns t c = call_done (language_of c.args.language.now) c.args.depth (token_at c.args.s.now c.args.c) c.args.kind c.requires.4 c.requires.5 c.args.s.now c.args.d _ _ _ _ _ _ _ c.in_ok-r.ensures c.in_default.ensures _ (put_fields _ _ _ _ _ _ _ _ _ _ c.plain.ensures c.put.ensures)
 
--- src/expressions.rt:95:17
 pub comparison-sum-requires : goal.comparison-sum-requires
-comparison-sum-requires t c = ?
+comparison-sum-requires t c = (omega (arith, c.decreases), (compare_ready c.args.alone (sum_or c.args.alone (language_of c.args.language.now) c.args.depth) (sum_short (language_of c.args.language.now) c.args.depth c.args.alone) c.args.s.now c.args.c c.args.n c.args.out.now c.requires.0 _ _ _ _ c.loop-r.invariant.1, c.requires.1))
 
--- src/expressions.rt:95:17
 pub comparison-returns-in_err-r : goal.comparison-returns-in_err-r
-comparison-returns-in_err-r t c = ?
+comparison-returns-in_err-r t c = 
+    let p = err_from_is_err_and c.from_residual.result c.from_residual.ensures.1 in
+    rw (p.1, p.2) (ap (λ (q : Reader Tree). q (toks_at c.args.s.now c.args.c.start)) (comparison_gates c.args.alone (language_of c.args.language.now) c.args.depth) ∙ compare_refused c.args.alone (sum_or c.args.alone (language_of c.args.language.now) c.args.depth) (sum_short (language_of c.args.language.now) c.args.depth c.args.alone) c.args.s.now c.args.c c.args.n c.args.out.now c.requires.0 _ _ _ _ c.loop-r.invariant.1 _ _ c.in_err-r.ensures)
 
--- src/expressions.rt:96:13
 pub comparison-join-j-requires : goal.comparison-join-j-requires
-comparison-join-j-requires t c = ?
+comparison-join-j-requires t c = compare_numbers c.args.alone (sum_or c.args.alone (language_of c.args.language.now) c.args.depth) (sum_short (language_of c.args.language.now) c.args.depth c.args.alone) c.args.s.now c.args.c c.args.n c.args.out.now c.requires.0 _ _ _ _ c.loop-r.invariant.1 _ _ _ _ c.in_ok-r.ensures
 
--- src/expressions.rt:98:13
 pub comparison-returns-then-sign-ne0 : goal.comparison-returns-then-sign-ne0
-comparison-returns-then-sign-ne0 t c = ?
+comparison-returns-then-sign-ne0 t c = reads_as _ _ _ _ _ _ _ _ _ (ap (λ (q : Reader Tree). q (toks_at c.args.s.now c.args.c.start)) (comparison_gates c.args.alone (language_of c.args.language.now) c.args.depth)) (compare_last c.args.alone (sum_or c.args.alone (language_of c.args.language.now) c.args.depth) (sum_short (language_of c.args.language.now) c.args.depth c.args.alone) c.args.s.now c.args.c c.args.n c.args.out.now c.requires.0 _ _ _ _ c.loop-r.invariant.1 _ _ _ _ c.in_ok-r.ensures c.join-j.result _ c.join-j.ensures c.if-sign-ne0.true)
 
--- src/expressions.rt:106:13
 pub comparison-returns-then-not-is_comparator : goal.comparison-returns-then-not-is_comparator
-comparison-returns-then-not-is_comparator t c = ?
+comparison-returns-then-not-is_comparator t c = reads_as _ _ _ _ _ _ _ _ _ (ap (λ (q : Reader Tree). q (toks_at c.args.s.now c.args.c.start)) (comparison_gates c.args.alone (language_of c.args.language.now) c.args.depth)) (compare_none c.args.alone (sum_or c.args.alone (language_of c.args.language.now) c.args.depth) (sum_short (language_of c.args.language.now) c.args.depth c.args.alone) c.args.s.now c.args.c c.args.n c.args.out.now c.requires.0 _ _ _ _ c.loop-r.invariant.1 _ _ _ _ c.in_ok-r.ensures c.join-j.result _ c.join-j.ensures c.if-sign-ne0.false (sym c.is_comparator.ensures ∙ c.if-not-is_comparator.true))
 
--- src/expressions.rt:50:5
 pub expression-loop-r-init : goal.expression-loop-r-init
-expression-loop-r-init t c = ?
+expression-loop-r-init t c = (refl, nests_as c.args.language.now.two c.args.alone c.args.language.now.lists.reserved.now c.args.language.now.lists.currencies.now c.args.language.now.lists.counters.now c.args.depth c.args.s.now c.args.c c.args.n c.args.out.now c.requires.0)
 
--- src/expressions.rt:51:17
 pub expression-returns-in_err-r : goal.expression-returns-in_err-r
-expression-returns-in_err-r t c = ?
+expression-returns-in_err-r t c = 
+    let p = err_from_is_err_and c.from_residual.result c.from_residual.ensures.1 in
+    rw (p.1, p.2) (nest_refused (looser_level (language_of c.args.language.now) c.args.depth c.args.language.now.two c.args.alone) (tighter_level (language_of c.args.language.now) c.args.depth c.args.language.now.two c.args.alone) c.args.s.now _ _ _ _ _ _ _ _ _ _ _ c.loop-r.invariant.1 _ _ c.in_err-r.ensures)
 
--- src/expressions.rt:52:13
 pub expression-join-i-requires : goal.expression-join-i-requires
-expression-join-i-requires t c = ?
+expression-join-i-requires t c = nest_numbers (looser_level (language_of c.args.language.now) c.args.depth c.args.language.now.two c.args.alone) (tighter_level (language_of c.args.language.now) c.args.depth c.args.language.now.two c.args.alone) c.args.s.now _ _ _ _ _ _ _ _ _ _ _ c.loop-r.invariant.1 _ _ _ _ c.in_ok-r.ensures
 
--- src/expressions.rt:50:5
 pub expression-loop-r-smaller-then-is_tighter : goal.expression-loop-r-smaller-then-is_tighter
-expression-loop-r-smaller-then-is_tighter t c = ?
+expression-loop-r-smaller-then-is_tighter t c = nest_less (looser_level (language_of c.args.language.now) c.args.depth c.args.language.now.two c.args.alone) (tighter_level (language_of c.args.language.now) c.args.depth c.args.language.now.two c.args.alone) c.args.s.now _ _ _ _ _ _ _ _ _ _ _ c.loop-r.invariant.1 _ _ _ _ c.in_ok-r.ensures (tighter_some (language_of c.args.language.now) c.args.depth c.args.language.now.two c.args.alone _ (sym c.is_tighter.ensures ∙ c.if-is_tighter.true)) c.next-at.result c.next-at.ensures
 
--- src/expressions.rt:50:5
 pub expression-loop-r-preserved-then-is_tighter : goal.expression-loop-r-preserved-then-is_tighter
-expression-loop-r-preserved-then-is_tighter t c = ?
+expression-loop-r-preserved-then-is_tighter t c = (c.join-i.auto.out ∙ (c.comparison.auto.out ∙ c.loop-r.invariant.0), nest_tighter (looser_level (language_of c.args.language.now) c.args.depth c.args.language.now.two c.args.alone) (tighter_level (language_of c.args.language.now) c.args.depth c.args.language.now.two c.args.alone) c.args.s.now _ _ _ _ _ _ _ _ _ _ _ c.loop-r.invariant.1 _ _ _ _ c.in_ok-r.ensures c.join-i.result _ c.join-i.ensures (sym c.is_tighter.ensures ∙ c.if-is_tighter.true) c.next-at.result c.next-at.ensures)
 
--- src/expressions.rt:60:13
 pub expression-join-j-requires : goal.expression-join-j-requires
-expression-join-j-requires t c = ?
+expression-join-j-requires t c = nest_whole_numbers (looser_level (language_of c.args.language.now) c.args.depth c.args.language.now.two c.args.alone) (tighter_level (language_of c.args.language.now) c.args.depth c.args.language.now.two c.args.alone) c.args.s.now _ _ _ _ _ _ _ _ _ _ _ c.loop-r.invariant.1 _ _ _ _ c.in_ok-r.ensures c.join-i.result _ c.join-i.ensures (sym c.is_tighter.ensures ∙ c.if-is_tighter.false)
 
--- src/expressions.rt:62:13
 pub expression-returns-then-not-is_looser : goal.expression-returns-then-not-is_looser
-expression-returns-then-not-is_looser t c = ?
+expression-returns-then-not-is_looser t c = nest_exit (looser_level (language_of c.args.language.now) c.args.depth c.args.language.now.two c.args.alone) (tighter_level (language_of c.args.language.now) c.args.depth c.args.language.now.two c.args.alone) c.args.s.now _ _ _ _ _ _ _ _ _ _ _ c.loop-r.invariant.1 _ _ _ _ c.in_ok-r.ensures c.join-i.result _ c.join-i.ensures (sym c.is_tighter.ensures ∙ c.if-is_tighter.false) c.join-j.result _ c.join-j.ensures (sym c.is_looser.ensures ∙ c.if-not-is_looser.true)
 
--- src/expressions.rt:50:5
 pub expression-loop-r-smaller : goal.expression-loop-r-smaller
-expression-loop-r-smaller t c = ?
+expression-loop-r-smaller t c = nest_less (looser_level (language_of c.args.language.now) c.args.depth c.args.language.now.two c.args.alone) (tighter_level (language_of c.args.language.now) c.args.depth c.args.language.now.two c.args.alone) c.args.s.now _ _ _ _ _ _ _ _ _ _ _ c.loop-r.invariant.1 _ _ _ _ c.in_ok-r.ensures (looser_some (language_of c.args.language.now) c.args.depth c.args.language.now.two c.args.alone _ (sym c.is_looser.ensures ∙ c.if-not-is_looser.false)) c.next-at-in-loop-r.result c.next-at-in-loop-r.ensures
 
--- src/expressions.rt:50:5
 pub expression-loop-r-preserved : goal.expression-loop-r-preserved
-expression-loop-r-preserved t c = ?
+expression-loop-r-preserved t c = (c.join-j.auto.out ∙ (c.join-i.auto.out ∙ (c.comparison.auto.out ∙ c.loop-r.invariant.0)), nest_looser (looser_level (language_of c.args.language.now) c.args.depth c.args.language.now.two c.args.alone) (tighter_level (language_of c.args.language.now) c.args.depth c.args.language.now.two c.args.alone) c.args.s.now _ _ _ _ _ _ _ _ _ _ _ c.loop-r.invariant.1 _ _ _ _ c.in_ok-r.ensures c.join-i.result _ c.join-i.ensures (sym c.is_tighter.ensures ∙ c.if-is_tighter.false) c.join-j.result _ c.join-j.ensures (sym c.is_looser.ensures ∙ c.if-not-is_looser.false) c.next-at-in-loop-r.result c.next-at-in-loop-r.ensures)
 
--- src/expressions.rt:611:13
 pub index-returns-in_err-r : goal.index-returns-in_err-r
-index-returns-in_err-r t c = ?
+index-returns-in_err-r t c = 
+    let p = err_from_is_err_and c.from_residual.result c.from_residual.ensures.1 in
+    rw (p.1, p.2) ((λ x o h. index_refuses (language_of c.args.language.now) (primary (language_of c.args.language.now) c.args.depth) (primary_law (language_of c.args.language.now) c.args.depth) (primary_size (language_of c.args.language.now) c.args.depth) c.args.place c.args.s.now c.args.c c.args.n c.args.m c.args.out.now _ c.in_err-r.ensures x, tt))
 
--- src/expressions.rt:613:14
 pub index-returns-in_err-at : goal.index-returns-in_err-at
-index-returns-in_err-at t c = ?
+index-returns-in_err-at t c = 
+    let p = err_from_is_err_and c.from_residual-in_err-at.result c.from_residual-in_err-at.ensures.1 in
+    rw (p.1, p.2) ((λ x o h. index_open (language_of c.args.language.now) (primary (language_of c.args.language.now) c.args.depth) (primary_law (language_of c.args.language.now) c.args.depth) (primary_size (language_of c.args.language.now) c.args.depth) c.args.place c.args.s.now c.args.c c.args.n c.args.m c.args.out.now _ _ _ _ c.in_ok-r.ensures _ c.in_err-at.ensures x, tt))
 
--- src/expressions.rt:614:43
 pub index-overflow_add-k : goal.index-overflow_add-k
-index-overflow_add-k t c = ?
+index-overflow_add-k t c = omega (arith, index_numbers (language_of c.args.language.now) (primary (language_of c.args.language.now) c.args.depth) (primary_law (language_of c.args.language.now) c.args.depth) (primary_size (language_of c.args.language.now) c.args.depth) c.args.place c.args.s.now c.args.c c.args.n c.args.m c.args.out.now _ _ _ _ c.in_ok-r.ensures c.requires.0.1 c.requires.2 _ c.in_ok-at.ensures)
 
--- src/expressions.rt:617:18
 pub index-overflow_add-result : goal.index-overflow_add-result
-index-overflow_add-result t c = ?
+index-overflow_add-result t c = omega (arith, index_numbers (language_of c.args.language.now) (primary (language_of c.args.language.now) c.args.depth) (primary_law (language_of c.args.language.now) c.args.depth) (primary_size (language_of c.args.language.now) c.args.depth) c.args.place c.args.s.now c.args.c c.args.n c.args.m c.args.out.now _ _ _ _ c.in_ok-r.ensures c.requires.0.1 c.requires.2 _ c.in_ok-at.ensures)
 
--- src/expressions.rt:597:1
 pub index-returns : goal.index-returns
-index-returns t c = ?
+index-returns t c = index_reads (language_of c.args.language.now) (primary (language_of c.args.language.now) c.args.depth) (primary_law (language_of c.args.language.now) c.args.depth) (primary_size (language_of c.args.language.now) c.args.depth) c.args.place c.args.s.now c.args.c c.args.n c.args.m c.args.out.now _ _ _ _ c.in_ok-r.ensures c.requires.0.1 c.requires.2 _ c.in_ok-at.ensures _ (put_fields _ _ _ _ _ _ _ _ _ _ c.plain.ensures c.put.ensures)
 
--- src/expressions.rt:496:5
 pub items-loop-at-init : goal.items-loop-at-init
-items-loop-at-init t c = ?
+items-loop-at-init t c = (refl, items_start (language_of c.args.language.now) c.args.close (primary (language_of c.args.language.now) c.args.depth) (primary_law (language_of c.args.language.now) c.args.depth) (primary_size (language_of c.args.language.now) c.args.depth) c.args.s.now _ _ _ c.requires.0)
 
--- src/expressions.rt:497:17
 pub items-returns-in_err-r : goal.items-returns-in_err-r
-items-returns-in_err-r t c = ?
+items-returns-in_err-r t c = 
+    let p = err_from_is_err_and c.from_residual.result c.from_residual.ensures.1 in
+    rw (p.1, p.2) ((items_refused (language_of c.args.language.now) c.args.close (primary (language_of c.args.language.now) c.args.depth) (primary_law (language_of c.args.language.now) c.args.depth) (primary_size (language_of c.args.language.now) c.args.depth) c.args.s.now _ _ _ _ _ _ _ _ c.loop-at.invariant.1 ? _ _ c.in_err-r.ensures, tt))
 
--- src/expressions.rt:498:14
 pub items-returns-in_err-at : goal.items-returns-in_err-at
-items-returns-in_err-at t c = ?
+items-returns-in_err-at t c = 
+    let p = err_from_is_err_and c.from_residual-in_err-at.result c.from_residual-in_err-at.ensures.1 in
+    rw (p.1, p.2) ((items_wrong (language_of c.args.language.now) c.args.close (primary (language_of c.args.language.now) c.args.depth) (primary_law (language_of c.args.language.now) c.args.depth) (primary_size (language_of c.args.language.now) c.args.depth) c.args.s.now _ _ _ _ _ _ _ _ c.loop-at.invariant.1 ? _ _ _ _ c.in_ok-r.ensures _ c.in_err-at.ensures, tt))
 
--- src/expressions.rt:501:9
 pub items-overflow_add-count : goal.items-overflow_add-count
-items-overflow_add-count t c = ?
+items-overflow_add-count t c = omega (arith, items_numbers (language_of c.args.language.now) c.args.close (primary (language_of c.args.language.now) c.args.depth) (primary_law (language_of c.args.language.now) c.args.depth) (primary_size (language_of c.args.language.now) c.args.depth) c.args.s.now _ _ _ _ _ _ _ _ c.loop-at.invariant.1 ? _ _ _ _ c.in_ok-r.ensures)
 
--- src/expressions.rt:496:5
 pub items-loop-at-smaller : goal.items-loop-at-smaller
-items-loop-at-smaller t c = ?
+items-loop-at-smaller t c = items_less (language_of c.args.language.now) c.args.close (primary (language_of c.args.language.now) c.args.depth) (primary_law (language_of c.args.language.now) c.args.depth) (primary_size (language_of c.args.language.now) c.args.depth) c.args.s.now _ _ _ _ _ _ _ _ c.loop-at.invariant.1 ? _ _ _ _ c.in_ok-r.ensures _ c.in_ok-at.ensures
 
--- src/expressions.rt:496:5
 pub items-loop-at-preserved : goal.items-loop-at-preserved
-items-loop-at-preserved t c = ?
+items-loop-at-preserved t c = (c.expression.auto.out ∙ c.loop-at.invariant.0, items_next (language_of c.args.language.now) c.args.close (primary (language_of c.args.language.now) c.args.depth) (primary_law (language_of c.args.language.now) c.args.depth) (primary_size (language_of c.args.language.now) c.args.depth) c.args.s.now _ _ _ _ _ _ _ _ c.loop-at.invariant.1 ? _ _ _ _ c.in_ok-r.ensures _ c.in_ok-at.ensures c.shown-texts.result c.shown-texts.ensures)
 
--- src/expressions.rt:475:1
 pub items-returns : goal.items-returns
-items-returns t c = ?
+items-returns t c = (items_exit (language_of c.args.language.now) c.args.close (primary (language_of c.args.language.now) c.args.depth) (primary_law (language_of c.args.language.now) c.args.depth) (primary_size (language_of c.args.language.now) c.args.depth) c.args.s.now _ _ _ _ _ _ _ _ c.loop-at.invariant.1 ?, ?)
 
--- src/expressions.rt:350:9
 pub list-returns-then-depth-eq0 : goal.list-returns-then-depth-eq0
-list-returns-then-depth-eq0 t c = ?
+list-returns-then-depth-eq0 t c = rw c.at.ensures (list_0 (language_of c.args.language.now) c.args.depth c.args.s.now c.args.c c.args.d c.requires.1 c.requires.2 c.if-depth-eq0.true)
 
--- src/expressions.rt:352:13
 pub list-returns-in_err-r : goal.list-returns-in_err-r
-list-returns-in_err-r t c = ?
+list-returns-in_err-r t c = 
+    let p = err_from_is_err_and c.from_residual.result c.from_residual.ensures.1 in
+    rw (p.1, p.2) (list_refused (language_of c.args.language.now) c.args.depth c.args.s.now c.args.c c.args.d c.requires.1 c.requires.2 c.if-depth-eq0.false _ _ c.in_err-r.ensures.0)
 
--- src/expressions.rt:357:34
 pub list-overflow_add-m : goal.list-overflow_add-m
-list-overflow_add-m t c = ?
+list-overflow_add-m t c = omega (arith, list_numbers (language_of c.args.language.now) c.args.depth c.args.s.now c.args.c c.args.d c.requires.1 c.requires.2 c.if-depth-eq0.false _ c.requires.0.1 _ _ _ _ _ _ c.in_ok-r.ensures.0)
 
--- src/expressions.rt:360:55
 pub list-overflow_add-m-2 : goal.list-overflow_add-m-2
-list-overflow_add-m-2 t c = ?
+list-overflow_add-m-2 t c = omega (arith, list_numbers (language_of c.args.language.now) c.args.depth c.args.s.now c.args.c c.args.d c.requires.1 c.requires.2 c.if-depth-eq0.false _ c.requires.0.1 _ _ _ _ _ _ c.in_ok-r.ensures.0)
 
--- src/expressions.rt:360:5
 pub list-postfixes-requires : goal.list-postfixes-requires
-list-postfixes-requires t c = ?
+list-postfixes-requires t c = (omega (arith, c.decreases), (list_after (language_of c.args.language.now) c.args.depth c.args.s.now c.args.c c.args.d c.requires.1 c.requires.2 c.if-depth-eq0.false _ c.requires.0.1 _ _ _ _ _ _ c.in_ok-r.ensures.0 c.in_ok-r.ensures.1 c.next-f.result c.next-f.ensures, c.requires.3, omega (arith, list_numbers (language_of c.args.language.now) c.args.depth c.args.s.now c.args.c c.args.d c.requires.1 c.requires.2 c.if-depth-eq0.false _ c.requires.0.1 _ _ _ _ _ _ c.in_ok-r.ensures.0)))
 
--- src/expressions.rt:336:1
 pub list-returns : goal.list-returns
-list-returns t c = ?
+list-returns t c = meets_as _ _ _ _ _ c.postfixes.result _ (list_done (language_of c.args.language.now) c.args.depth c.args.s.now c.args.c c.args.d c.requires.1 c.requires.2 c.if-depth-eq0.false _ c.requires.0.1 _ _ _ _ _ _ c.in_ok-r.ensures.0 c.in_ok-r.ensures.1 c.next-f.result c.next-f.ensures) (c.postfixes.ensures _ _ (list_tops (language_of c.args.language.now) c.args.depth c.args.s.now c.args.c c.args.d c.requires.1 c.requires.2 c.if-depth-eq0.false _ c.requires.0.1 _ _ _ _ _ _ c.in_ok-r.ensures.0 _ (put_fields _ _ _ _ _ _ _ _ _ _ c.plain.ensures c.put.ensures)))
 
--- src/expressions.rt:580:13
 pub method-returns-in_err-d : goal.method-returns-in_err-d
-method-returns-in_err-d t c = ?
+method-returns-in_err-d t c = 
+    let p = err_from_is_err_and c.from_residual.result c.from_residual.ensures.1 in
+    rw (p.1, p.2) ((λ x o h. method_unnamed (language_of c.args.language.now) (inner (language_of c.args.language.now) c.args.depth) (inner_sized (language_of c.args.language.now) c.args.depth) c.args.place c.args.s.now c.args.c c.requires.0.0 c.args.n c.args.m c.args.out.now _ c.in_err-d.ensures x, tt))
 
--- src/expressions.rt:581:13
 pub method-returns-in_err-r : goal.method-returns-in_err-r
-method-returns-in_err-r t c = ?
+method-returns-in_err-r t c = 
+    let p = err_from_is_err_and c.from_residual-in_err-r.result c.from_residual-in_err-r.ensures.1 in
+    rw (p.1, p.2) ((λ x o h. method_refuses (language_of c.args.language.now) (inner (language_of c.args.language.now) c.args.depth) (inner_sized (language_of c.args.language.now) c.args.depth) c.args.place c.args.s.now c.args.c c.requires.0.0 c.args.n c.args.m c.args.out.now _ c.in_ok-d.ensures _ c.in_err-r.ensures x, tt))
 
--- src/expressions.rt:585:32
 pub method-slice_bounds-method_of-count : goal.method-slice_bounds-method_of-count
-method-slice_bounds-method_of-count t c = ?
+method-slice_bounds-method_of-count t c = omega (arith, start_in c.requires.0.0, end_in c.requires.0.0)
 
--- src/expressions.rt:585:32
 pub method-slice_bounds-method_of-start : goal.method-slice_bounds-method_of-start
-method-slice_bounds-method_of-start t c = ?
+method-slice_bounds-method_of-start t c = omega (arith, start_in c.requires.0.0, end_in c.requires.0.0)
 
--- src/expressions.rt:585:32
 pub method-slice_bounds-method_of-end : goal.method-slice_bounds-method_of-end
-method-slice_bounds-method_of-end t c = ?
+method-slice_bounds-method_of-end t c = omega (arith, start_in c.requires.0.0, end_in c.requires.0.0)
 
--- src/expressions.rt:586:9
 pub method-returns-in_default : goal.method-returns-in_default
-method-returns-in_default t c = ?
+method-returns-in_default t c = rw c.at.ensures (λ x o h. method_none (language_of c.args.language.now) (inner (language_of c.args.language.now) c.args.depth) (inner_sized (language_of c.args.language.now) c.args.depth) c.args.place c.args.s.now c.args.c c.requires.0.0 c.args.n c.args.m c.args.out.now _ c.in_ok-d.ensures _ _ _ _ _ c.in_ok-r.ensures c.in_default.ensures x, tt)
 
--- src/expressions.rt:588:36
 pub method-overflow_add-k : goal.method-overflow_add-k
-method-overflow_add-k t c = ?
+method-overflow_add-k t c = omega (arith, method_numbers (language_of c.args.language.now) (inner (language_of c.args.language.now) c.args.depth) (inner_sized (language_of c.args.language.now) c.args.depth) c.args.place c.args.s.now c.args.c c.requires.0.0 c.args.n c.args.m c.args.out.now _ c.in_ok-d.ensures _ _ _ _ _ c.in_ok-r.ensures c.requires.0.1 c.requires.2)
 
--- src/expressions.rt:588:47
 pub method-overflow_add-r : goal.method-overflow_add-r
-method-overflow_add-r t c = ?
+method-overflow_add-r t c = omega (arith, method_numbers (language_of c.args.language.now) (inner (language_of c.args.language.now) c.args.depth) (inner_sized (language_of c.args.language.now) c.args.depth) c.args.place c.args.s.now c.args.c c.requires.0.0 c.args.n c.args.m c.args.out.now _ c.in_ok-d.ensures _ _ _ _ _ c.in_ok-r.ensures c.requires.0.1 c.requires.2)
 
--- src/expressions.rt:591:18
 pub method-overflow_add-result : goal.method-overflow_add-result
-method-overflow_add-result t c = ?
+method-overflow_add-result t c = omega (arith, method_numbers (language_of c.args.language.now) (inner (language_of c.args.language.now) c.args.depth) (inner_sized (language_of c.args.language.now) c.args.depth) c.args.place c.args.s.now c.args.c c.requires.0.0 c.args.n c.args.m c.args.out.now _ c.in_ok-d.ensures _ _ _ _ _ c.in_ok-r.ensures c.requires.0.1 c.requires.2)
 
--- src/expressions.rt:566:1
 pub method-returns : goal.method-returns
-method-returns t c = ?
+method-returns t c = method_reads (language_of c.args.language.now) (inner (language_of c.args.language.now) c.args.depth) (inner_sized (language_of c.args.language.now) c.args.depth) c.args.place c.args.s.now c.args.c c.requires.0.0 c.args.n c.args.m c.args.out.now _ c.in_ok-d.ensures _ _ _ _ _ c.in_ok-r.ensures c.requires.0.1 c.requires.2 _ c.in-Some.ensures (λ z. omega (arith, z, kind_some c.in-Some.kind)) _ (put_fields _ _ _ _ _ _ _ _ _ _ c.plain.ensures c.put.ensures)
 
--- src/expressions.rt:300:9
 pub minus-returns-in-Some : goal.minus-returns-in-Some
-minus-returns-in-Some t c = ?
+minus-returns-in-Some t c = meets_as _ _ _ _ _ (Ok c.constant_at.result) _ (minus_lone (language_of c.args.language.now) c.args.s.now c.args.c c.args.d c.args.depth _ c.requires.1.holds c.in-Some.ensures.0 c.in-Some.ensures.1 c.in-Some.ensures.2) c.constant_at.ensures
 
--- src/expressions.rt:303:9
 pub minus-returns-then-depth-eq0 : goal.minus-returns-then-depth-eq0
-minus-returns-then-depth-eq0 t c = ?
+minus-returns-then-depth-eq0 t c = rw c.at.ensures (minus_0 (language_of c.args.language.now) c.args.s.now c.args.c c.args.d c.args.depth c.in_default.ensures c.if-depth-eq0.true)
 
--- src/expressions.rt:305:13
 pub minus-returns-in_err-r : goal.minus-returns-in_err-r
-minus-returns-in_err-r t c = ?
+minus-returns-in_err-r t c = 
+    let p = err_from_is_err_and c.from_residual.result c.from_residual.ensures.1 in
+    rw (p.1, p.2) (minus_deep (language_of c.args.language.now) c.args.s.now c.args.c c.args.d c.args.depth c.in_default.ensures c.if-depth-eq0.false ∙ ap (negated_by c.args.c.start) c.in_err-r.ensures)
 
--- src/expressions.rt:306:8
 pub minus-negative-requires : goal.minus-negative-requires
-minus-negative-requires t c = ?
+minus-negative-requires t c = behind_read c.args.s.now (G.signed (language_of c.args.language.now) (primary (language_of c.args.language.now) (c.args.depth - 1))) (signed_size (language_of c.args.language.now) (primary (language_of c.args.language.now) (c.args.depth - 1)) (primary_size (language_of c.args.language.now) (c.args.depth - 1))) c.args.d c.args.n c.args.out.now _ _ _ _ (follow_ready _ c.args.c c.args.d _ (λ z. omega (arith, z, c.requires.2)) c.requires.1 c.requires.0).1 c.in_ok-r.ensures
 
--- src/expressions.rt:286:1
 pub minus-returns : goal.minus-returns
-minus-returns t c = ?
+minus-returns t c = meets_as _ _ _ _ _ (Ok c.negative.result) _ (minus_deep (language_of c.args.language.now) c.args.s.now c.args.c c.args.d c.args.depth c.in_default.ensures c.if-depth-eq0.false) (c.negative.ensures _ _ _ c.in_ok-r.ensures)
 
--- src/expressions.rt:408:30
 pub name-slice_bounds-call_of-count : goal.name-slice_bounds-call_of-count
-name-slice_bounds-call_of-count t c = ?
+name-slice_bounds-call_of-count t c = omega (arith, start_in c.requires.0.0, end_in c.requires.0.0)
 
--- src/expressions.rt:408:30
 pub name-slice_bounds-call_of-start : goal.name-slice_bounds-call_of-start
-name-slice_bounds-call_of-start t c = ?
+name-slice_bounds-call_of-start t c = omega (arith, start_in c.requires.0.0, end_in c.requires.0.0)
 
--- src/expressions.rt:408:30
 pub name-slice_bounds-call_of-end : goal.name-slice_bounds-call_of-end
-name-slice_bounds-call_of-end t c = ?
+name-slice_bounds-call_of-end t c = omega (arith, start_in c.requires.0.0, end_in c.requires.0.0)
 
--- src/expressions.rt:409:17
 pub name-returns-in_err-r : goal.name-returns-in_err-r
-name-returns-in_err-r t c = ?
+name-returns-in_err-r t c = 
+    let p = err_from_is_err_and c.from_residual.result c.from_residual.ensures.1 in
+    rw (p.1, p.2) (name_refuses c.args.language.now.two c.args.language.now.lists.reserved.now c.args.language.now.lists.currencies.now c.args.language.now.lists.counters.now (inner (language_of c.args.language.now) c.args.depth) c.args.s.now c.args.c c.args.d c.args.n c.args.out.now 0 c.in_default.ensures refl _ c.in_err-r.ensures)
 
--- src/expressions.rt:410:9
 pub name-postfixes-requires : goal.name-postfixes-requires
-name-postfixes-requires t c = ?
+name-postfixes-requires t c = 
+    let g = name_numbers c.args.language.now.two c.args.language.now.lists.reserved.now c.args.language.now.lists.currencies.now c.args.language.now.lists.counters.now (inner (language_of c.args.language.now) c.args.depth) c.args.s.now c.args.c c.args.d c.args.n c.args.out.now 0 c.in_default.ensures _ _ _ _ c.in_ok-r.ensures c.requires.0.1 c.requires.1 c.requires.2 in
+    (omega (arith, c.decreases), (g.0, c.requires.3, g.1))
 
--- src/expressions.rt:410:9
 pub name-returns-in_default : goal.name-returns-in_default
-name-returns-in_default t c = ?
+name-returns-in_default t c = name_reads c.args.language.now.two c.args.language.now.lists.reserved.now c.args.language.now.lists.currencies.now c.args.language.now.lists.counters.now (inner (language_of c.args.language.now) c.args.depth) c.args.s.now c.args.c c.args.d c.args.n c.args.out.now 0 c.in_default.ensures _ _ _ _ c.in_ok-r.ensures refl c.postfixes.result _ c.postfixes.ensures
 
--- src/expressions.rt:416:14
 pub name-call-requires : goal.name-call-requires
-name-call-requires t c = ?
+name-call-requires t c = (omega (arith, c.decreases), (ready_behind c.args.s.now c.args.c c.args.d c.args.n 0 c.requires.0.1 c.requires.1 c.requires.2, c.requires.0.0, c.requires.2, c.requires.3, c.in-Some.ensures, call_kind_low c.in-Some.kind _ c.in-Some.ensures c.in_default-kind.not-Spot c.in_default-kind.not-Df c.in_default-kind.not-RateIndex))
 
--- src/expressions.rt:393:1
 pub name-returns-in-Spot : goal.name-returns-in-Spot
-name-returns-in-Spot t c = ?
+name-returns-in-Spot t c = name_special c.args.language.now.two c.args.language.now.lists.reserved.now c.args.language.now.lists.currencies.now c.args.language.now.lists.counters.now (inner (language_of c.args.language.now) c.args.depth) c.args.s.now c.args.c c.args.d c.args.n c.args.out.now _ c.in-Some.ensures ? c.special.result _ c.special.ensures
 
--- src/expressions.rt:393:1
 pub name-returns-in_default-kind : goal.name-returns-in_default-kind
-name-returns-in_default-kind t c = ?
+name-returns-in_default-kind t c = name_call c.args.language.now.two c.args.language.now.lists.reserved.now c.args.language.now.lists.currencies.now c.args.language.now.lists.counters.now (inner (language_of c.args.language.now) c.args.depth) c.args.s.now c.args.c c.args.d c.args.n c.args.out.now _ c.in-Some.ensures (kind_some c.in-Some.kind) (call_kind_low c.in-Some.kind _ c.in-Some.ensures c.in_default-kind.not-Spot c.in_default-kind.not-Df c.in_default-kind.not-RateIndex) c.call.result _ c.call.ensures
 
--- src/expressions.rt:324:9
 pub parenthesis-returns-then-depth-eq0 : goal.parenthesis-returns-then-depth-eq0
-parenthesis-returns-then-depth-eq0 t c = ?
+parenthesis-returns-then-depth-eq0 t c = rw c.at.ensures (parenthesis_deep (language_of c.args.language.now) c.args.s.now c.args.c c.args.d c.args.n c.args.out.now c.args.depth c.requires.1 (λ z. omega (arith, z, c.requires.2)) c.if-depth-eq0.true)
 
--- src/expressions.rt:326:13
 pub parenthesis-returns-in_err-r : goal.parenthesis-returns-in_err-r
-parenthesis-returns-in_err-r t c = ?
+parenthesis-returns-in_err-r t c = 
+    let p = err_from_is_err_and c.from_residual.result c.from_residual.ensures.1 in
+    rw (p.1, p.2) (parenthesis_refused (language_of c.args.language.now) c.args.s.now c.args.c c.args.d c.args.n c.args.out.now c.args.depth c.requires.1 (λ z. omega (arith, z, c.requires.2)) c.if-depth-eq0.false _ _ c.in_err-r.ensures)
 
--- src/expressions.rt:327:14
 pub parenthesis-returns-in_err-at : goal.parenthesis-returns-in_err-at
-parenthesis-returns-in_err-at t c = ?
+parenthesis-returns-in_err-at t c = 
+    let p = err_from_is_err_and c.from_residual-in_err-at.result c.from_residual-in_err-at.ensures.1 in
+    rw (p.1, p.2) (parenthesis_open (language_of c.args.language.now) c.args.s.now c.args.c c.args.d c.args.n c.args.out.now c.args.depth c.requires.1 (λ z. omega (arith, z, c.requires.2)) c.if-depth-eq0.false _ _ _ _ c.in_ok-r.ensures _ c.in_err-at.ensures)
 
--- src/expressions.rt:310:1
 pub parenthesis-returns : goal.parenthesis-returns
-parenthesis-returns t c = ?
+parenthesis-returns t c = parenthesis_closed (language_of c.args.language.now) c.args.s.now c.args.c c.args.d c.args.n c.args.out.now c.args.depth c.requires.1 (λ z. omega (arith, z, c.requires.2)) c.if-depth-eq0.false _ _ _ _ c.in_ok-r.ensures _ c.in_ok-at.ensures
 
--- src/expressions.rt:378:9
 pub pays-returns-then-depth-eq0 : goal.pays-returns-then-depth-eq0
-pays-returns-then-depth-eq0 t c = ?
+pays-returns-then-depth-eq0 t c = rw c.at.ensures (pays_0 (language_of c.args.language.now) c.args.depth c.args.s.now c.args.c c.args.d c.requires.0.0 c.requires.1 c.requires.2 c.if-depth-eq0.true)
 
--- src/expressions.rt:383:5
 pub pays-loop-out-init : goal.pays-loop-out-init
-pays-loop-out-init t c = ?
+pays-loop-out-init t c = (refl, pay_start (language_of c.args.language.now) (primary (language_of c.args.language.now) (c.args.depth - 1)) (primary_law (language_of c.args.language.now) (c.args.depth - 1)) (primary_size (language_of c.args.language.now) (c.args.depth - 1)) c.args.s.now _ _ _ (pays_ready (language_of c.args.language.now) c.args.depth c.args.s.now c.args.c c.args.d c.requires.0.0 c.requires.1 c.requires.2 _ c.requires.0.1))
 
--- src/expressions.rt:384:17
 pub pays-returns-in_err-r : goal.pays-returns-in_err-r
-pays-returns-in_err-r t c = ?
+pays-returns-in_err-r t c = 
+    let p = err_from_is_err_and c.from_residual.result c.from_residual.ensures.1 in
+    rw (p.1, p.2) (pays_refused (language_of c.args.language.now) c.args.depth c.args.s.now c.args.c c.args.d c.requires.0.0 c.requires.1 c.requires.2 c.if-depth-eq0.false _ _ (pay_refused (language_of c.args.language.now) (primary (language_of c.args.language.now) (c.args.depth - 1)) (primary_law (language_of c.args.language.now) (c.args.depth - 1)) (primary_size (language_of c.args.language.now) (c.args.depth - 1)) c.args.s.now _ _ _ _ _ _ _ c.loop-out.invariant.1 (sym c.stops_pays.ensures ∙ ?) _ _ c.in_err-r.ensures))
 
--- src/expressions.rt:387:9
 pub pays-overflow_add-count : goal.pays-overflow_add-count
-pays-overflow_add-count t c = ?
+pays-overflow_add-count t c = omega (arith, pay_numbers (language_of c.args.language.now) (primary (language_of c.args.language.now) (c.args.depth - 1)) (primary_law (language_of c.args.language.now) (c.args.depth - 1)) (primary_size (language_of c.args.language.now) (c.args.depth - 1)) c.args.s.now _ _ _ _ _ _ _ c.loop-out.invariant.1 (sym c.stops_pays.ensures ∙ ?) _ _ _ _ c.in_ok-r.ensures)
 
--- src/expressions.rt:383:5
 pub pays-loop-out-smaller : goal.pays-loop-out-smaller
-pays-loop-out-smaller t c = ?
+pays-loop-out-smaller t c = pay_less (language_of c.args.language.now) (primary (language_of c.args.language.now) (c.args.depth - 1)) (primary_law (language_of c.args.language.now) (c.args.depth - 1)) (primary_size (language_of c.args.language.now) (c.args.depth - 1)) c.args.s.now _ _ _ _ _ _ _ c.loop-out.invariant.1 (sym c.stops_pays.ensures ∙ ?) _ _ _ _ c.in_ok-r.ensures
 
--- src/expressions.rt:383:5
 pub pays-loop-out-preserved : goal.pays-loop-out-preserved
-pays-loop-out-preserved t c = ?
+pays-loop-out-preserved t c = (c.expression.auto.out ∙ c.loop-out.invariant.0, pay_next (language_of c.args.language.now) (primary (language_of c.args.language.now) (c.args.depth - 1)) (primary_law (language_of c.args.language.now) (c.args.depth - 1)) (primary_size (language_of c.args.language.now) (c.args.depth - 1)) c.args.s.now _ _ _ _ _ _ _ c.loop-out.invariant.1 (sym c.stops_pays.ensures ∙ ?) _ _ _ _ c.in_ok-r.ensures)
 
--- src/expressions.rt:364:1
 pub pays-returns : goal.pays-returns
-pays-returns t c = ?
+pays-returns t c = pays_done c.args.language.now.two c.args.language.now.lists.reserved.now c.args.language.now.lists.counters.now c.args.language.now.lists.currencies.now c.args.depth c.args.s.now c.args.c c.args.d c.requires.0.0 c.requires.1 c.requires.2 c.if-depth-eq0.false _ _ _ _ _ _ c.loop-out.invariant.1 (sym c.stops_pays.ensures ∙ ?) c.payday_at.result _ c.payday_at.ensures
 
--- src/expressions.rt:557:9
 pub postfix-returns-then-c-eq-DOT : goal.postfix-returns-then-c-eq-DOT
-postfix-returns-then-c-eq-DOT t c = ?
+postfix-returns-then-c-eq-DOT t c = turns_as c.args.s.now (λ x. postfix_turn_at (language_of c.args.language.now) c.args.depth c.args.place x (toks_at c.args.s.now c.args.c.start)) (λ x. method_at (language_of c.args.language.now) c.args.depth c.args.place x (toks_at c.args.s.now c.next-d.result.start)) _ _ _ _ c.args.c c.next-d.result c.method.result (postfix_dot (language_of c.args.language.now) c.args.depth c.args.place c.args.s.now c.args.c c.next-d.result c.requires.0.0 c.next-d.ensures c.if-c-eq-DOT.true) (omega (arith, postfix_fewer (language_of c.args.language.now) c.args.depth c.args.place c.args.s.now c.args.c c.next-d.result c.requires.0.0 c.next-d.ensures c.requires.3)) c.method.ensures
 
--- src/expressions.rt:560:9
 pub postfix-returns-then-depth-eq0 : goal.postfix-returns-then-depth-eq0
-postfix-returns-then-depth-eq0 t c = ?
+postfix-returns-then-depth-eq0 t c = rw c.at.ensures (λ x o h. postfix_low (language_of c.args.language.now) c.args.depth c.args.place c.args.s.now c.args.c c.next-d.result c.requires.0.0 c.next-d.ensures c.requires.3 c.if-c-eq-DOT.false c.if-depth-eq0.true x, tt)
 
--- src/expressions.rt:541:1
 pub postfix-returns : goal.postfix-returns
-postfix-returns t c = ?
+postfix-returns t c = turns_as c.args.s.now (λ x. postfix_turn_at (language_of c.args.language.now) c.args.depth c.args.place x (toks_at c.args.s.now c.args.c.start)) (λ x. index_at (language_of c.args.language.now) (c.args.depth - 1) c.args.place x (toks_at c.args.s.now c.next-d.result.start)) _ _ _ _ c.args.c c.next-d.result c.index.result (postfix_index (language_of c.args.language.now) c.args.depth c.args.place c.args.s.now c.args.c c.next-d.result c.requires.0.0 c.next-d.ensures c.requires.3 c.if-c-eq-DOT.false c.if-depth-eq0.false) (omega (arith, postfix_fewer (language_of c.args.language.now) c.args.depth c.args.place c.args.s.now c.args.c c.next-d.result c.requires.0.0 c.next-d.ensures c.requires.3)) c.index.ensures
 
--- src/expressions.rt:529:17
 pub postfixes-returns-in_err-r : goal.postfixes-returns-in_err-r
-postfixes-returns-in_err-r t c = ?
+postfixes-returns-in_err-r t c = 
+    let p = err_from_is_err_and c.from_residual.result c.from_residual.ensures.1 in
+    rw (p.1, p.2) (λ x o h. post_refused (language_of c.args.language.now) (inner (language_of c.args.language.now) c.args.depth) (each_inner (language_of c.args.language.now) c.args.depth) c.args.place c.args.s.now _ _ o _ _ _ (c.loop-out.invariant.3 _ o (post_enter (language_of c.args.language.now) (inner (language_of c.args.language.now) c.args.depth) (each_inner (language_of c.args.language.now) c.args.depth) c.args.place c.args.s.now x _ o _ _ _ h)) _ c.in_err-r.ensures.0)
 
--- src/expressions.rt:528:5
 pub postfixes-loop-out-preserved : goal.postfixes-loop-out-preserved
-postfixes-loop-out-preserved t c = ?
+postfixes-loop-out-preserved t c = (c.postfix.auto.out ∙ c.loop-out.invariant.0, c.in_ok-r.ensures.1.0, c.in_ok-r.ensures.1.1, λ R o h. post_more (language_of c.args.language.now) (inner (language_of c.args.language.now) c.args.depth) (each_inner (language_of c.args.language.now) c.args.depth) c.args.place c.args.s.now R _ o _ _ _ (c.loop-out.invariant.3 R o h) c.in_ok-r.r _ c.in_ok-r.ensures)
 
--- src/expressions.rt:512:1
 pub postfixes-returns : goal.postfixes-returns
-postfixes-returns t c = ?
+postfixes-returns t c = λ x o h. post_exit (language_of c.args.language.now) (inner (language_of c.args.language.now) c.args.depth) (each_inner (language_of c.args.language.now) c.args.depth) c.args.place c.args.s.now _ _ o _ _ _ (c.loop-out.invariant.3 _ o (post_enter (language_of c.args.language.now) (inner (language_of c.args.language.now) c.args.depth) (each_inner (language_of c.args.language.now) c.args.depth) c.args.place c.args.s.now x _ o _ _ _ h)) c.loop-out.invariant.1.0 (sym c.is_postfix.ensures ∙ ?)
 
--- src/expressions.rt:204:5
 pub power-loop-r-init : goal.power-loop-r-init
-power-loop-r-init t c = ?
+power-loop-r-init t c = (refl, powers_first (power_level (language_of c.args.language.now) c.args.depth) (primary_low (language_of c.args.language.now) c.args.depth) c.args.s.now c.args.language.now.two c.args.language.now.lists.reserved.now c.args.language.now.lists.currencies.now c.args.language.now.lists.counters.now c.args.c c.args.n c.args.out.now c.requires.0)
 
--- src/expressions.rt:205:17
 pub power-returns-in_err-r : goal.power-returns-in_err-r
-power-returns-in_err-r t c = ?
+power-returns-in_err-r t c = 
+    let p = err_from_is_err_and c.from_residual.result c.from_residual.ensures.1 in
+    rw (p.1, p.2) (powers_refused (power_level (language_of c.args.language.now) c.args.depth) (primary_low (language_of c.args.language.now) c.args.depth) c.args.s.now c.args.language.now.two _ _ _ _ _ _ _ _ _ c.loop-r.invariant.1 _ _ c.in_err-r.ensures)
 
--- src/expressions.rt:208:13
 pub power-step-j-requires : goal.power-step-j-requires
-power-step-j-requires t c = ?
+power-step-j-requires t c = powers_numbers (power_level (language_of c.args.language.now) c.args.depth) (primary_low (language_of c.args.language.now) c.args.depth) c.args.s.now c.args.language.now.two _ _ _ _ _ _ _ _ _ c.loop-r.invariant.1 _ _ _ _ c.in_ok-r.ensures
 
--- src/expressions.rt:221:13
 pub power-returns-then-not-more : goal.power-returns-then-not-more
-power-returns-then-not-more t c = ?
+power-returns-then-not-more t c = powers_exit (power_level (language_of c.args.language.now) c.args.depth) (primary_low (language_of c.args.language.now) c.args.depth) c.args.s.now c.args.language.now.two _ _ _ _ _ _ _ _ _ c.loop-r.invariant.1 _ _ _ _ c.in_ok-r.ensures _ c.is_power-more.ensures c.step-j.result _ c.step-j.ensures c.if-not-more.true
 
--- src/expressions.rt:204:5
 pub power-loop-r-smaller : goal.power-loop-r-smaller
-power-loop-r-smaller t c = ?
+power-loop-r-smaller t c = powers_less (power_level (language_of c.args.language.now) c.args.depth) (primary_low (language_of c.args.language.now) c.args.depth) c.args.s.now c.args.language.now.two _ _ _ _ _ _ _ _ _ c.loop-r.invariant.1 _ _ _ _ c.in_ok-r.ensures _ c.is_power-more.ensures c.step-j.result _ c.step-j.ensures c.if-not-more.false c.next-at.result c.next-at.ensures
 
--- src/expressions.rt:204:5
 pub power-loop-r-preserved : goal.power-loop-r-preserved
-power-loop-r-preserved t c = ?
+power-loop-r-preserved t c = (c.step-j.auto.out ∙ (c.primary.auto.out ∙ c.loop-r.invariant.0), powers_next (power_level (language_of c.args.language.now) c.args.depth) (primary_low (language_of c.args.language.now) c.args.depth) c.args.s.now c.args.language.now.two _ _ _ _ _ _ _ _ _ c.loop-r.invariant.1 _ _ _ _ c.in_ok-r.ensures _ c.is_power-more.ensures c.step-j.result _ c.step-j.ensures c.if-not-more.false c.next-at.result c.next-at.ensures)
 
--- src/expressions.rt:273:17
 pub primary-returns-then-depth-eq0 : goal.primary-returns-then-depth-eq0
-primary-returns-then-depth-eq0 t c = ?
+primary-returns-then-depth-eq0 t c = rw c.at.ensures (prim_plus_0 (language_of c.args.language.now) c.args.s.now c.args.c c.requires.0.0 c.args.depth c.in-8.is c.if-depth-eq0.true)
 
--- src/expressions.rt:256:1
 pub primary-returns-in-40 : goal.primary-returns-in-40
-primary-returns-in-40 t c = ?
+primary-returns-in-40 t c = meets_as _ _ _ _ _ c.parenthesis.result _ (prim_paren (language_of c.args.language.now) c.args.s.now c.args.c c.requires.0.0 c.args.depth c.in-40.is) c.parenthesis.ensures
 
--- src/expressions.rt:256:1
 pub primary-returns-else-depth-eq0 : goal.primary-returns-else-depth-eq0
-primary-returns-else-depth-eq0 t c = ?
+primary-returns-else-depth-eq0 t c = meets_as _ _ _ _ _ c.signed.result _ (prim_plus (language_of c.args.language.now) c.args.s.now c.args.c c.requires.0.0 c.args.depth c.next-d.result c.next-d.ensures c.in-8.is c.if-depth-eq0.false) c.signed.ensures
 
--- src/expressions.rt:256:1
 pub primary-returns-in-9 : goal.primary-returns-in-9
-primary-returns-in-9 t c = ?
+primary-returns-in-9 t c = meets_as _ _ _ _ _ c.minus.result _ (prim_minus (language_of c.args.language.now) c.args.s.now c.args.c c.requires.0.0 c.args.depth c.next-d.result c.next-d.ensures c.in-9.is) c.minus.ensures
 
--- src/expressions.rt:256:1
 pub primary-returns-in-44 : goal.primary-returns-in-44
-primary-returns-in-44 t c = ?
+primary-returns-in-44 t c = meets_as _ _ _ _ _ c.list.result _ (prim_list (language_of c.args.language.now) c.args.s.now c.args.c c.requires.0.0 c.args.depth c.in-44.is) c.list.ensures
 
--- src/expressions.rt:256:1
 pub primary-returns-in-36 : goal.primary-returns-in-36
-primary-returns-in-36 t c = ?
+primary-returns-in-36 t c = meets_as _ _ _ _ _ c.pays.result _ (prim_pays (language_of c.args.language.now) c.args.s.now c.args.c c.requires.0.0 c.args.depth c.in-36.is) c.pays.ensures
 
--- src/expressions.rt:256:1
 pub primary-returns-in-1 : goal.primary-returns-in-1
-primary-returns-in-1 t c = ?
+primary-returns-in-1 t c = meets_as _ _ _ _ _ c.name.result _ (prim_name (language_of c.args.language.now) c.args.s.now c.args.c c.requires.0.0 c.args.depth c.next-d.result c.next-d.ensures c.in-1.is) c.name.ensures
 
--- src/expressions.rt:256:1
 pub primary-returns-in_default : goal.primary-returns-in_default
-primary-returns-in_default t c = ?
+primary-returns-in_default t c = meets_as _ _ _ _ _ c.atom_at.result _ (prim_atom (language_of c.args.language.now) c.args.s.now c.args.c c.requires.0.0 c.args.depth c.in_default.not-40 c.in_default.not-8 c.in_default.not-9 c.in_default.not-44 c.in_default.not-36 c.in_default.not-1) c.atom_at.ensures
 
--- src/expressions.rt:169:5
 pub product-loop-r-init : goal.product-loop-r-init
-product-loop-r-init t c = ?
+product-loop-r-init t c = (refl, pend_as (product_level (language_of c.args.language.now) c.args.depth c.args.alone) c.args.s.now _ (product_gates (language_of c.args.language.now) c.args.depth c.args.alone) c.args.c c.args.n c.args.out.now c.requires.0)
 
--- src/expressions.rt:170:17
 pub product-returns-in_err-r : goal.product-returns-in_err-r
-product-returns-in_err-r t c = ?
+product-returns-in_err-r t c = 
+    let p = err_from_is_err_and c.from_residual.result c.from_residual.ensures.1 in
+    rw (p.1, p.2) (pend_refused (product_level (language_of c.args.language.now) c.args.depth c.args.alone) c.args.s.now _ _ _ _ _ _ _ _ c.loop-r.invariant.1 _ _ c.in_err-r.ensures)
 
--- src/expressions.rt:171:13
 pub product-join-j-requires : goal.product-join-j-requires
-product-join-j-requires t c = ?
+product-join-j-requires t c = pend_numbers (product_level (language_of c.args.language.now) c.args.depth c.args.alone) c.args.s.now _ _ _ _ _ _ _ _ c.loop-r.invariant.1 _ _ _ _ c.in_ok-r.ensures
 
--- src/expressions.rt:174:13
 pub product-returns-then-not-is_product : goal.product-returns-then-not-is_product
-product-returns-then-not-is_product t c = ?
+product-returns-then-not-is_product t c = chain_exit (product_level (language_of c.args.language.now) c.args.depth c.args.alone) c.args.s.now _ _ _ _ _ _ _ _ (pend_chain (product_level (language_of c.args.language.now) c.args.depth c.args.alone) c.args.s.now _ _ _ _ _ _ _ _ c.loop-r.invariant.1 _ _ _ _ c.in_ok-r.ensures c.join-j.result _ c.join-j.ensures) (sym c.is_product.ensures ∙ c.if-not-is_product.true)
 
--- src/expressions.rt:169:5
 pub product-loop-r-smaller : goal.product-loop-r-smaller
-product-loop-r-smaller t c = ?
+product-loop-r-smaller t c = pend_less (product_level (language_of c.args.language.now) c.args.depth c.args.alone) c.args.s.now _ _ _ _ _ _ _ _ c.loop-r.invariant.1 _ _ _ _ c.in_ok-r.ensures (sym c.is_product.ensures ∙ c.if-not-is_product.false) c.next-at.result c.next-at.ensures
 
--- src/expressions.rt:169:5
 pub product-loop-r-preserved : goal.product-loop-r-preserved
-product-loop-r-preserved t c = ?
+product-loop-r-preserved t c = (c.join-j.auto.out ∙ (c.power.auto.out ∙ c.loop-r.invariant.0), pend_next (product_level (language_of c.args.language.now) c.args.depth c.args.alone) c.args.s.now _ _ _ _ _ _ _ _ (pend_chain (product_level (language_of c.args.language.now) c.args.depth c.args.alone) c.args.s.now _ _ _ _ _ _ _ _ c.loop-r.invariant.1 _ _ _ _ c.in_ok-r.ensures c.join-j.result _ c.join-j.ensures) (sym c.is_product.ensures ∙ c.if-not-is_product.false) c.next-at.result c.next-at.ensures)
 
--- src/expressions.rt:250:9
-pub signed-returns-then-is_raised : goal.signed-returns-then-is_raised
-signed-returns-then-is_raised t c = ?
-
--- src/expressions.rt:236:1
-pub signed-returns : goal.signed-returns
-signed-returns t c = ?
-
--- src/expressions.rt:135:5
 pub sum-loop-r-init : goal.sum-loop-r-init
-sum-loop-r-init t c = ?
+sum-loop-r-init t c = (refl, pend_as (sum_level (language_of c.args.language.now) c.args.depth c.args.alone) c.args.s.now _ (sum_gates (language_of c.args.language.now) c.args.depth c.args.alone) c.args.c c.args.n c.args.out.now c.requires.0)
 
--- src/expressions.rt:136:17
 pub sum-returns-in_err-r : goal.sum-returns-in_err-r
-sum-returns-in_err-r t c = ?
+sum-returns-in_err-r t c = 
+    let p = err_from_is_err_and c.from_residual.result c.from_residual.ensures.1 in
+    rw (p.1, p.2) (pend_refused (sum_level (language_of c.args.language.now) c.args.depth c.args.alone) c.args.s.now _ _ _ _ _ _ _ _ c.loop-r.invariant.1 _ _ c.in_err-r.ensures)
 
--- src/expressions.rt:137:13
 pub sum-join-j-requires : goal.sum-join-j-requires
-sum-join-j-requires t c = ?
+sum-join-j-requires t c = pend_numbers (sum_level (language_of c.args.language.now) c.args.depth c.args.alone) c.args.s.now _ _ _ _ _ _ _ _ c.loop-r.invariant.1 _ _ _ _ c.in_ok-r.ensures
 
--- src/expressions.rt:140:13
 pub sum-returns-then-not-is_sum : goal.sum-returns-then-not-is_sum
-sum-returns-then-not-is_sum t c = ?
+sum-returns-then-not-is_sum t c = chain_exit (sum_level (language_of c.args.language.now) c.args.depth c.args.alone) c.args.s.now _ _ _ _ _ _ _ _ (pend_chain (sum_level (language_of c.args.language.now) c.args.depth c.args.alone) c.args.s.now _ _ _ _ _ _ _ _ c.loop-r.invariant.1 _ _ _ _ c.in_ok-r.ensures c.join-j.result _ c.join-j.ensures) (sym c.is_sum.ensures ∙ c.if-not-is_sum.true)
 
--- src/expressions.rt:135:5
 pub sum-loop-r-smaller : goal.sum-loop-r-smaller
-sum-loop-r-smaller t c = ?
+sum-loop-r-smaller t c = pend_less (sum_level (language_of c.args.language.now) c.args.depth c.args.alone) c.args.s.now _ _ _ _ _ _ _ _ c.loop-r.invariant.1 _ _ _ _ c.in_ok-r.ensures (sym c.is_sum.ensures ∙ c.if-not-is_sum.false) c.next-at.result c.next-at.ensures
 
--- src/expressions.rt:135:5
 pub sum-loop-r-preserved : goal.sum-loop-r-preserved
-sum-loop-r-preserved t c = ?
+sum-loop-r-preserved t c = (c.join-j.auto.out ∙ (c.product.auto.out ∙ c.loop-r.invariant.0), pend_next (sum_level (language_of c.args.language.now) c.args.depth c.args.alone) c.args.s.now _ _ _ _ _ _ _ _ (pend_chain (sum_level (language_of c.args.language.now) c.args.depth c.args.alone) c.args.s.now _ _ _ _ _ _ _ _ c.loop-r.invariant.1 _ _ _ _ c.in_ok-r.ensures c.join-j.result _ c.join-j.ensures) (sym c.is_sum.ensures ∙ c.if-not-is_sum.false) c.next-at.result c.next-at.ensures)
+
+pub signed-returns-then-is_raised : goal.signed-returns-then-is_raised
+signed-returns-then-is_raised t c = meets_as _ _ _ _ _ c.expression.result _ (ap (λ (q : Reader Tree). q (toks_at c.args.s.now c.args.c.start)) (signed_right c.args.language.now.two c.args.language.now.lists.reserved.now c.args.language.now.lists.currencies.now c.args.language.now.lists.counters.now (primary (language_of c.args.language.now) c.args.depth) (raisable_two c.args.language.now.two c.args.c.code (sym c.is_raised.ensures ∙ c.if-is_raised.true)))) c.expression.ensures
+
+pub signed-returns : goal.signed-returns
+signed-returns t c = meets_as _ _ _ _ _ c.primary.result _ (signed_here c.args.language.now.two c.args.language.now.lists.reserved.now c.args.language.now.lists.currencies.now c.args.language.now.lists.counters.now c.args.s.now c.args.c c.requires.0.0 c.args.depth (sym c.is_raised.ensures ∙ c.if-is_raised.false)) c.primary.ensures
