@@ -4,6 +4,7 @@ use mathlib.Core.Path.{◌≡◌, refl, sym, ap, ◌∙◌, subst}
 use mathlib.Core.Bool.{Bool, true, false, ◌&&◌, ◌||◌, not, true≢false}
 use mathlib.Core.List.{List, []}
 use mathlib.Core.Option.{Option}
+use mathlib.Core.Logic.{◌⊎◌, inl, inr}
 use Prim.Native.Nat.{ℕ, zero, suc, ◌+◌, ◌-◌, ◌*◌, ◌≤◌, ◌<◌}
 use native.Mathlib.Omega.{arith}
 use lib.Dec.{eqb, leb}
@@ -302,7 +303,13 @@ module _ (W : Language) (I : Option (Reader Tree)) (each : Each I) (l : ℕ) (t 
 call_low : (w : List ℕ) → (call_of w calls).0 < 32
 call_low w = row_says (λ c. c.0 < 32) w calls (omega arith) (omega arith, (omega arith, (omega arith, (omega arith, (omega arith, (omega arith, (omega arith, (omega arith, tt))))))))
 
--- a call's kind that is none of the three that are read on their own
+-- the kinds of the calls that are read on their own
+pub call_kind_high : (k : Kind) → (k ≡ kind.Spot) ⊎ ((k ≡ kind.Df) ⊎ (k ≡ kind.RateIndex)) → 32 ≤ kind_number k
+call_kind_high k (inl e) = rw e (omega arith)
+call_kind_high k (inr (inl e)) = rw e (omega arith)
+call_kind_high k (inr (inr e)) = rw e (omega arith)
+
+-- the kind of any other call
 pub call_kind_low : (k : Kind) (w : List ℕ) → kind_number k ≡ call_kind w → (k ≡ kind.Spot → ⊥) → (k ≡ kind.Df → ⊥) → (k ≡ kind.RateIndex → ⊥) → kind_number k < 32
 unfolding call_kind
 call_kind_low k w e s d r = go (leb 1 (call_of w calls).0) (same (bytes "Spot") w) (same (bytes "Df") w) (same (bytes "RateIndex") w) e

@@ -19,7 +19,7 @@ use Rattle.reading.proofs.ChainLaws.{power_level, product_level, sum_level, prod
 use Rattle.reading.proofs.PowerLaws.{signed_right, powers_first, powers_refused, powers_numbers, powers_exit, powers_less, powers_next}
 use Rattle.reading.proofs.StepLaws.{meets_as, follow_ready, put_fields, behind_read, raisable_two, signed_here, minus_lone, minus_0, minus_deep, reads_as, comparison_gates, compare_ready, compare_refused, compare_numbers, compare_last, compare_none, parenthesis_deep, parenthesis_refused, parenthesis_open, parenthesis_closed, prim_paren, prim_plus_0, prim_plus, prim_list, prim_pays, prim_atom, prim_name, prim_minus, inner_sized}
 use Rattle.reading.proofs.ItemLaws.{items_start, items_exit, items_refused, items_numbers, items_wrong, items_less, items_next, shown_inside, arguments_no, arguments_0, arguments_refused, arguments_done, arguments_within, call_refused, call_faulty, call_done, list_0, list_refused, list_numbers, list_after, list_done, list_tops, pay_start, pay_refused, pay_numbers, pay_less, pay_next, pays_0, pays_ready, pays_refused, pays_done}
-use Rattle.reading.proofs.PostfixLaws.{turns_as, ready_behind, each_inner, index_refuses, index_open, index_numbers, index_reads, method_unnamed, method_refuses, method_none, method_numbers, method_reads, postfix_dot, postfix_low, postfix_index, postfix_fewer, post_enter, post_exit, post_refused, post_more, call_kind_low, name_refuses, name_numbers, name_reads, name_special, name_call}
+use Rattle.reading.proofs.PostfixLaws.{turns_as, ready_behind, each_inner, index_refuses, index_open, index_numbers, index_reads, method_unnamed, method_refuses, method_none, method_numbers, method_reads, postfix_dot, postfix_low, postfix_index, postfix_fewer, post_enter, post_exit, post_refused, post_more, call_kind_high, call_kind_low, name_refuses, name_numbers, name_reads, name_special, name_call}
 use Rattle.reading.proofs.expressions.+expressions.Goals as goal
 
 pub arguments-returns-in_err-d : goal.arguments-returns-in_err-d
@@ -56,7 +56,7 @@ pub call-overflow_add-result : goal.call-overflow_add-result
 call-overflow_add-result t c = omega (arith, arguments_within (language_of c.args.language.now) c.args.depth c.args.s.now c.args.d _ _ _ _ _ _ _ c.in_ok-r.ensures c.requires.0.1)
 
 pub call-returns : goal.call-returns
-call-returns t c = call_done (language_of c.args.language.now) c.args.depth (token_at c.args.s.now c.args.c) c.args.kind c.requires.4 c.requires.5 c.args.s.now c.args.d _ _ _ _ _ _ _ c.in_ok-r.ensures c.in_default.ensures _ (put_fields _ _ _ _ _ _ _ _ _ _ c.plain.ensures c.put.ensures)
+call-returns t c = call_done (language_of c.args.language.now) c.args.depth (token_at c.args.s.now c.args.c) c.args.kind c.requires.4 c.requires.5 c.args.s.now c.args.d _ _ _ _ _ _ _ c.in_ok-r.ensures c.in_default.ensures _ (put_fields _ _ _ _ _ _ _ _ _ _ (rw c.number.ensures at c.plain.ensures) c.put.ensures)
 
 pub comparison-sum-requires : goal.comparison-sum-requires
 comparison-sum-requires t c = (omega (arith, c.decreases), (compare_ready c.args.alone (sum_or c.args.alone (language_of c.args.language.now) c.args.depth) (sum_short (language_of c.args.language.now) c.args.depth c.args.alone) c.args.s.now c.args.c c.args.n c.args.out.now c.requires.0 _ _ _ _ c.loop-r.invariant.1, c.requires.1))
@@ -129,24 +129,24 @@ items-loop-at-init t c = (refl, items_start (language_of c.args.language.now) c.
 pub items-returns-in_err-r : goal.items-returns-in_err-r
 items-returns-in_err-r t c = 
     let p = err_from_is_err_and c.from_residual.result c.from_residual.ensures.1 in
-    rw (p.1, p.2) ((items_refused (language_of c.args.language.now) c.args.close (primary (language_of c.args.language.now) c.args.depth) (primary_law (language_of c.args.language.now) c.args.depth) (primary_size (language_of c.args.language.now) c.args.depth) c.args.s.now _ _ _ _ _ _ _ _ c.loop-at.invariant.1 ? _ _ c.in_err-r.ensures, tt))
+    rw (p.1, p.2) ((items_refused (language_of c.args.language.now) c.args.close (primary (language_of c.args.language.now) c.args.depth) (primary_law (language_of c.args.language.now) c.args.depth) (primary_size (language_of c.args.language.now) c.args.depth) c.args.s.now _ _ _ _ _ _ _ _ c.loop-at.invariant.1 c.loop-at-test.true _ _ c.in_err-r.ensures, tt))
 
 pub items-returns-in_err-at : goal.items-returns-in_err-at
 items-returns-in_err-at t c = 
     let p = err_from_is_err_and c.from_residual-in_err-at.result c.from_residual-in_err-at.ensures.1 in
-    rw (p.1, p.2) ((items_wrong (language_of c.args.language.now) c.args.close (primary (language_of c.args.language.now) c.args.depth) (primary_law (language_of c.args.language.now) c.args.depth) (primary_size (language_of c.args.language.now) c.args.depth) c.args.s.now _ _ _ _ _ _ _ _ c.loop-at.invariant.1 ? _ _ _ _ c.in_ok-r.ensures _ c.in_err-at.ensures, tt))
+    rw (p.1, p.2) ((items_wrong (language_of c.args.language.now) c.args.close (primary (language_of c.args.language.now) c.args.depth) (primary_law (language_of c.args.language.now) c.args.depth) (primary_size (language_of c.args.language.now) c.args.depth) c.args.s.now _ _ _ _ _ _ _ _ c.loop-at.invariant.1 c.loop-at-test.true _ _ _ _ c.in_ok-r.ensures _ c.in_err-at.ensures, tt))
 
 pub items-overflow_add-count : goal.items-overflow_add-count
-items-overflow_add-count t c = omega (arith, items_numbers (language_of c.args.language.now) c.args.close (primary (language_of c.args.language.now) c.args.depth) (primary_law (language_of c.args.language.now) c.args.depth) (primary_size (language_of c.args.language.now) c.args.depth) c.args.s.now _ _ _ _ _ _ _ _ c.loop-at.invariant.1 ? _ _ _ _ c.in_ok-r.ensures)
+items-overflow_add-count t c = omega (arith, items_numbers (language_of c.args.language.now) c.args.close (primary (language_of c.args.language.now) c.args.depth) (primary_law (language_of c.args.language.now) c.args.depth) (primary_size (language_of c.args.language.now) c.args.depth) c.args.s.now _ _ _ _ _ _ _ _ c.loop-at.invariant.1 c.loop-at-test.true _ _ _ _ c.in_ok-r.ensures)
 
 pub items-loop-at-smaller : goal.items-loop-at-smaller
-items-loop-at-smaller t c = items_less (language_of c.args.language.now) c.args.close (primary (language_of c.args.language.now) c.args.depth) (primary_law (language_of c.args.language.now) c.args.depth) (primary_size (language_of c.args.language.now) c.args.depth) c.args.s.now _ _ _ _ _ _ _ _ c.loop-at.invariant.1 ? _ _ _ _ c.in_ok-r.ensures _ c.in_ok-at.ensures
+items-loop-at-smaller t c = items_less (language_of c.args.language.now) c.args.close (primary (language_of c.args.language.now) c.args.depth) (primary_law (language_of c.args.language.now) c.args.depth) (primary_size (language_of c.args.language.now) c.args.depth) c.args.s.now _ _ _ _ _ _ _ _ c.loop-at.invariant.1 c.loop-at-test.true _ _ _ _ c.in_ok-r.ensures _ c.in_ok-at.ensures
 
 pub items-loop-at-preserved : goal.items-loop-at-preserved
-items-loop-at-preserved t c = (c.expression.auto.out ∙ c.loop-at.invariant.0, items_next (language_of c.args.language.now) c.args.close (primary (language_of c.args.language.now) c.args.depth) (primary_law (language_of c.args.language.now) c.args.depth) (primary_size (language_of c.args.language.now) c.args.depth) c.args.s.now _ _ _ _ _ _ _ _ c.loop-at.invariant.1 ? _ _ _ _ c.in_ok-r.ensures _ c.in_ok-at.ensures c.shown-texts.result c.shown-texts.ensures)
+items-loop-at-preserved t c = (c.expression.auto.out ∙ c.loop-at.invariant.0, items_next (language_of c.args.language.now) c.args.close (primary (language_of c.args.language.now) c.args.depth) (primary_law (language_of c.args.language.now) c.args.depth) (primary_size (language_of c.args.language.now) c.args.depth) c.args.s.now _ _ _ _ _ _ _ _ c.loop-at.invariant.1 c.loop-at-test.true _ _ _ _ c.in_ok-r.ensures _ c.in_ok-at.ensures c.shown-texts.result c.shown-texts.ensures)
 
 pub items-returns : goal.items-returns
-items-returns t c = (items_exit (language_of c.args.language.now) c.args.close (primary (language_of c.args.language.now) c.args.depth) (primary_law (language_of c.args.language.now) c.args.depth) (primary_size (language_of c.args.language.now) c.args.depth) c.args.s.now _ _ _ _ _ _ _ _ c.loop-at.invariant.1 ?, ?)
+items-returns t c = (items_exit (language_of c.args.language.now) c.args.close (primary (language_of c.args.language.now) c.args.depth) (primary_law (language_of c.args.language.now) c.args.depth) (primary_size (language_of c.args.language.now) c.args.depth) c.args.s.now _ _ _ _ _ _ _ _ c.loop-at.invariant.1 c.loop-at-test.false, c.loop-at-test.false)
 
 pub list-returns-then-depth-eq0 : goal.list-returns-then-depth-eq0
 list-returns-then-depth-eq0 t c = rw c.at.ensures (list_0 (language_of c.args.language.now) c.args.depth c.args.s.now c.args.c c.args.d c.requires.1 c.requires.2 c.if-depth-eq0.true)
@@ -200,7 +200,7 @@ pub method-overflow_add-result : goal.method-overflow_add-result
 method-overflow_add-result t c = omega (arith, method_numbers (language_of c.args.language.now) (inner (language_of c.args.language.now) c.args.depth) (inner_sized (language_of c.args.language.now) c.args.depth) c.args.place c.args.s.now c.args.c c.requires.0.0 c.args.n c.args.m c.args.out.now _ c.in_ok-d.ensures _ _ _ _ _ c.in_ok-r.ensures c.requires.0.1 c.requires.2)
 
 pub method-returns : goal.method-returns
-method-returns t c = method_reads (language_of c.args.language.now) (inner (language_of c.args.language.now) c.args.depth) (inner_sized (language_of c.args.language.now) c.args.depth) c.args.place c.args.s.now c.args.c c.requires.0.0 c.args.n c.args.m c.args.out.now _ c.in_ok-d.ensures _ _ _ _ _ c.in_ok-r.ensures c.requires.0.1 c.requires.2 _ c.in-Some.ensures (λ z. omega (arith, z, kind_some c.in-Some.kind)) _ (put_fields _ _ _ _ _ _ _ _ _ _ c.plain.ensures c.put.ensures)
+method-returns t c = method_reads (language_of c.args.language.now) (inner (language_of c.args.language.now) c.args.depth) (inner_sized (language_of c.args.language.now) c.args.depth) c.args.place c.args.s.now c.args.c c.requires.0.0 c.args.n c.args.m c.args.out.now _ c.in_ok-d.ensures _ _ _ _ _ c.in_ok-r.ensures c.requires.0.1 c.requires.2 _ (c.number.ensures ∙ c.in-Some.ensures) (λ z. omega (arith, z, c.number.ensures, kind_some c.in-Some.kind)) _ (put_fields _ _ _ _ _ _ _ _ _ _ c.plain.ensures c.put.ensures)
 
 pub minus-returns-in-Some : goal.minus-returns-in-Some
 minus-returns-in-Some t c = meets_as _ _ _ _ _ (Ok c.constant_at.result) _ (minus_lone (language_of c.args.language.now) c.args.s.now c.args.c c.args.d c.args.depth _ c.requires.1.holds c.in-Some.ensures.0 c.in-Some.ensures.1 c.in-Some.ensures.2) c.constant_at.ensures
@@ -245,7 +245,7 @@ pub name-call-requires : goal.name-call-requires
 name-call-requires t c = (omega (arith, c.decreases), (ready_behind c.args.s.now c.args.c c.args.d c.args.n 0 c.requires.0.1 c.requires.1 c.requires.2, c.requires.0.0, c.requires.2, c.requires.3, c.in-Some.ensures, call_kind_low c.in-Some.kind _ c.in-Some.ensures c.in_default-kind.not-Spot c.in_default-kind.not-Df c.in_default-kind.not-RateIndex))
 
 pub name-returns-in-Spot : goal.name-returns-in-Spot
-name-returns-in-Spot t c = name_special c.args.language.now.two c.args.language.now.lists.reserved.now c.args.language.now.lists.currencies.now c.args.language.now.lists.counters.now (inner (language_of c.args.language.now) c.args.depth) c.args.s.now c.args.c c.args.d c.args.n c.args.out.now _ c.in-Some.ensures ? c.special.result _ c.special.ensures
+name-returns-in-Spot t c = name_special c.args.language.now.two c.args.language.now.lists.reserved.now c.args.language.now.lists.currencies.now c.args.language.now.lists.counters.now (inner (language_of c.args.language.now) c.args.depth) c.args.s.now c.args.c c.args.d c.args.n c.args.out.now _ c.in-Some.ensures (call_kind_high _ c.in-Spot.is) c.special.result _ c.special.ensures
 
 pub name-returns-in_default-kind : goal.name-returns-in_default-kind
 name-returns-in_default-kind t c = name_call c.args.language.now.two c.args.language.now.lists.reserved.now c.args.language.now.lists.currencies.now c.args.language.now.lists.counters.now (inner (language_of c.args.language.now) c.args.depth) c.args.s.now c.args.c c.args.d c.args.n c.args.out.now _ c.in-Some.ensures (kind_some c.in-Some.kind) (call_kind_low c.in-Some.kind _ c.in-Some.ensures c.in_default-kind.not-Spot c.in_default-kind.not-Df c.in_default-kind.not-RateIndex) c.call.result _ c.call.ensures
@@ -275,19 +275,19 @@ pays-loop-out-init t c = (refl, pay_start (language_of c.args.language.now) (pri
 pub pays-returns-in_err-r : goal.pays-returns-in_err-r
 pays-returns-in_err-r t c = 
     let p = err_from_is_err_and c.from_residual.result c.from_residual.ensures.1 in
-    rw (p.1, p.2) (pays_refused (language_of c.args.language.now) c.args.depth c.args.s.now c.args.c c.args.d c.requires.0.0 c.requires.1 c.requires.2 c.if-depth-eq0.false _ _ (pay_refused (language_of c.args.language.now) (primary (language_of c.args.language.now) (c.args.depth - 1)) (primary_law (language_of c.args.language.now) (c.args.depth - 1)) (primary_size (language_of c.args.language.now) (c.args.depth - 1)) c.args.s.now _ _ _ _ _ _ _ c.loop-out.invariant.1 (sym c.stops_pays.ensures ∙ ?) _ _ c.in_err-r.ensures))
+    rw (p.1, p.2) (pays_refused (language_of c.args.language.now) c.args.depth c.args.s.now c.args.c c.args.d c.requires.0.0 c.requires.1 c.requires.2 c.if-depth-eq0.false _ _ (pay_refused (language_of c.args.language.now) (primary (language_of c.args.language.now) (c.args.depth - 1)) (primary_law (language_of c.args.language.now) (c.args.depth - 1)) (primary_size (language_of c.args.language.now) (c.args.depth - 1)) c.args.s.now _ _ _ _ _ _ _ c.loop-out.invariant.1 (sym c.stops_pays.ensures ∙ c.loop-out-test.true) _ _ c.in_err-r.ensures))
 
 pub pays-overflow_add-count : goal.pays-overflow_add-count
-pays-overflow_add-count t c = omega (arith, pay_numbers (language_of c.args.language.now) (primary (language_of c.args.language.now) (c.args.depth - 1)) (primary_law (language_of c.args.language.now) (c.args.depth - 1)) (primary_size (language_of c.args.language.now) (c.args.depth - 1)) c.args.s.now _ _ _ _ _ _ _ c.loop-out.invariant.1 (sym c.stops_pays.ensures ∙ ?) _ _ _ _ c.in_ok-r.ensures)
+pays-overflow_add-count t c = omega (arith, pay_numbers (language_of c.args.language.now) (primary (language_of c.args.language.now) (c.args.depth - 1)) (primary_law (language_of c.args.language.now) (c.args.depth - 1)) (primary_size (language_of c.args.language.now) (c.args.depth - 1)) c.args.s.now _ _ _ _ _ _ _ c.loop-out.invariant.1 (sym c.stops_pays.ensures ∙ c.loop-out-test.true) _ _ _ _ c.in_ok-r.ensures)
 
 pub pays-loop-out-smaller : goal.pays-loop-out-smaller
-pays-loop-out-smaller t c = pay_less (language_of c.args.language.now) (primary (language_of c.args.language.now) (c.args.depth - 1)) (primary_law (language_of c.args.language.now) (c.args.depth - 1)) (primary_size (language_of c.args.language.now) (c.args.depth - 1)) c.args.s.now _ _ _ _ _ _ _ c.loop-out.invariant.1 (sym c.stops_pays.ensures ∙ ?) _ _ _ _ c.in_ok-r.ensures
+pays-loop-out-smaller t c = pay_less (language_of c.args.language.now) (primary (language_of c.args.language.now) (c.args.depth - 1)) (primary_law (language_of c.args.language.now) (c.args.depth - 1)) (primary_size (language_of c.args.language.now) (c.args.depth - 1)) c.args.s.now _ _ _ _ _ _ _ c.loop-out.invariant.1 (sym c.stops_pays.ensures ∙ c.loop-out-test.true) _ _ _ _ c.in_ok-r.ensures
 
 pub pays-loop-out-preserved : goal.pays-loop-out-preserved
-pays-loop-out-preserved t c = (c.expression.auto.out ∙ c.loop-out.invariant.0, pay_next (language_of c.args.language.now) (primary (language_of c.args.language.now) (c.args.depth - 1)) (primary_law (language_of c.args.language.now) (c.args.depth - 1)) (primary_size (language_of c.args.language.now) (c.args.depth - 1)) c.args.s.now _ _ _ _ _ _ _ c.loop-out.invariant.1 (sym c.stops_pays.ensures ∙ ?) _ _ _ _ c.in_ok-r.ensures)
+pays-loop-out-preserved t c = (c.expression.auto.out ∙ c.loop-out.invariant.0, pay_next (language_of c.args.language.now) (primary (language_of c.args.language.now) (c.args.depth - 1)) (primary_law (language_of c.args.language.now) (c.args.depth - 1)) (primary_size (language_of c.args.language.now) (c.args.depth - 1)) c.args.s.now _ _ _ _ _ _ _ c.loop-out.invariant.1 (sym c.stops_pays.ensures ∙ c.loop-out-test.true) _ _ _ _ c.in_ok-r.ensures)
 
 pub pays-returns : goal.pays-returns
-pays-returns t c = pays_done c.args.language.now.two c.args.language.now.lists.reserved.now c.args.language.now.lists.counters.now c.args.language.now.lists.currencies.now c.args.depth c.args.s.now c.args.c c.args.d c.requires.0.0 c.requires.1 c.requires.2 c.if-depth-eq0.false _ _ _ _ _ _ c.loop-out.invariant.1 (sym c.stops_pays.ensures ∙ ?) c.payday_at.result _ c.payday_at.ensures
+pays-returns t c = pays_done c.args.language.now.two c.args.language.now.lists.reserved.now c.args.language.now.lists.counters.now c.args.language.now.lists.currencies.now c.args.depth c.args.s.now c.args.c c.args.d c.requires.0.0 c.requires.1 c.requires.2 c.if-depth-eq0.false _ _ _ _ _ _ c.loop-out.invariant.1 (sym c.stops_pays.ensures ∙ c.loop-out-test.false) c.payday_at.result _ c.payday_at.ensures
 
 pub postfix-returns-then-c-eq-DOT : goal.postfix-returns-then-c-eq-DOT
 postfix-returns-then-c-eq-DOT t c = turns_as c.args.s.now (λ x. postfix_turn_at (language_of c.args.language.now) c.args.depth c.args.place x (toks_at c.args.s.now c.args.c.start)) (λ x. method_at (language_of c.args.language.now) c.args.depth c.args.place x (toks_at c.args.s.now c.next-d.result.start)) _ _ _ _ c.args.c c.next-d.result c.method.result (postfix_dot (language_of c.args.language.now) c.args.depth c.args.place c.args.s.now c.args.c c.next-d.result c.requires.0.0 c.next-d.ensures c.if-c-eq-DOT.true) (omega (arith, postfix_fewer (language_of c.args.language.now) c.args.depth c.args.place c.args.s.now c.args.c c.next-d.result c.requires.0.0 c.next-d.ensures c.requires.3)) c.method.ensures
@@ -307,7 +307,7 @@ pub postfixes-loop-out-preserved : goal.postfixes-loop-out-preserved
 postfixes-loop-out-preserved t c = (c.postfix.auto.out ∙ c.loop-out.invariant.0, c.in_ok-r.ensures.1.0, c.in_ok-r.ensures.1.1, λ R o h. post_more (language_of c.args.language.now) (inner (language_of c.args.language.now) c.args.depth) (each_inner (language_of c.args.language.now) c.args.depth) c.args.place c.args.s.now R _ o _ _ _ (c.loop-out.invariant.3 R o h) c.in_ok-r.r _ c.in_ok-r.ensures)
 
 pub postfixes-returns : goal.postfixes-returns
-postfixes-returns t c = λ x o h. post_exit (language_of c.args.language.now) (inner (language_of c.args.language.now) c.args.depth) (each_inner (language_of c.args.language.now) c.args.depth) c.args.place c.args.s.now _ _ o _ _ _ (c.loop-out.invariant.3 _ o (post_enter (language_of c.args.language.now) (inner (language_of c.args.language.now) c.args.depth) (each_inner (language_of c.args.language.now) c.args.depth) c.args.place c.args.s.now x _ o _ _ _ h)) c.loop-out.invariant.1.0 (sym c.is_postfix.ensures ∙ ?)
+postfixes-returns t c = λ x o h. post_exit (language_of c.args.language.now) (inner (language_of c.args.language.now) c.args.depth) (each_inner (language_of c.args.language.now) c.args.depth) c.args.place c.args.s.now _ _ o _ _ _ (c.loop-out.invariant.3 _ o (post_enter (language_of c.args.language.now) (inner (language_of c.args.language.now) c.args.depth) (each_inner (language_of c.args.language.now) c.args.depth) c.args.place c.args.s.now x _ o _ _ _ h)) c.loop-out.invariant.1.0 (sym c.is_postfix.ensures ∙ c.loop-out-test.false)
 
 pub power-loop-r-init : goal.power-loop-r-init
 power-loop-r-init t c = (refl, powers_first (power_level (language_of c.args.language.now) c.args.depth) (primary_low (language_of c.args.language.now) c.args.depth) c.args.s.now c.args.language.now.two c.args.language.now.lists.reserved.now c.args.language.now.lists.currencies.now c.args.language.now.lists.counters.now c.args.c c.args.n c.args.out.now c.requires.0)
@@ -351,7 +351,7 @@ pub primary-returns-in-1 : goal.primary-returns-in-1
 primary-returns-in-1 t c = meets_as _ _ _ _ _ c.name.result _ (prim_name (language_of c.args.language.now) c.args.s.now c.args.c c.requires.0.0 c.args.depth c.next-d.result c.next-d.ensures c.in-1.is) c.name.ensures
 
 pub primary-returns-in_default : goal.primary-returns-in_default
-primary-returns-in_default t c = meets_as _ _ _ _ _ c.atom_at.result _ (prim_atom (language_of c.args.language.now) c.args.s.now c.args.c c.requires.0.0 c.args.depth c.in_default.not-40 c.in_default.not-8 c.in_default.not-9 c.in_default.not-44 c.in_default.not-36 c.in_default.not-1) c.atom_at.ensures
+primary-returns-in_default t c = meets_as _ _ _ _ _ c.atom_at.result _ (prim_atom (language_of c.args.language.now) c.args.s.now c.args.c c.requires.0.0 c.args.depth (search) (search) (search) (search) (search) (search)) c.atom_at.ensures
 
 pub product-loop-r-init : goal.product-loop-r-init
 product-loop-r-init t c = (refl, pend_as (product_level (language_of c.args.language.now) c.args.depth c.args.alone) c.args.s.now _ (product_gates (language_of c.args.language.now) c.args.depth c.args.alone) c.args.c c.args.n c.args.out.now c.requires.0)
