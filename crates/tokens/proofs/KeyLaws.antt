@@ -1,4 +1,5 @@
 -- A word is told by its key: what a table has for a word's bytes it has for their number. A keyword is told by its length and its bytes.
+use Rattle.std.specs.List.{push}
 use Rattle.std.specs.Prelude.{Option, Some, None as no_code, if◌then◌else◌}
 use mathlib.Core.Path.{◌≡◌, refl, sym, ap, ◌∙◌}
 use mathlib.Core.Bool.{Bool, true, false, ◌&&◌, not, true≢false}
@@ -66,6 +67,39 @@ pack_below (b ∷ w) h = omega (arith, pack_below w (λ i. h (suc i)), h 0, pow-
 
 pack_six : (w : List ℕ) → Bytes w → length w ≤ 6 → pack w < 2 ^ 50
 pack_six w h l = omega (arith, pack_below w h, pow-le-pow_right {n = 256} (omega arith) l)
+
+-- the bytes as one number, with k behind them
+unfoldable pub pack_onto : ℕ → List ℕ → ℕ
+pack_onto k [] = k
+pack_onto k (b ∷ bs) = b + 256 * pack_onto k bs
+
+pub onto_all : (w : List ℕ) → pack_onto 1 w ≡ pack w
+unfolding pack_onto pack
+onto_all [] = refl
+onto_all (b ∷ bs) = ap (λ (n : ℕ). b + 256 * n) (onto_all bs)
+
+pub onto_none : (k : ℕ) (w : List ℕ) → length w ≡ 0 → k ≡ pack_onto k w
+unfolding pack_onto
+onto_none k [] h = refl
+onto_none k (b ∷ w) h = absurd (omega arith)
+
+onto_push : (k b : ℕ) (w : List ℕ) → pack_onto (k * 256 + b) w ≡ pack_onto k (w ++ (b ∷ []))
+unfolding pack_onto
+onto_push k b [] = omega arith
+onto_push k b (c ∷ w) = ap (λ (n : ℕ). c + 256 * n) (onto_push k b w)
+
+-- b is the last byte of v, and goes behind w
+pub onto_turn : {v : List ℕ} (k b : ℕ) (w : List ℕ) → v ≡ push w b → pack_onto (k * 256 + b) w ≡ pack_onto k v
+onto_turn k b w e = onto_push k b w ∙ ap (pack_onto k) (sym e)
+
+onto_least : (k : ℕ) (w : List ℕ) → k ≤ pack_onto k w
+unfolding pack_onto
+onto_least k [] = omega arith
+onto_least k (b ∷ w) = omega (arith, onto_least k w)
+
+-- what is packed of a short part is small
+pub onto_room : (w : List ℕ) → Bytes w → length w ≤ 6 → (k : ℕ) (v : List ℕ) → pack_onto k v ≡ pack w → k < 2 ^ 50
+onto_room w h l k v e = omega (arith, onto_least k v, e, pack_six w h l)
 
 pack_cons : (w : List ℕ) (i : ℕ) → i < length w → pack (drop i w) ≡ get_or w i 0 + 256 * pack (drop (i + 1) w)
 unfolding pack

@@ -6,6 +6,7 @@ pub mod Cuts
 pub mod Shapes
 pub mod Closers
 pub mod Leading
+pub mod Chains
 pub mod KeyLaws
 pub mod NumberLaws
 pub mod TableLaws

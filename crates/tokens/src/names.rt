@@ -35,12 +35,6 @@ fn differ(a: u8, b: u8) -> u8
     if a == b { 0 } else { 1 }
 }
 
-fn least(a: u8, b: u8) -> u8
-    ensures { (result ≤ a) × (result ≤ b) }
-{
-    if b < a { b } else { a }
-}
-
 // 0 where a first byte, a last one and a line feed stand somewhere in a list as they would for a name of n bytes. Nothing
 // leaves the loop early, so that it is compiled to take many bytes at once.
 fn lowest(list: &[u8], n: usize, first: u8, last: u8) -> u8
@@ -49,13 +43,11 @@ fn lowest(list: &[u8], n: usize, first: u8, last: u8) -> u8
 {
     let most = list.len() - n;
     let mut low: u8 = 3;
-    let mut i: usize = 0;
-    while i < most {
+    for i in 0..most {
         let a = differ(list[i], first);
         let b = differ(list[i + n - 1], last);
-        let c = differ(list[i + n], 10);
-        low = least(low, a + b + c);
-        i += 1;
+        let c = differ(list[i + n], b'\n');
+        low = low.min(a + b + c);
     }
     low
 }
@@ -108,28 +100,16 @@ fn is_good_byte(money: bool, b: u8) -> bool
 fn is_good_name(money: bool, name: &[u8]) -> bool
     ensures { result ≡ good_name money name.now }
 {
-    if !is_good_length(money, name.len()) {
-        return false;
-    }
-    let mut i: usize = 0;
-    while i < name.len() {
-        if !is_good_byte(money, name[i]) {
-            return false;
-        }
-        i += 1;
-    }
-    true
+    is_good_length(money, name.len()) && name.iter().all(|&b| is_good_byte(money, b))
 }
 
 // A slot for a name: two equal names have the same.
 fn slot_of(name: &[u8]) -> usize
     ensures { (result ≡ slot_of name.now) × (result < 2048) }
 {
-    let mut h: usize = 0;
-    let mut i: usize = 0;
-    while i < name.len() {
-        h = (h * 37 + name[i] as usize) % 2048;
-        i += 1;
+    let mut h = 0;
+    for &b in name {
+        h = (h * 37 + b as usize) % 2048;
     }
     h
 }

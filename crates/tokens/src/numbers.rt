@@ -94,17 +94,12 @@ fn fed(r: Run, b: u8) -> Run
 fn measured(w: &[u8]) -> Run
     ensures { result ≡ feed_all w.now begin }
 {
-    let mut run = Run {
+    let begin = Run {
         dots: 0,
         digits: 0,
         decimals: 0,
     };
-    let mut i: usize = 0;
-    while i < w.len() {
-        run = fed(run, w[i]);
-        i += 1;
-    }
-    run
+    w.iter().fold(begin, |run, &b| fed(run, b))
 }
 
 fn judged(dots: u32, digits: u64, decimals: u32) -> Result<(), Ground>

@@ -20,10 +20,8 @@ pub fn key_of(w: &[u8]) -> u64
         return 0;
     }
     let mut k: u64 = 1;
-    let mut i = w.len();
-    while 0 < i {
-        i -= 1;
-        k = k * 256 + w[i] as u64;
+    for &b in w.iter().rev() {
+        k = k * 256 + b as u64;
     }
     k
 }
