@@ -101,25 +101,6 @@ onto_least k (b ∷ w) = omega (arith, onto_least k w)
 pub onto_room : (w : List ℕ) → Bytes w → length w ≤ 6 → (k : ℕ) (v : List ℕ) → pack_onto k v ≡ pack w → k < 2 ^ 50
 onto_room w h l k v e = omega (arith, onto_least k v, e, pack_six w h l)
 
-pack_cons : (w : List ℕ) (i : ℕ) → i < length w → pack (drop i w) ≡ get_or w i 0 + 256 * pack (drop (i + 1) w)
-unfolding pack
-pack_cons w i h = rw (add-one, drop-cons w i 0 h)
-
--- the key of a word, from its last byte to its first
-module _ (w : List ℕ) (i : ℕ) where
-  pub key_room : Bytes w → length w ≤ 6 → pack (drop i w) < 2 ^ 50
-  key_room h l = pack_six (drop i w) (bytes_drop i w h) (simp length-drop (omega arith))
-
-  pub key_turn : 0 < i → i ≤ length w → pack (drop i w) * 256 + get_or w (i - 1) 0 ≡ pack (drop (i - 1) w)
-  key_turn p l =
-      let e : i - 1 + 1 ≡ i = omega arith in
-      let q : pack (drop (i - 1) w) ≡ get_or w (i - 1) 0 + 256 * pack (drop i w) = rw e at (pack_cons w (i - 1) (omega arith)) in
-      omega arith
-
-pub key_none : (w : List ℕ) → 1 ≡ pack (drop (length w) w)
-unfolding pack
-key_none w = rw (drop_of_length-le w {i = length w} (omega arith))
-
 key_again : (a b x y : ℕ) → a ≡ b → eqb x y ≡ eqb (b + 256 * x) (a + 256 * y)
 key_again a b x y e = go (eqb x y) refl
   where
@@ -221,9 +202,6 @@ none_of f g es h no_such = go (eqb (entry f es).1 99) refl
 module _ (s : String) (w : List ℕ) (i : ℕ) where
   pub unlike_at : (get_or w i 0 ≡ get_or (bytes s) i 0 → ⊥) → same (bytes s) w ≡ false
   unlike_at h = same_not (bytes s) w (λ e. h (ap (λ (v : List ℕ). get_or v i 0) (sym e)))
-
-  pub unlike_byte : eqb (get_or w i 0) (get_or (bytes s) i 0) ≡ false → same (bytes s) w ≡ false
-  unlike_byte q = unlike_at (eqb-false _ _ q)
 
 -- the words of a table that have n bytes
 abbrev pub sized : ℕ → List (String × ℕ) → List (String × ℕ)

@@ -11,13 +11,6 @@ use lib.ListN.{length, get_or, take, drop, drop_of_length-le}
 use lib.Seq.{drop-cons}
 use Rattle.tokens.specs.Text.{leading, other}
 
--- where the byte differs from another, and where it does not
-pub other_true : (a b : ℕ) → (b ≡ a → ⊥) → other a b ≡ true
-other_true a b h = ap not (ne_eqb b a h)
-
-pub other_false : (a b : ℕ) → b ≡ a → other a b ≡ false
-other_false a b h = ap not (eq-eqb b a h)
-
 module _ (f : ℕ → Bool) where
   leading_cons : (b : ℕ) (bs : List ℕ) → f b ≡ true → leading f (b ∷ bs) ≡ suc (leading f bs)
   unfolding leading
