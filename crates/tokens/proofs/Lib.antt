@@ -8,6 +8,7 @@ pub mod Closers
 pub mod Leading
 pub mod Chains
 pub mod KeyLaws
+pub mod WordLaws
 pub mod NumberLaws
 pub mod TableLaws
 pub mod FloatLaws
