@@ -14,17 +14,10 @@ use borrow.Author.Tests.{eq-eqb, ne_eqb, eqb-true, eqb-false}
 use Rattle.tokens.specs.Text.{count, continuation}
 use Rattle.tokens.specs.Places.{line, since, column}
 use Rattle.std.specs.List.{take_while}
-use Rattle.std.proofs.lemmas.List.{reverse-reverse}
+use Rattle.std.proofs.lemmas.List.{reverse-reverse, take_min}
 use Rattle.std.proofs.lemmas.Grind.{reverse_onto}
 use Rattle.std.proofs.lemmas.List.Sums.{take_while-cons}
 use Rattle.tokens.proofs.TextLaws.{count_few, count_join}
-
--- a place behind the end is taken as the end
-take_min : (n : ℕ) (s : List ℕ) → take (min n (length s)) s ≡ take n s
-take_min n s =
-    min_cases n (length s) (take (min n (length s)) s ≡ take n s)
-    (λ h e. rw e)
-    (λ h e. rw (e, take_all n s h) (take_all (length s) s (le_refl (length s))))
 
 -- ---- the line
 

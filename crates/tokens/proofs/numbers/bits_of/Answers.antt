@@ -5,6 +5,6 @@ use Rattle.tokens.proofs.numbers.bits_of.Goals as goal
 pub parted-requires : goal.parted-requires
 parted-requires c = rw c.value_of-x.ensures (neg_number _ (value_number _))
 
-pub parted-requires-2 : goal.parted-requires-2
-parted-requires-2 c = rw c.value_of-x.ensures (value_number _)
+pub parted-requires-else-minus : goal.parted-requires-else-minus
+parted-requires-else-minus c = rw c.value_of-x.ensures (value_number _)
 
