@@ -26,7 +26,7 @@ impl From<Refusal> for Mark {
         Mark {
             start: e.byte,
             end: e.byte,
-            code: 100 + e.ground.number() as u8,
+            code: 100 + e.cause.number() as u8,
         }
     }
 }
@@ -81,7 +81,7 @@ fn sign_at(s: &[u8], at: usize) -> Result<Mark, Refusal>
         });
     }
     Err(Refusal {
-        ground: Ground::Character,
+        cause: Ground::Character,
         byte: at,
     })
 }
@@ -112,7 +112,7 @@ fn number_at(s: &[u8], at: usize) -> Result<Mark, Refusal>
             end,
             code: NUMBER,
         }),
-        Err(ground) => Err(Refusal { ground, byte: at }),
+        Err(ground) => Err(Refusal { cause: ground, byte: at }),
     }
 }
 
@@ -130,7 +130,7 @@ fn string_at(s: &[u8], at: usize) -> Result<Mark, Refusal>
         });
     }
     Err(Refusal {
-        ground: Ground::OpenString,
+        cause: Ground::OpenString,
         byte: at,
     })
 }

@@ -89,7 +89,7 @@ pub fn script_end(bytes: &[u8]) -> Result<usize, Refusal>
     let end = find(&bytes[..most], 0, 0);
     if Cursor::BYTES < end {
         return Err(Refusal {
-            ground: Ground::TooLong,
+            cause: Ground::TooLong,
             byte: 0,
         });
     }
