@@ -1,5 +1,5 @@
 -- Records and entries one after the other in lent memory: each is written where it fits whole.
-use Rattle.std.specs.Prelude.{List, [], ◌∷◌, ◌++◌, ℕ, suc, ◌+◌, ◌-◌, ◌*◌, ◌/◌, leb, ltb, length, set, drop, if◌then◌else◌}
+use Rattle.std.specs.Prelude.{Option, Some, None, List, [], ◌∷◌, ◌++◌, map, get_or, ℕ, zero, suc, ◌+◌, ◌-◌, ◌*◌, ◌/◌, leb, ltb, length, set, drop, if◌then◌else◌}
 use Rattle.grammar.specs.Sizes.{record_width, entry_width}
 use Rattle.grammar.specs.Trees.{Tree, Trees, node, nil, ◌▹◌, fields, parts, sizes, row}
 use Rattle.grammar.specs.Latest.{latest_in}
@@ -58,6 +58,20 @@ kind_number kind.Pays = 36
 kind_number kind.Assign = 37
 kind_number kind.If = 38
 kind_number kind.ForEach = 39
+
+-- in the order of their numbers
+abbrev pub kinds : List Kind
+kinds =
+    kind.Variable ∷ kind.Constant ∷ kind.True ∷ kind.False ∷ kind.String ∷ kind.List ∷ kind.UnaryMinus ∷ kind.Add
+    ∷ kind.Subtract ∷ kind.Multiply ∷ kind.Divide ∷ kind.Pow ∷ kind.Equal ∷ kind.NotEqual ∷ kind.Superior ∷ kind.Inferior
+    ∷ kind.SuperiorOrEqual ∷ kind.InferiorOrEqual ∷ kind.And ∷ kind.Or ∷ kind.Ln ∷ kind.Exp ∷ kind.Min ∷ kind.Max
+    ∷ kind.Cvg ∷ kind.Fif ∷ kind.Range ∷ kind.Index ∷ kind.Append ∷ kind.Mean ∷ kind.Std ∷ kind.Spot ∷ kind.EquitySpot
+    ∷ kind.Df ∷ kind.RateIndex ∷ kind.Pays ∷ kind.Assign ∷ kind.If ∷ kind.ForEach ∷ []
+
+-- the kind that has this number, where one has it
+unfoldable pub kind_at : ℕ → Option Kind
+kind_at zero = None
+kind_at (suc n) = get_or (map (λ k. Some k) kinds) n None
 
 -- the words of a node as the code has it
 abbrev pub node_row : Node → List ℕ

@@ -19,6 +19,7 @@ use tokens::refusals::Ground;
 use tokens::text::equal;
 use tokens::words::key_of;
 
+#[tactic(auto, unfolding(crate::specs::Computing::computing))]
 fn call_by(key: u64) -> Option<Kind>
     ensures { kind_or_none result ≡ call_by key }
 {

@@ -45,7 +45,7 @@ pub fn read(
     };
     match read_in(script, two, lists, records, directory) {
         Ok(accepted) => accepted,
-        Err(e) => refusal(script, e.ground.number(), e.byte),
+        Err(e) => refusal(script, e.cause.number(), e.byte),
     }
 }
 
@@ -62,7 +62,7 @@ fn read_in(
     let c = judge(script, two, lists)?;
     if c.records > record_room(records.len()) || c.statements > statement_room(directory.len()) {
         return Err(Refusal {
-            ground: Ground::Room,
+            cause: Ground::Room,
             byte: c.bytes,
         });
     }
