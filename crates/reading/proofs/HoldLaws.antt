@@ -475,7 +475,7 @@ pub second_is : {t : List ℕ} {c d : Cursor} → Follows t c d → (c.code ≡ 
 second_is {t} {c} {d} w some = ap (λ (u : Token). u.kind) (read_second (toks_at t c.start) (token_at t c) (toks_at t d.start) (w.reads some)) ∙ first_kind w.holds
 
 -- there is a token to read
-pub reads_some : (ts : List Token) (u : Token) (b : ℕ) → read (ts ++ (u ∷ [])) ≡ refused 8 b → ⊥
+pub reads_some : (ts : List Token) (u : Token) {k : ℕ} (b : ℕ) → read (ts ++ (u ∷ [])) ≡ refused k b → ⊥
 unfolding read
 reads_some [] u b e = let z : ◌≡◌ {A = ℕ} 0 1 = cc in omega arith
 reads_some (t ∷ ts) u b e = let z : ◌≡◌ {A = ℕ} 0 1 = cc in omega arith

@@ -1,7 +1,8 @@
 -- Kinds and their numbers.
 use mathlib.Core.Path.{◌≡◌, refl, sym, ap, ◌∙◌}
 use mathlib.Core.Bool.{false}
-use Prim.Native.Nat.{ℕ}
+use Prim.Native.Nat.{ℕ, zero, suc, ◌≤◌}
+use native.Mathlib.Omega.{arith}
 use lib.Dec.{eqb}
 use borrow.Author.Tests.{ne_eqb}
 use Rattle.std.specs.Prelude.{Option, Some, None}
@@ -54,3 +55,11 @@ kind_back kind.ForEach = refl
 
 pub kind_other : (k j : Kind) → (k ≡ j → ⊥) → eqb (kind_number k) (kind_number j) ≡ false
 kind_other k j z = ne_eqb (kind_number k) (kind_number j) (λ e. z (let p : Some k ≡ Some j = sym (kind_back k) ∙ (ap kind_at e ∙ kind_back j) in cc))
+
+pub kind_some : (k : Kind) → 1 ≤ kind_number k
+unfolding kind_at
+kind_some k = go (kind_number k) (kind_back k)
+  where
+    go : (n : ℕ) → kind_at n ≡ Some k → 1 ≤ n
+    go zero p = absurd (let z : ◌≡◌ {A = ℕ} 0 1 = cc in omega arith)
+    go (suc n) p = omega arith

@@ -10,7 +10,6 @@ pub mod StepLaws
 pub mod CallLaws
 pub mod AtomLaws
 pub mod CallingLaws
-pub mod HeadLaws
 pub mod ItemLaws
 pub mod PostfixLaws
 pub mod AssignLaws

@@ -437,7 +437,7 @@ fn call(
     if let Err(ground) = call_fault(s, language.lists.counters, kind, r.count, r.texts) {
         return Err(Fault::at(c, ground));
     }
-    put(out, m, plain(kind as u32, m - n + 1, r.count, c.start));
+    put(out, m, plain(kind.number(), m - n + 1, r.count, c.start));
     Ok(Read {
         at: r.at,
         records: m + 1,
@@ -585,7 +585,7 @@ fn method(
     let Some(kind) = method_of(&s[a..b], r.count) else {
         return Err(Fault::at(c, Ground::Arguments));
     };
-    put(out, k, plain(kind as u32, k - n + 1, r.count + 1, place));
+    put(out, k, plain(kind.number(), k - n + 1, r.count + 1, place));
     Ok(Read {
         at: r.at,
         records: k + 1,

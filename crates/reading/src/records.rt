@@ -47,6 +47,14 @@ pub enum Kind {
     ForEach = 39,
 }
 
+impl Kind {
+    pub fn number(self) -> u32
+        ensures { result ≡ kind_number self }
+    {
+        self as u32
+    }
+}
+
 // The words of a record: kind, nodes in subtree, direct parts, f1 to f4, place.
 #[derive(Clone, Copy)]
 pub struct Node {
@@ -87,7 +95,7 @@ pub fn leaf(kind: Kind, f1: u32, f2: u32, f3: u32, f4: u32, place: u16) -> Node
     ensures { result ≡ record { kind = kind_number kind; nodes = 1; parts = 0; f1 = f1; f2 = f2; f3 = f3; f4 = f4; place = place } }
 {
     Node {
-        kind: kind as u32,
+        kind: kind.number(),
         nodes: 1,
         parts: 0,
         f1,
