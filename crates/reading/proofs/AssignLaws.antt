@@ -66,7 +66,7 @@ module _ (W : Language) (t : List ℕ) (c : Cursor) (h : Holds t c) where
 
     pub head_reserved : is_some (index_of (place W.reserved (token_at t c).text)) ≡ true → loop_head W (toks_at t c.start) ≡ refused 9 c.start
     unfolding ◌>>◌ ◌>>=◌
-    head_reserved z = head_named ∙ ap (bind (λ x. the "in" >> give (token_at t c))) (named_not W h (λ y. true≢false (sym z ∙ ap (λ (k : ℕ). is_some (index_of k)) y)) (toks_at t d.start))
+    head_reserved z = head_named ∙ ap (bind (λ x. the "in" >> give (token_at t c))) (named_not W h refl z (toks_at t d.start))
 
     module _ (free : is_some (index_of (place W.reserved (token_at t c).text)) ≡ false) where
       head_in : loop_head W (toks_at t c.start) ≡ (the "in" >> give (token_at t c)) (toks_at t d.start)

@@ -272,20 +272,20 @@ module _ {t : List ℕ} {c d : Cursor} (h : Holds t c) (w : Follows t c d) where
   }
 
   -- a truth value and its record
-  pub truth_reads : 3 ≤ c.code → c.code ≤ 4 → {n : ℕ} {o o' : List ℕ} → o' ≡ put_row o n (row c.code 1 0 none c.start)
-      → Reads t (atom (toks_at t c.start)) n o d (n + 1) 0 o'
+  pub true_reads : c.code ≡ 3 → {n : ℕ} {o o' : List ℕ} → o' ≡ put_row o n (row 3 1 0 none c.start) → Reads t (atom (toks_at t c.start)) n o d (n + 1) 0 o'
   unfolding code entry give
-  truth_reads l m q = leaf_reads c.code c.start [] none (λ z. omega arith) w.holds (atom_peek h ∙ go (eqb 3 c.code) refl) q
-    where
-      go : (b : Bool) → eqb 3 c.code ≡ b → atom_by (token_at t c) (toks_at t c.start) ≡ ok (leaf c.code c.start none) (toks_at t d.start)
-      go true e =
-          let k : 3 ≡ c.code = eqb-true 3 c.code e in
-          rw (ne_eqb 2 c.code (λ z. omega arith), e)
-          (the_next h w (λ z. omega arith) "true" k (give (leaf 3 c.start none)) ∙ ap (λ x. ok (leaf x c.start none) (toks_at t d.start)) k)
-      go false e =
-          let k : 4 ≡ c.code = omega (arith, eqb-false 3 c.code e) in
-          rw (ne_eqb 2 c.code (λ z. omega arith), e, eq-eqb 4 c.code k)
-          (the_next h w (λ z. omega arith) "false" k (give (leaf 4 c.start none)) ∙ ap (λ x. ok (leaf x c.start none) (toks_at t d.start)) k)
+  true_reads k q =
+      leaf_reads 3 c.start [] none (λ z. omega arith) w.holds
+      (atom_peek h
+      ∙ (rw (ne_eqb 2 c.code (λ e. omega arith), eq-eqb 3 c.code (sym k)) (the_next h w (λ z. omega arith) "true" (sym k) (give (leaf 3 c.start none))))) q
+
+  pub false_reads : c.code ≡ 4 → {n : ℕ} {o o' : List ℕ} → o' ≡ put_row o n (row 4 1 0 none c.start) → Reads t (atom (toks_at t c.start)) n o d (n + 1) 0 o'
+  unfolding code entry give
+  false_reads k q =
+      leaf_reads 4 c.start [] none (λ z. omega arith) w.holds
+      (atom_peek h
+      ∙ (rw (ne_eqb 2 c.code (λ e. omega arith), ne_eqb 3 c.code (λ e. omega arith), eq-eqb 4 c.code (sym k))
+      (the_next h w (λ z. omega arith) "false" (sym k) (give (leaf 4 c.start none))))) q
 
 -- ---- names
 
