@@ -12,7 +12,7 @@ use Rattle.reading.proofs.reading.read.Goals as goal
 named : (c : After-read_in) → c.args.edition ≡ number_of (edition_by c.match-edition.two)
 named c =
     elim c.match-edition.branch [
-      in-1 w ↦ w.in-1.is ∙ ap (λ (b : Bool). number_of (edition_by b)) (sym w.two-is)
+      | in-1 w ↦ w.in-1.is ∙ ap (λ (b : Bool). number_of (edition_by b)) (sym w.two-is)
       | in-2 w ↦ w.in-2.is ∙ ap (λ (b : Bool). number_of (edition_by b)) (sym w.two-is)
     ]
 

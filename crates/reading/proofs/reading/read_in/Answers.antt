@@ -22,7 +22,7 @@ returns-then-c-record_room c =
     let lists = lists_of c.args.lists.now in
     let good = judged_so (goal.at.returns-then-c-record_room c).In_ok-c in
     elim c.then-c-record_room.branch [
-      then-c-record_room-via-then-c-record_room w ↦ leaves_wide E lists c.args.script.now _ _ good c.record_room.ensures w.if-c-record_room.true
+      | then-c-record_room-via-then-c-record_room w ↦ leaves_wide E lists c.args.script.now _ _ good c.record_room.ensures w.if-c-record_room.true
       | then-c-record_room-via-else-c-record_room+then-c-statement_room w ↦ leaves_many E lists c.args.script.now _ _ good c.record_room.ensures w.if-c-record_room.false w.statement_room.ensures w.if-c-statement_room.true
     ]
 
