@@ -234,6 +234,7 @@ fn power(
 // What a sign takes in: a primary, or in the second edition the `**` after it too. Another sign there takes it in itself, so that
 // nested signs need no more stack than in the first edition.
 #[cycle(expressions)]
+#[tactic(auto, using(crate::proofs::StepLaws::meets_as, crate::proofs::StepLaws::signed_here))]
 fn signed(
     s: &[u8],
     language: &Language,
@@ -254,6 +255,7 @@ fn signed(
 
 // A primary.
 #[cycle(expressions)]
+#[tactic(auto, using(crate::proofs::StepLaws::meets_as, crate::proofs::StepLaws::prim_paren, crate::proofs::StepLaws::prim_plus_0, crate::proofs::StepLaws::prim_plus, crate::proofs::StepLaws::prim_list, crate::proofs::StepLaws::prim_pays, crate::proofs::StepLaws::prim_atom, crate::proofs::StepLaws::prim_name, crate::proofs::StepLaws::prim_minus))]
 fn primary(
     s: &[u8],
     language: &Language,
@@ -284,6 +286,7 @@ fn primary(
 
 // What a minus, at c, makes of what stands at d behind it: a negated constant, or UnaryMinus of what it takes in.
 #[cycle(expressions)]
+#[tactic(auto, using(crate::proofs::StepLaws::meets_err, crate::proofs::StepLaws::minus_0, crate::proofs::StepLaws::minus_refused))]
 fn minus(
     s: &[u8],
     language: &Language,
@@ -308,6 +311,7 @@ fn minus(
 
 // An expression in parentheses; d stands behind the opening one, at c.
 #[cycle(expressions)]
+#[tactic(auto, using(crate::proofs::StepLaws::meets_err, crate::proofs::StepLaws::parenthesis_refused))]
 fn parenthesis(
     s: &[u8],
     language: &Language,
@@ -334,6 +338,7 @@ fn parenthesis(
 
 // A list with postfixes; d stands behind its `[`, at c.
 #[cycle(expressions)]
+#[tactic(auto, using(crate::proofs::StepLaws::meets_err, crate::proofs::ItemLaws::list_refused))]
 fn list(
     s: &[u8],
     language: &Language,
@@ -391,6 +396,7 @@ pub fn pays(
 
 // A call or a variable with postfixes: the name stands at c, and d behind it.
 #[cycle(expressions)]
+#[tactic(auto, using(crate::proofs::StepLaws::meets_err, crate::proofs::PostfixLaws::name_refuses, crate::proofs::PostfixLaws::name_reads, crate::proofs::PostfixLaws::name_special, crate::proofs::PostfixLaws::call_kind_high))]
 fn name(
     s: &[u8],
     language: &Language,
@@ -419,6 +425,7 @@ fn name(
 
 // An ordinary call, whose record has this kind: its name stands at c, and d behind it.
 #[cycle(expressions)]
+#[tactic(auto, using(crate::proofs::StepLaws::meets_err, crate::proofs::ItemLaws::call_refused))]
 fn call(
     s: &[u8],
     language: &Language,
@@ -447,6 +454,7 @@ fn call(
 
 // An argument list and both its parentheses.
 #[cycle(expressions)]
+#[tactic(auto, using(crate::proofs::StepLaws::items_err, crate::proofs::ItemLaws::arguments_no, crate::proofs::ItemLaws::arguments_0, crate::proofs::ItemLaws::arguments_refused))]
 fn arguments(
     s: &[u8],
     language: &Language,
