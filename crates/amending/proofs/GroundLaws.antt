@@ -31,7 +31,7 @@ use Rattle.amending.specs.Entries.{rows_from, pick_at}
 use Rattle.amending.specs.Memory.{Memory, rooms_of, rooms_in, used_in, within, is_edition, amend_in}
 use Rattle.amending.specs.Grounds.{ends_whole, ends_shut, ends_at, Ends, Few, words_at, Stands, alone, totals, fitting_by, Fits, latest_then, MeetsVerdict}
 use Rattle.amending.specs.declared.held.Held.{Held}
-use Rattle.amending.specs.declared.grounds.Row.{Row as Line}
+use Rattle.amending.specs.declared.rows.Row.{Row as Line}
 use Rattle.amending.specs.declared.grounds.Verdict.TheVariants as verdict
 use Rattle.amending.proofs.Flags.{no, yes, left, right, cases, same}
 use Rattle.amending.proofs.EntryLaws.{pick_here, pick_past, rows_split, rows_count}

@@ -5,15 +5,15 @@ use mathlib.Core.List.{List, [], ◌∷◌, ◌++◌, map}
 use Prim.Native.Nat.{ℕ, ◌+◌, ◌-◌, ◌*◌, ◌≤◌, ◌<◌, max}
 use native.Mathlib.Omega.{arith}
 use lib.Dec.{leb, ltb, eqb}
-use lib.ListN.{length}
+use lib.ListN.{length, drop}
 use borrow.Author.Tests.{ltb-true, leb-true, eqb-true, lt-ltb, le-leb, eq-eqb}
 use Rattle.grammar.specs.Sizes.{entry_width}
 use Rattle.grammar.specs.Words.{Row, latest_of}
 use Rattle.amending.specs.Amending.{Pick}
 use Rattle.amending.specs.Lent.{ascending, sum_records, sum_tokens}
-use Rattle.amending.specs.Entries.{rows_from, row_fits}
+use Rattle.amending.specs.Entries.{row_at, rows_from, row_fits}
 use Rattle.amending.proofs.Flags.{no, yes, left, right, cases, same}
-use Rattle.amending.proofs.EntryLaws.{rows_none}
+use Rattle.amending.proofs.EntryLaws.{rows_turn, rows_none}
 
 -- ---- what `ascending` tells
 
@@ -137,6 +137,14 @@ counted_turn i j m t x y r rs =
       records_left = omega arith;
       tokens_left = omega arith;
     })))))
+
+-- so of the n entries of a directory, those from number k on
+pub counted_next : (d : List ℕ) (k n i j m t x y : ℕ) → k < n
+    → let r : Row = row_at d (entry_width * k) in
+    counted i j m t x y (rows_from (n - k) (drop (entry_width * k) d))
+    ≡ (row_fits i m t r && counted r.end j (m - r.records) (t - r.tokens) x (max y r.latest) (rows_from (n - (k + 1)) (drop (entry_width * (k + 1)) d)))
+counted_next d k n i j m t x y h =
+    ap (counted i j m t x y) (rows_turn d k n h) ∙ counted_turn i j m t x y (row_at d (entry_width * k)) (rows_from (n - (k + 1)) (drop (entry_width * (k + 1)) d))
 
 -- no entry is left
 pub counted_none : (d : List ℕ) (i j m t x y k : ℕ) → k ≡ 0 → counted i j m t x y (rows_from k d) ≡ (leb i j && (eqb m 0 && (eqb t 0 && eqb x y)))

@@ -55,11 +55,11 @@ shift_at p rest a b r t x old new n =
     let ys : List ℕ = moved_place old new a ∷ moved_place old new b ∷ r ∷ t ∷ x ∷ rest in
     rw (take-append-add p ys 5, drop-append-add p ys 5) (append_assoc p (take 5 ys) (moved_words old new n rest))
 
--- what is still to be moved, moved in what is there, comes to the same before and after
-pub shift_turn : (s : List ℕ) (at n old new u v : ℕ) → 0 < n → at + 5 ≤ length s → u ≡ moved_place old new (get_or s at 0) → v ≡ moved_place old new (get_or (set s at u) (at + 1) 0)
+-- one entry's two places, moved where it stands
+shift_one : (s : List ℕ) (at n old new u v : ℕ) → 0 < n → at + 5 ≤ length s → u ≡ moved_place old new (get_or s at 0) → v ≡ moved_place old new (get_or (set s at u) (at + 1) 0)
     → let s' : List ℕ = set (set s at u) (at + 1) v in
     take at s ++ moved_words old new n (drop at s) ≡ take (at + 5) s' ++ moved_words old new (n - 1) (drop (at + 5) s')
-shift_turn s at n old new u v some room eu ev =
+shift_one s at n old new u v some room eu ev =
     let p : List ℕ = take at s in
     let lp : length p ≡ at = length-take-le at s (omega arith) in
     let k : n ≡ suc (n - 1) = omega arith in
@@ -83,6 +83,17 @@ shift_turn s at n old new u v some room eu ev =
     ∙ sym (shift_at p rest a b r t x old new (n - 1))
     ∙ ap (λ (i : ℕ). take (i + 5) (p ++ (moved_place old new a ∷ moved_place old new b ∷ r ∷ t ∷ x ∷ rest)) ++ moved_words old new (n - 1) (drop (i + 5) (p ++ (moved_place old new a ∷ moved_place old new b ∷ r ∷ t ∷ x ∷ rest)))) lp
     ∙ sym (ap (λ (l : List ℕ). take (at + 5) l ++ moved_words old new (n - 1) (drop (at + 5) l)) stored)
+
+-- what is still to be moved, moved in what is there, comes to the same before and after the entry k of those up to number `to`
+pub shift_turn : (s : List ℕ) (k to old new u v : ℕ) → k < to → entry_width * k + 5 ≤ length s → u ≡ moved_place old new (get_or s (entry_width * k) 0)
+    → v ≡ moved_place old new (get_or (set s (entry_width * k) u) (entry_width * k + 1) 0)
+    → let s' : List ℕ = set (set s (entry_width * k) u) (entry_width * k + 1) v in
+    take (entry_width * k) s ++ moved_words old new (to - k) (drop (entry_width * k) s)
+    ≡ take (entry_width * (k + 1)) s' ++ moved_words old new (to - (k + 1)) (drop (entry_width * (k + 1)) s')
+shift_turn s k to old new u v some room eu ev =
+    let on : entry_width * (k + 1) ≡ entry_width * k + 5 = omega arith in
+    let less : to - (k + 1) ≡ to - k - 1 = omega arith in
+    rw (on, less) (shift_one s (entry_width * k) (to - k) old new u v (omega arith) room eu ev)
 
 pub shift_none : (s : List ℕ) (old new n at : ℕ) → n ≡ 0 → take at s ++ moved_words old new n (drop at s) ≡ s
 unfolding moved_words

@@ -13,7 +13,7 @@ use Rattle.amending.specs.Lent.{Handed, handed, unchanged, ascending, sum_record
 use Rattle.amending.specs.Memory.{Memory, rooms_in, used_in, within, amend_in, held_by, dated, left_in, accepted_with, refused_at}
 use Rattle.amending.specs.Entries.{rows_from, pick_at}
 use Rattle.amending.specs.declared.held.Held.{Held}
-use Rattle.amending.specs.declared.grounds.Row.{Row}
+use Rattle.amending.specs.declared.rows.Row.{Row}
 use Rattle.amending.specs.declared.grounds.Verdict.{Verdict}
 use Rattle.amending.specs.declared.grounds.Verdict.TheVariants as verdict
 

@@ -4,10 +4,11 @@ ghost use Rattle.reading.specs.Judging.{lists_in};
 ghost use Rattle.amending.specs.Memory.{memory, amend_in, dated, accepted_with, refused_at, Amends};
 ghost use Rattle.amending.specs.Grounds.{Ready, Fits, Left};
 
-use crate::grounds::{Verdict, row_at, verdict_on};
+use crate::grounds::{Verdict, verdict_on};
 use crate::held::Held;
-use crate::moves::{replace_bytes, resize_words};
+use crate::moves::{replace_bytes, resize};
 use crate::orders::{latest_then, records_before};
+use crate::rows::Row;
 use crate::shifts::shift_entries;
 use reading::judging::Counts;
 use reading::reading::{Answer, read, refusal};
@@ -56,28 +57,31 @@ fn replace(
     directory: &mut [u32],
     c: Counts,
 ) -> usize
-    requires { Ready script.old records.old directory.old held statement text.now c × ((w : Held) × Fits (lists_in reserved.now currencies.now counters.now) (memory script.old records.old directory.old) held statement text.now c w) }
+    requires ready { Ready script.old records.old directory.old held statement text.now c }
+    requires fits { (w : Held) × Fits (lists_in reserved.now currencies.now counters.now) (memory script.old records.old directory.old) held statement text.now c w }
     ensures { Left held (amend_in (lists_in reserved.now currencies.now counters.now) (memory script.old records.old directory.old) held statement text.now) (memory script.old records.old directory.old) result (memory script.new records.new directory.new) }
 {
     let at = ENTRY_WIDTH * statement;
-    let row = row_at(directory, at);
+    let row = Row::at(directory, statement);
     let from = RECORD_WIDTH * records_before(directory, statement);
     let later = statement + c.statements;
     let statements = held.statements - 1 + c.statements;
     replace_bytes(script, held.bytes, row.start, row.end, text);
-    resize_words(
+    resize(
         records,
         RECORD_WIDTH * held.records,
         from,
         from + RECORD_WIDTH * row.records,
         RECORD_WIDTH * c.records,
+        0,
     );
-    resize_words(
+    resize(
         directory,
         ENTRY_WIDTH * held.statements,
         at,
         at + ENTRY_WIDTH,
         ENTRY_WIDTH * c.statements,
+        0,
     );
     let records_end = from + RECORD_WIDTH * c.records;
     let entries_end = at + ENTRY_WIDTH * c.statements;

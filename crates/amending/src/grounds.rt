@@ -1,29 +1,19 @@
 // On what grounds an amendment is refused: 26, 20, 17, 19, then the new text read alone (1 to 15), 18, 16 over the totals.
-ghost use Rattle.std.specs.Prelude.{◌≡◌, ◌+◌, ◌≤◌, length};
-ghost use Rattle.grammar.specs.Sizes.{entry_width};
+ghost use Rattle.std.specs.Prelude.{◌≡◌, ◌≤◌, length};
 ghost use Rattle.reading.specs.Judging.{lists_in};
 ghost use Rattle.amending.specs.Memory.{memory, rooms_of, within, is_edition};
-ghost use Rattle.amending.specs.Grounds.{ends_whole, ends_shut, Ends, words_at, Stands, Few, alone, totals, fitting_by, MeetsVerdict};
+ghost use Rattle.amending.specs.Grounds.{ends_whole, ends_shut, Ends, Stands, Few, alone, totals, fitting_by, MeetsVerdict};
 
 use crate::held::Held;
-use crate::orders::{in_order, wide};
+use crate::orders::in_order;
+use crate::rows::Row;
 use reading::judging::{Counts, Judged, is_clear, judge};
-use reading::rooms::{ENTRY_WIDTH, MOST_TOKENS, byte_room, record_room, statement_room};
+use reading::rooms::{MOST_TOKENS, byte_room, record_room, statement_room};
 
 // The bytes `;` and `}`.
 const SEMICOLON: u8 = 59;
 
 const BRACE: u8 = 125;
-
-// The words of a directory entry.
-#[derive(Drop)]
-pub struct Row {
-    pub start: usize,
-    pub end: usize,
-    pub records: usize,
-    pub tokens: usize,
-    pub latest: usize,
-}
 
 // What the new text holds, and what is used with it in place, but for the latest date, which its entries tell once they are
 // there; or a refusal: its number, and its byte in the new text.
@@ -52,14 +42,7 @@ pub fn verdict_on(
     if !is_within(script.len(), records.len(), directory.len(), held) {
         return Verdict::Refused(20, 0);
     }
-    if !in_order(
-        directory,
-        held.statements,
-        held.bytes,
-        held.records,
-        held.tokens,
-        held.latest,
-    ) {
+    if !in_order(directory, &held) {
         return Verdict::Refused(20, 0);
     }
     if held.statements <= statement {
@@ -75,7 +58,7 @@ pub fn verdict_on(
             records.len(),
             directory.len(),
             held,
-            row_at(directory, ENTRY_WIDTH * statement),
+            Row::at(directory, statement),
             text,
             c,
         ),
@@ -185,20 +168,6 @@ fn is_shut(text: &[u8], last: usize, tokens: usize) -> bool
         return true;
     }
     false
-}
-
-// The entry whose words stand at an index.
-pub fn row_at(directory: &[u32], i: usize) -> Row
-    requires { i + entry_width ≤ length directory.now }
-    ensures { result ≡ words_at directory.now i }
-{
-    Row {
-        start: wide(directory[i]),
-        end: wide(directory[i + 1]),
-        records: wide(directory[i + 2]),
-        tokens: wide(directory[i + 3]),
-        latest: wide(directory[i + 4]),
-    }
 }
 
 // What is used with the new text in place of an entry.

@@ -6,4 +6,5 @@ mod grounds;
 pub mod held;
 mod moves;
 mod orders;
+mod rows;
 mod shifts;

@@ -4,19 +4,13 @@ ghost use Rattle.amending.specs.Entries.{moved_place, shifted};
 
 use reading::rooms::ENTRY_WIDTH;
 
-// The greatest place that a word holds.
-const MOST: u32 = 4294967295;
-
+#[tactic(auto, using(crate::proofs::ShiftLaws::moved_yes, crate::proofs::ShiftLaws::moved_no))]
 fn moved_place(w: u32, old: u32, new: u32) -> u32
     ensures { result ≡ moved_place old new w }
 {
-    if w < old {
-        return w;
-    }
-    if MOST - (w - old) < new {
-        return w;
-    }
-    w - old + new
+    w.checked_sub(old)
+        .and_then(|past| past.checked_add(new))
+        .unwrap_or(w)
 }
 
 // Moves the starts and ends of the entries from number `from` up to, not including, number `to` as far as `new` is from `old`;
@@ -27,20 +21,12 @@ pub fn shift_entries(directory: &mut [u32], from: usize, to: usize, old: u32, ne
     if directory.len() / ENTRY_WIDTH < to {
         return;
     }
-    if to <= from {
-        return;
-    }
     if old == new {
         return;
     }
-    let mut left = to - from;
-    let mut at = from * ENTRY_WIDTH;
-    while 0 < left {
-        let start = moved_place(directory[at], old, new);
-        directory[at] = start;
-        let end = moved_place(directory[at + 1], old, new);
-        directory[at + 1] = end;
-        at += ENTRY_WIDTH;
-        left -= 1;
+    for number in from..to {
+        let at = ENTRY_WIDTH * number;
+        directory[at] = moved_place(directory[at], old, new);
+        directory[at + 1] = moved_place(directory[at + 1], old, new);
     }
 }

@@ -9,7 +9,8 @@ replace-latest-requires c =
     let args = c.args in
     let lists = lists_in args.reserved.now args.currencies.now args.counters.now in
     let memory' = memory args.script.now args.records.now args.directory.now in
-    (ready lists memory' args.held args.statement args.text.now (verdict_fits lists memory' args.held args.statement args.text.now _ _ c.in-Fits.is c.verdict_on.ensures), (_, verdict_fits lists memory' args.held args.statement args.text.now _ _ c.in-Fits.is c.verdict_on.ensures))
+    let fits = verdict_fits lists memory' args.held args.statement args.text.now _ _ c.in-Fits.is c.verdict_on.ensures in
+    record { ready = ready lists memory' args.held args.statement args.text.now fits; fits = (_, fits) }
 
 pub returns-in-Refused : goal.returns-in-Refused
 returns-in-Refused c =

@@ -40,14 +40,8 @@ returns-then-not-is_clear c =
     let memory' = memory args.script.now args.records.now args.directory.now in
     not_clear (lists_in args.reserved.now args.currencies.now args.counters.now) memory' args.held args.statement args.text.now (edition_by (eqb args.held.edition 2)) (tested args.held.edition (sym c.is_edition.ensures ∙ not-false _ c.if-not-is_edition.false-raw)) (within_are (rooms_in memory') args.held (sym c.is_within.ensures ∙ not-false _ c.if-not-is_within.false-raw)) (sym c.in_order.ensures ∙ not-false _ c.if-not-in_order.false-raw) c.if-held-statement.false (sym c.is_clear.ensures ∙ not-true _ c.if-not-is_clear.true-raw)
 
-pub overflow_mul-statement : goal.overflow_mul-statement
-overflow_mul-statement c =
-    let args = c.args in
-    let memory' = memory args.script.now args.records.now args.directory.now in
-    omega (arith, (bounded memory' args.held (within_are (rooms_in memory') args.held (sym c.is_within.ensures ∙ not-false _ c.if-not-is_within.false-raw))).1, c.if-held-statement.false)
-
-pub row_at-requires : goal.row_at-requires
-row_at-requires c =
+pub at-requires : goal.at-requires
+at-requires c =
     let args = c.args in
     let memory' = memory args.script.now args.records.now args.directory.now in
     entry_in (lists_in args.reserved.now args.currencies.now args.counters.now) memory' args.held args.statement args.text.now (edition_by (eqb args.held.edition 2)) (tested args.held.edition (sym c.is_edition.ensures ∙ not-false _ c.if-not-is_edition.false-raw)) (within_are (rooms_in memory') args.held (sym c.is_within.ensures ∙ not-false _ c.if-not-is_within.false-raw)) (sym c.in_order.ensures ∙ not-false _ c.if-not-in_order.false-raw) c.if-held-statement.false
@@ -59,7 +53,7 @@ fitting-requires c =
     let memory' = memory args.script.now args.records.now args.directory.now in
     let rooms = rooms_in memory' in
     let edition = edition_by (eqb args.held.edition 2) in
-    (subst (Stands args.held) (sym c.row_at.ensures) (one_stands lists memory' args.held args.statement args.text.now edition (tested args.held.edition (sym c.is_edition.ensures ∙ not-false _ c.if-not-is_edition.false-raw)) (within_are rooms args.held (sym c.is_within.ensures ∙ not-false _ c.if-not-is_within.false-raw)) (sym c.in_order.ensures ∙ not-false _ c.if-not-in_order.false-raw) c.if-held-statement.false), ends_ready lists memory' args.held args.statement args.text.now edition (tested args.held.edition (sym c.is_edition.ensures ∙ not-false _ c.if-not-is_edition.false-raw)) (within_are rooms args.held (sym c.is_within.ensures ∙ not-false _ c.if-not-is_within.false-raw)) (sym c.in_order.ensures ∙ not-false _ c.if-not-in_order.false-raw) c.if-held-statement.false (sym c.is_clear.ensures ∙ not-false _ c.if-not-is_clear.false-raw) (judged_good edition lists args.text.now (sym c.judge.ensures ∙ c.in-Good.is)))
+    (subst (Stands args.held) (sym c.at.ensures) (one_stands lists memory' args.held args.statement args.text.now edition (tested args.held.edition (sym c.is_edition.ensures ∙ not-false _ c.if-not-is_edition.false-raw)) (within_are rooms args.held (sym c.is_within.ensures ∙ not-false _ c.if-not-is_within.false-raw)) (sym c.in_order.ensures ∙ not-false _ c.if-not-in_order.false-raw) c.if-held-statement.false), ends_ready lists memory' args.held args.statement args.text.now edition (tested args.held.edition (sym c.is_edition.ensures ∙ not-false _ c.if-not-is_edition.false-raw)) (within_are rooms args.held (sym c.is_within.ensures ∙ not-false _ c.if-not-is_within.false-raw)) (sym c.in_order.ensures ∙ not-false _ c.if-not-in_order.false-raw) c.if-held-statement.false (sym c.is_clear.ensures ∙ not-false _ c.if-not-is_clear.false-raw) (judged_good edition lists args.text.now (sym c.judge.ensures ∙ c.in-Good.is)))
 
 pub returns-in-Refused : goal.returns-in-Refused
 returns-in-Refused c =
@@ -76,4 +70,4 @@ returns-in-Good c =
     let memory' = memory args.script.now args.records.now args.directory.now in
     let rooms = rooms_in memory' in
     let edition = edition_by (eqb args.held.edition 2) in
-    subst (MeetsVerdict lists memory' args.held args.statement args.text.now) (sym (c.fitting.ensures ∙ ap (λ x. fitting_by rooms args.held x args.text.now c.in-Good.c) c.row_at.ensures)) (fitted lists memory' args.held args.statement args.text.now edition (tested args.held.edition (sym c.is_edition.ensures ∙ not-false _ c.if-not-is_edition.false-raw)) (within_are rooms args.held (sym c.is_within.ensures ∙ not-false _ c.if-not-is_within.false-raw)) (sym c.in_order.ensures ∙ not-false _ c.if-not-in_order.false-raw) c.if-held-statement.false (sym c.is_clear.ensures ∙ not-false _ c.if-not-is_clear.false-raw) (judged_good edition lists args.text.now (sym c.judge.ensures ∙ c.in-Good.is)))
+    subst (MeetsVerdict lists memory' args.held args.statement args.text.now) (sym (c.fitting.ensures ∙ ap (λ x. fitting_by rooms args.held x args.text.now c.in-Good.c) c.at.ensures)) (fitted lists memory' args.held args.statement args.text.now edition (tested args.held.edition (sym c.is_edition.ensures ∙ not-false _ c.if-not-is_edition.false-raw)) (within_are rooms args.held (sym c.is_within.ensures ∙ not-false _ c.if-not-is_within.false-raw)) (sym c.in_order.ensures ∙ not-false _ c.if-not-in_order.false-raw) c.if-held-statement.false (sym c.is_clear.ensures ∙ not-false _ c.if-not-is_clear.false-raw) (judged_good edition lists args.text.now (sym c.judge.ensures ∙ c.in-Good.is)))

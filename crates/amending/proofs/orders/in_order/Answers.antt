@@ -1,74 +1,59 @@
-use mathlib.Core.Path.{◌≡◌, sym, ap, ◌∙◌}
-use mathlib.Core.Bool.{true, false, ◌&&◌}
-use mathlib.Core.List.{List}
-use Prim.Native.Nat.{ℕ, ◌+◌, ◌-◌, ◌*◌, max}
+-- Each entry that fits leaves the test of the others; where one does not, the test fails.
+use mathlib.Core.Path.{◌≡◌, sym, ◌∙◌}
+use mathlib.Core.Bool.{◌&&◌}
+use Prim.Native.Nat.{◌+◌, ◌-◌, ◌*◌, max}
+use native.Mathlib.Nat.{sub-zero}
 use native.Mathlib.Omega.{arith}
 use lib.ListN.{length, drop}
-use borrow.Author.Tests.{le-leb, lt-leb, not-true, not-false}
+use borrow.Author.Tests.{le-leb, lt-leb}
 use Rattle.grammar.specs.Sizes.{entry_width}
-use Rattle.grammar.specs.Words.{Row}
-use Rattle.amending.specs.Entries.{row_at, rows_from, row_fits}
-use Rattle.amending.proofs.EntryLaws.{rows_turn}
-use Rattle.amending.proofs.OrderLaws.{Fits, fits_are, told, counted, counted_first, counted_turn, counted_none}
+use Rattle.amending.specs.Entries.{row_at, rows_from, entry, row_fits}
+use Rattle.amending.proofs.OrderLaws.{fits_are, told, counted, counted_first, counted_next, counted_none}
 use Rattle.amending.proofs.orders.in_order.Goals as goal
-use Rattle.amending.proofs.orders.in_order.Goals.{After-row_fits}
+use Rattle.amending.proofs.orders.in_order.Goals.{After-has}
 
--- what is known once an entry was read
-module _ (c : After-row_fits) where
-  abbrev D : List ℕ
-  D = c.args.directory.now
+-- what is known once an entry was tested
+order_is : (c : After-has)
+    → let held = c.args.held.now in
+    let rest = c.loop-number.rest in
+    let row = row_at c.args.directory.now (entry_width * c.loop-number.number) in
+    let next = c.loop-number.number + 1 in
+    told held.bytes held.records held.tokens held.latest (rows_from held.statements c.args.directory.now)
+    ≡ (row_fits rest.after rest.records rest.tokens row && counted row.end held.bytes (rest.records - row.records) (rest.tokens - row.tokens) held.latest (max rest.latest row.latest) (rows_from (held.statements - next) (drop (entry_width * next) c.args.directory.now)))
+order_is c =
+    let held = c.args.held.now in
+    let rest = c.loop-number.rest in
+    c.loop-number.invariant ∙ counted_next c.args.directory.now c.loop-number.number held.statements rest.after held.bytes rest.records rest.tokens held.latest rest.latest c.loop-number-test.true
 
-  abbrev E : Row
-  E = row_at D c.loop-left.at
+pub returns-then-directory-held : goal.returns-then-directory-held
+returns-then-directory-held c = rw (lt-leb (entry_width * c.args.held.now.statements) (length c.args.directory.now) (omega arith))
 
-  result_is : c.row_fits.result ≡ row_fits c.loop-left.after c.loop-left.records_left c.loop-left.tokens_left E
-  result_is = rw (c.wide-start.ensures, c.wide-end.ensures, c.wide-nodes.ensures, c.wide-count.ensures) at c.row_fits.ensures
+pub loop-number-init : goal.loop-number-init
+loop-number-init c =
+    let held = c.args.held.now in
+    simp sub-zero (counted_first held.bytes held.records held.tokens held.latest (rows_from held.statements c.args.directory.now))
 
-  order_is : told c.args.bytes c.args.records c.args.tokens c.args.latest (rows_from c.args.statements D)
-      ≡ (row_fits c.loop-left.after c.loop-left.records_left c.loop-left.tokens_left E
-      && counted E.end c.args.bytes (c.loop-left.records_left - E.records) (c.loop-left.tokens_left - E.tokens) c.args.latest (max c.loop-left.seen E.latest) (rows_from (c.loop-left.left - 1) (drop (c.loop-left.at + entry_width) D)))
-  order_is =
-      c.loop-left.invariant.1
-      ∙ ap (λ (rs : List Row). counted c.loop-left.after c.args.bytes c.loop-left.records_left c.loop-left.tokens_left c.args.latest c.loop-left.seen rs) (rows_turn D c.loop-left.at c.loop-left.left c.loop-left-test.true)
-      ∙ counted_turn c.loop-left.after c.args.bytes c.loop-left.records_left c.loop-left.tokens_left c.args.latest c.loop-left.seen E (rows_from (c.loop-left.left - 1) (drop (c.loop-left.at + entry_width) D))
+pub returns-then-not-has : goal.returns-then-not-has
+returns-then-not-has c =
+    let no = sym (rw c.at-row.ensures at c.has.ensures) ∙ c.if-not-has.true in
+    rw (le-leb (entry_width * c.args.held.now.statements) (length c.args.directory.now) (omega arith)) (sym (rw no at (order_is (goal.at.returns-then-not-has c).After-has)))
 
-  fit : c.row_fits.result ≡ true → Fits c.loop-left.after c.loop-left.records_left c.loop-left.tokens_left E
-  fit b = fits_are c.loop-left.after c.loop-left.records_left c.loop-left.tokens_left E (sym result_is ∙ b)
+pub overflow_sub-rest : goal.overflow_sub-rest
+overflow_sub-rest c = (fits_are c.loop-number.rest.after c.loop-number.rest.records c.loop-number.rest.tokens (entry c.at-row.result) (sym c.has.ensures ∙ c.if-not-has.false)).records_left
 
-pub returns-then-directory-statements : goal.returns-then-directory-statements
-returns-then-directory-statements c =
-    let a = c.args in
-    rw (lt-leb (entry_width * a.statements) (length a.directory.now) (omega arith))
+pub overflow_sub-rest-in-loop-number : goal.overflow_sub-rest-in-loop-number
+overflow_sub-rest-in-loop-number c = (fits_are c.loop-number.rest.after c.loop-number.rest.records c.loop-number.rest.tokens (entry c.at-row.result) (sym c.has.ensures ∙ c.if-not-has.false)).tokens_left
 
-pub loop-left-init : goal.loop-left-init
-loop-left-init c =
-    let a = c.args in
-    (omega arith, counted_first a.bytes a.records a.tokens a.latest (rows_from a.statements a.directory.now))
-
-pub returns-then-not-row_fits : goal.returns-then-not-row_fits
-returns-then-not-row_fits c =
-    let a = c.args in
-    let no : row_fits _ _ _ (E (goal.at.returns-then-not-row_fits c).After-row_fits) ≡ false = sym (result_is (goal.at.returns-then-not-row_fits c).After-row_fits) ∙ not-true _ c.if-not-row_fits.true-raw in
-    rw (le-leb (entry_width * a.statements) (length a.directory.now) (omega arith)) (sym (rw no at (order_is (goal.at.returns-then-not-row_fits c).After-row_fits)))
-
-pub overflow_sub-records_left : goal.overflow_sub-records_left
-overflow_sub-records_left c =
-    let f = fit (goal.at.overflow_sub-records_left c).After-row_fits (not-false _ c.if-not-row_fits.false-raw) in
-    rw c.wide-nodes.ensures f.records_left
-
-pub overflow_sub-tokens_left : goal.overflow_sub-tokens_left
-overflow_sub-tokens_left c =
-    let f = fit (goal.at.overflow_sub-tokens_left c).After-row_fits (not-false _ c.if-not-row_fits.false-raw) in
-    rw c.wide-count.ensures f.tokens_left
-
-pub loop-left-preserved : goal.loop-left-preserved
-loop-left-preserved c =
-    let yes : row_fits _ _ _ (E (goal.at.loop-left-preserved c).After-row_fits) ≡ true = sym (result_is (goal.at.loop-left-preserved c).After-row_fits) ∙ not-false _ c.if-not-row_fits.false-raw in
-    (omega arith, rw (c.wide-end.ensures, c.wide-nodes.ensures, c.wide-count.ensures, c.later-seen.ensures, c.wide.ensures) (rw yes at (order_is (goal.at.loop-left-preserved c).After-row_fits)))
+pub loop-number-preserved : goal.loop-number-preserved
+loop-number-preserved c =
+    let yes = sym (rw c.at-row.ensures at c.has.ensures) ∙ c.if-not-has.false in
+    rw (c.max.ensures, c.at-row.ensures) (rw yes at (order_is (goal.at.loop-number-preserved c).After-has))
 
 pub returns : goal.returns
 returns c =
-    let l = c.loop-left in
-    let a = c.args in
-    rw (le-leb (entry_width * a.statements) (length a.directory.now) (omega arith))
-    (c.all_told.ensures ∙ sym (l.invariant.1 ∙ counted_none (drop l.at a.directory.now) l.after a.bytes l.records_left l.tokens_left a.latest l.seen l.left (omega arith)))
+    let held = c.args.held.now in
+    let rest = c.loop-number.rest in
+    rw (le-leb (entry_width * held.statements) (length c.args.directory.now) (omega arith))
+    (c.is_all_of.ensures
+    ∙ sym (c.loop-number.invariant
+    ∙ counted_none (drop (entry_width * c.loop-number.number) c.args.directory.now) rest.after held.bytes rest.records rest.tokens held.latest rest.latest (held.statements - c.loop-number.number) (omega arith)))

@@ -1,25 +1,17 @@
 use native.Mathlib.Omega.{arith}
+use Prim.Native.Nat.{◌-◌, ◌*◌}
 use lib.ListN.{drop}
-use Rattle.amending.proofs.EntryLaws.{latest_turn, latest_none}
+use Rattle.grammar.specs.Sizes.{entry_width}
+use Rattle.amending.proofs.EntryLaws.{latest_turn, latest_none, reads}
 use Rattle.amending.proofs.orders.latest_entry.Goals as goal
-use Rattle.amending.proofs.orders.latest_entry.Goals.{then-latest-date, else-latest-date}
 
-pub loop-left-init : goal.loop-left-init
-loop-left-init c = (omega arith, omega arith)
-
-pub loop-left-preserved : goal.loop-left-preserved
-loop-left-preserved c =
-    let l = c.loop-left in
-    let t = latest_turn c.args.directory.now l.at l.left c.loop-left-test.true in (
-      omega arith,
-      elim c.if-latest-date.branch [
-        | then-latest-date w ↦ omega (arith, t, l.invariant.1, w.latest-is, w.if-latest-date.true)
-        | else-latest-date w ↦ omega (arith, t, l.invariant.1, w.latest-is, w.if-latest-date.false)
-      ],
-    )
+pub loop-k-preserved : goal.loop-k-preserved
+loop-k-preserved c =
+    let turn = latest_turn c.args.directory.now c.loop-k.k c.args.number c.loop-k-test.true in
+    let row = reads c.args.directory.now (entry_width * c.loop-k.k) _ c.at.ensures in
+    omega arith
 
 pub returns : goal.returns
 returns c =
-    let l = c.loop-left in
-    let z = latest_none (drop l.at c.args.directory.now) l.left (omega arith) in
-    omega (arith, c.wide.ensures)
+    let none = latest_none (drop (entry_width * c.loop-k.k) c.args.directory.now) (c.args.number - c.loop-k.k) (omega arith) in
+    omega arith
