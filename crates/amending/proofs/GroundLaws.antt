@@ -1,5 +1,6 @@
 -- Laws of the verdict on an amendment: what each test of the code tells of the definition.
-use Rattle.std.specs.Prelude.{if◌then◌else◌}
+use Rattle.std.specs.Prelude.{if◌then◌else◌, Result, Ok, Err, MatchResult}
+use Rattle.std.specs.Result.{IsErrAnd}
 use mathlib.Core.Path.{◌≡◌, refl, sym, ap, ◌∙◌, subst}
 use mathlib.Core.Bool.{Bool, true, false, ◌&&◌, ◌||◌, not, false≢true}
 use mathlib.Core.List.{List, [], ◌∷◌, ◌++◌, map}
@@ -17,22 +18,24 @@ use Rattle.grammar.specs.Sizes.{record_width, entry_width, most_records, most_st
 use Rattle.grammar.specs.Grammar.{Edition, Language}
 use Rattle.grammar.specs.Script.{Entry, accepted, refused, read_script, no_zero, tokens_of, language, number_of}
 use Rattle.grammar.specs.Words.{Row, row_of, latest_of}
-use Rattle.reading.specs.Meets.{listed}
-use Rattle.reading.specs.Judging.{last_end as text_end}
+use Rattle.reading.specs.Meets.{edition_by, listed}
+use Rattle.reading.specs.Judging.{last_end as text_end, judgement}
 use Rattle.reading.specs.declared.judging.Counts.{Counts}
+use Rattle.reading.specs.declared.judging.Judged.TheVariants as judged
 use Rattle.grammar.proofs.AmendBytes.{Text, Accepted, read_accepted, script_all, text_tokens, tokens_append}
 use Rattle.grammar.proofs.ReachLaws.{none_end}
 use Rattle.grammar.proofs.Endings.{Snoc, nil, snoc, snoc_of, LastToken, last_token}
-use Rattle.reading.proofs.ReadLaws.{room_in, room_most, Good}
+use Rattle.reading.proofs.ReadLaws.{room_in, room_most, Good, judged_not, judged_good}
 use Rattle.amending.specs.Amend.{ends_well, last_end}
 use Rattle.amending.specs.Amending.{Rooms, Pick, pick}
 use Rattle.amending.specs.Lent.{Lent, handed, unchanged, ascending, sum_records, sum_tokens, over_rows, in_order, swapped, fitting_lent, put_lent, lent_at, amend_lent}
 use Rattle.amending.specs.Entries.{rows_from, pick_at}
-use Rattle.amending.specs.Memory.{Memory, rooms_of, rooms_in, used_in, within, is_edition, amend_in}
-use Rattle.amending.specs.Grounds.{ends_whole, ends_shut, ends_at, Ends, Few, words_at, Stands, alone, totals, fitting_by, Fits, latest_then, MeetsVerdict}
+use Rattle.amending.specs.Memory.{Memory, rooms_in, as_rooms, used_in, within, is_edition, amend_in}
+use Rattle.amending.specs.Grounds.{ends_whole, ends_shut, ends_at, has_order, Ends, Few, words_at, Stands, Admits, alone, totals, fitting_by, Fits, latest_then, MeetsVerdict}
 use Rattle.amending.specs.declared.held.Held.{Held}
+use Rattle.amending.specs.declared.rooms.Rooms.{Rooms as Most}
 use Rattle.amending.specs.declared.rows.Row.{Row as Line}
-use Rattle.amending.specs.declared.grounds.Verdict.TheVariants as verdict
+use Rattle.amending.specs.Verdict as verdict
 use Rattle.amending.proofs.Flags.{no, yes, left, right, cases, same}
 use Rattle.amending.proofs.EntryLaws.{pick_here, pick_past, rows_split, rows_count}
 use Rattle.amending.proofs.OrderLaws.{told, Ordered, ordered, Stands as Inside, stands as inside, records_joined, tokens_joined}
@@ -40,7 +43,7 @@ use Rattle.amending.proofs.SwapLaws.{swapped_records, swapped_tokens, swapped_co
 use Rattle.amending.proofs.LentLaws.{sum_nodes, sum_tokens_lem}
 use Rattle.amending.proofs.Directory.{InOrder, text_order}
 use Rattle.amending.proofs.EndsBy.{ends_by_lem, last_end_lem}
-use Rattle.amending.proofs.Editions.{numbered_is, numbered_none}
+use Rattle.amending.proofs.Editions.{numbered_is, numbered_none, tested}
 
 -- ---- within
 
@@ -152,33 +155,7 @@ module _ (M : Memory) (h : Held) (w : Within (rooms_in M) h) where
           over_no (rooms_in M) (length (take h.bytes M.script)) rows h (sym bytes_used) O.token_sum O.record_sum (sym (rows_count h.statements M.directory)) w in
           yes (ap (λ (n : ℕ). ascending 0 n rows) bytes_used ∙ O.order) (yes (eq-eqb _ _ e) (yes (eq-eqb _ _ O.token_sum) (yes (eq-eqb _ _ O.latest_is) (ap not o))))
 
--- ---- 18
-
-module _ (n : List ℕ) (e : ℕ) where
-  pub whole_empty : length n ≡ 0 → ends_whole n e ≡ true
-  whole_empty h = rw (eq-eqb (length n) 0 h)
-
-  pub whole_line : (length n ≡ 0 → ⊥) → get_or n (length n - 1) 0 ≡ 10 → ends_whole n e ≡ true
-  whole_line z h = rw (ne_eqb (length n) 0 z, eq-eqb (get_or n (length n - 1) 0) 10 h)
-
-  pub whole_token : (length n ≡ 0 → ⊥) → (get_or n (length n - 1) 0 ≡ 10 → ⊥) → e ≡ length n → ends_whole n e ≡ true
-  whole_token z f h = rw (ne_eqb (length n) 0 z, ne_eqb (get_or n (length n - 1) 0) 10 f, eq-eqb e (length n) h)
-
-  pub whole_not : (length n ≡ 0 → ⊥) → (get_or n (length n - 1) 0 ≡ 10 → ⊥) → (e ≡ length n → ⊥) → ends_whole n e ≡ false
-  whole_not z f h = rw (ne_eqb (length n) 0 z, ne_eqb (get_or n (length n - 1) 0) 10 f, ne_eqb e (length n) h)
-
-  module _ (c : ℕ) where
-    pub shut_bare : c ≡ 0 → ends_shut n e c ≡ true
-    shut_bare h = rw (eq-eqb c 0 h)
-
-    pub shut_semicolon : (c ≡ 0 → ⊥) → get_or n (e - 1) 0 ≡ 59 → ends_shut n e c ≡ true
-    shut_semicolon z h = rw (ne_eqb c 0 z, eq-eqb 59 (get_or n (e - 1) 0) (sym h))
-
-    pub shut_brace : (c ≡ 0 → ⊥) → (get_or n (e - 1) 0 ≡ 59 → ⊥) → get_or n (e - 1) 0 ≡ 125 → ends_shut n e c ≡ true
-    shut_brace z f h = rw (ne_eqb c 0 z, ne_eqb 59 (get_or n (e - 1) 0) (λ q. f (sym q)), eq-eqb 125 (get_or n (e - 1) 0) (sym h))
-
-    pub shut_not : (c ≡ 0 → ⊥) → (get_or n (e - 1) 0 ≡ 59 → ⊥) → (get_or n (e - 1) 0 ≡ 125 → ⊥) → ends_shut n e c ≡ false
-    shut_not z f h = rw (ne_eqb c 0 z, ne_eqb 59 (get_or n (e - 1) 0) (λ q. f (sym q)), ne_eqb 125 (get_or n (e - 1) 0) (λ q. h (sym q)))
+-- ---- 18 and 16
 
 -- what the two tests tell of the verdict
 module _ (R : Rooms) (h : Held) (r : Line) (n : List ℕ) (c : Counts) where
@@ -203,15 +180,11 @@ module _ (R : Rooms) (h : Held) (r : Line) (n : List ℕ) (c : Counts) where
     unfolding fitting_by
     all_fits a b = rw (e, f, a, b)
 
--- counts that are within the rooms of slices are few
-pub few_within : (s o d : ℕ) (c : Counts) → within (rooms_of s o d) (alone c) ≡ true → Few c
-few_within s o d c b =
-    let w : Within (rooms_of s o d) (alone c) = within_are (rooms_of s o d) (alone c) b in (
-      omega (arith, w.bytes),
-      omega (arith, w.statements, room_most most_statements (d / entry_width)),
-      omega (arith, w.records, room_most most_records (o / record_width)),
-      w.tokens,
-    )
+-- counts that are within rooms are within the capacities
+pub few_capped : (R : Most) (c : Counts) → within (as_rooms R) (alone c) ≡ true → Few c
+few_capped R c b =
+    let w : Within (as_rooms R) (alone c) = within_are (as_rooms R) (alone c) b in
+    (omega (arith, w.bytes, R.few_bytes), omega (arith, w.statements, R.few_statements), omega (arith, w.records, R.few_records), omega (arith, w.tokens, R.few_tokens))
 
 module _ (W : Language) (n : List ℕ) (ns : List Entry) (X : Text W n ns) where
   -- the last statement ends where the last token does, and there is one where there is a token
@@ -264,7 +237,7 @@ module _ (l : Lists) (M : Memory) (h : Held) (k : ℕ) (n : List ℕ) (E : Editi
       numbered_is E (unchanged 26 0) (λ (F : Edition). if not (within (rooms_in M) h) then unchanged 20 0 else amend_lent F l (rooms_in M) (used_in M h) k n) v
 
   -- 20
-  pub not_within : within (rooms_in M) h ≡ false → amend_in l M h k n ≡ unchanged 20 0
+  not_within : within (rooms_in M) h ≡ false → amend_in l M h k n ≡ unchanged 20 0
   not_within f = by_edition ∙ rw f
 
   module _ (w : Within (rooms_in M) h) where
@@ -274,7 +247,7 @@ module _ (l : Lists) (M : Memory) (h : Held) (k : ℕ) (n : List ℕ) (E : Editi
     pub asked : amend_in l M h k n ≡ amend_lent E l (rooms_in M) (used_in M h) k n
     asked = by_edition ∙ rw (within_yes (rooms_in M) h w)
 
-    pub not_ordered : (leb (entry_width * h.statements) (length d) && told h.bytes h.records h.tokens h.latest (rows_from h.statements d)) ≡ false → amend_in l M h k n ≡ unchanged 20 0
+    not_ordered : (leb (entry_width * h.statements) (length d) && told h.bytes h.records h.tokens h.latest (rows_from h.statements d)) ≡ false → amend_in l M h k n ≡ unchanged 20 0
     unfolding amend_lent
     not_ordered f = asked ∙ rw (order_is M h w ∙ f)
 
@@ -284,7 +257,7 @@ module _ (l : Lists) (M : Memory) (h : Held) (k : ℕ) (n : List ℕ) (E : Editi
       at = asked ∙ rw (order_is M h w ∙ o)
 
       -- 17
-      pub not_there : h.statements ≤ k → amend_in l M h k n ≡ unchanged 17 0
+      not_there : h.statements ≤ k → amend_in l M h k n ≡ unchanged 17 0
       unfolding lent_at
       not_there f = at ∙ rw (pick_past k h.statements d f)
 
@@ -302,7 +275,7 @@ module _ (l : Lists) (M : Memory) (h : Held) (k : ℕ) (n : List ℕ) (E : Editi
         S = inside p h.bytes h.records h.tokens (rows_from h.statements d) split O.order O.record_sum O.token_sum
 
         -- the entry that is replaced
-        pub one_stands : Stands h (words_at d (entry_width * k))
+        one_stands : Stands h (words_at d (entry_width * k))
         one_stands = record {
           starts = omega (arith, S.filled);
           ends = S.inside;
@@ -312,11 +285,8 @@ module _ (l : Lists) (M : Memory) (h : Held) (k : ℕ) (n : List ℕ) (E : Editi
           bounded = bounded M h w;
         }
 
-        pub entry_in : entry_width * k + entry_width ≤ length d
-        entry_in = omega (arith, entries_fit M h w)
-
         -- 19
-        pub not_clear : no_zero n ≡ false → amend_in l M h k n ≡ unchanged 19 0
+        not_clear : no_zero n ≡ false → amend_in l M h k n ≡ unchanged 19 0
         unfolding lent_at
         not_clear f = at ∙ rw (pick_here k h.statements d t, f)
 
@@ -326,7 +296,7 @@ module _ (l : Lists) (M : Memory) (h : Held) (k : ℕ) (n : List ℕ) (E : Editi
           put = at ∙ rw (pick_here k h.statements d t, z)
 
           -- 1 to 15
-          pub not_read : {f b : ℕ} → read_script E l n ≡ refused f b → amend_in l M h k n ≡ unchanged f b
+          not_read : {f b : ℕ} → read_script E l n ≡ refused f b → amend_in l M h k n ≡ unchanged f b
           unfolding put_lent
           not_read e = put ∙ rw e
 
@@ -349,7 +319,7 @@ module _ (l : Lists) (M : Memory) (h : Held) (k : ℕ) (n : List ℕ) (E : Editi
             ends_is : ends_well n ≡ ends_at n c.last c.tokens
             ends_is = ends_at_lem (language E l) n G.entries admits.text ∙ rw (sym end_is, sym count_is)
 
-            pub ends_ready : Ends n c
+            ends_ready : Ends n c
             ends_ready =
                 let I = end_inside (language E l) n G.entries admits.text in
                 (omega (arith, I.0, end_is), λ f. omega (arith, I.1 (λ q. f (count_is ∙ q)), end_is))
@@ -406,7 +376,7 @@ module _ (l : Lists) (M : Memory) (h : Held) (k : ℕ) (n : List ℕ) (E : Editi
             })))
 
             -- 18, 16, or what is made
-            pub fitted : MeetsVerdict l M h k n (fitting_by (rooms_in M) h (words_at d (entry_width * k)) n c)
+            fitted : MeetsVerdict l M h k n (fitting_by (rooms_in M) h (words_at d (entry_width * k)) n c)
             unfolding fitting_by put_lent fitting_lent swapped
             fitted =
                 cases (ends_at n c.last c.tokens)
@@ -442,3 +412,56 @@ module _ (l : Lists) (M : Memory) (h : Held) (k : ℕ) (n : List ℕ) (E : Editi
                       fits = f;
                       is = made_is;
                     }
+
+-- ---- the call as the code asks it
+
+module _ (M : Memory) (h : Held) (k : ℕ) (n : List ℕ) where
+  -- the edition that the new text is read in
+  abbrev E : Edition
+  E = edition_by (eqb h.edition 2)
+
+  module _ (e : is_edition h.edition ≡ true) where
+    pub refused_room : within (rooms_in M) h ≡ false → (l : Lists) → amend_in l M h k n ≡ unchanged 20 0
+    refused_room f l = not_within l M h k n E (tested h.edition e) f
+
+    module _ (w : within (rooms_in M) h ≡ true) where
+      W : Within (rooms_in M) h
+      W = within_are (rooms_in M) h w
+
+      pub refused_order : has_order M.directory h ≡ false → (l : Lists) → amend_in l M h k n ≡ unchanged 20 0
+      refused_order f l = not_ordered l M h k n E (tested h.edition e) W f
+
+      module _ (o : has_order M.directory h ≡ true) where
+        pub refused_number : h.statements ≤ k → (l : Lists) → amend_in l M h k n ≡ unchanged 17 0
+        refused_number f l = not_there l M h k n E (tested h.edition e) W o f
+
+        pub refused_zero : k < h.statements → no_zero n ≡ false → (l : Lists) → amend_in l M h k n ≡ unchanged 19 0
+        refused_zero t f l = not_clear l M h k n E (tested h.edition e) W o t f
+
+  -- the entry lies in the directory
+  pub row_there : within (rooms_in M) h ≡ true → k < h.statements → entry_width * k + entry_width ≤ length M.directory
+  row_there w t = omega (arith, entries_fit M h (within_are (rooms_in M) h w))
+
+  module _ (l : Lists) (A : Admits M h k n) where
+    pub admitted_stands : Stands h (words_at M.directory (entry_width * k))
+    admitted_stands = one_stands l M h k n E (tested h.edition A.edition) (within_are (rooms_in M) h A.holds) A.ordered A.there
+
+    pub admitted_refused : {f b : ℕ} → judgement E l n ≡ judged.Refused f b → amend_in l M h k n ≡ unchanged f b
+    admitted_refused j = not_read l M h k n E (tested h.edition A.edition) (within_are (rooms_in M) h A.holds) A.ordered A.there A.clear (judged_not E l n j)
+
+    pub admitted_ends : {c : Counts} → judgement E l n ≡ judged.Good c → Ends n c
+    admitted_ends j = ends_ready l M h k n E (tested h.edition A.edition) (within_are (rooms_in M) h A.holds) A.ordered A.there A.clear (judged_good E l n j)
+
+    pub admitted_fits : {c : Counts} → judgement E l n ≡ judged.Good c → MeetsVerdict l M h k n (fitting_by (rooms_in M) h (words_at M.directory (entry_width * k)) n c)
+    admitted_fits j = fitted l M h k n E (tested h.edition A.edition) (within_are (rooms_in M) h A.holds) A.ordered A.there A.clear (judged_good E l n j)
+
+-- ---- a result whose refusal was given its byte
+
+module _ {A E D : Type 0} (post : E → D → Type 0) where
+  pub ok_was : (r : Result A E) (m : Result A D) (x : A) → MatchResult r (λ y. m ≡ Ok y) (λ e. IsErrAnd m (post e)) → m ≡ Ok x → r ≡ Ok x
+  ok_was (Ok y) m x c o = cc
+  ok_was (Err e) m x c o = absurd (rw o at c)
+
+  pub err_was : (r : Result A E) (m : Result A D) (d : D) → MatchResult r (λ y. m ≡ Ok y) (λ e. IsErrAnd m (post e)) → m ≡ Err d → (e : E) × (r ≡ Err e) × post e d
+  err_was (Ok y) m d c o = absurd (let z : ◌≡◌ {A = Result A D} (Ok y) (Err d) = sym c ∙ o in cc)
+  err_was (Err e) m d c o = (e, refl, rw o at c)

@@ -27,8 +27,8 @@ use Rattle.amending.specs.Memory.{Memory, memory, rooms_in, used_in, amend_in, l
 use Rattle.amending.specs.Grounds.{words_at, totals, latest_then, Fits, Ready, Left, answer_by, MeetsVerdict}
 use Rattle.amending.specs.declared.held.Held.{Held}
 use Rattle.amending.specs.declared.rows.Row.{Row as Line}
-use Rattle.amending.specs.declared.grounds.Verdict.{Verdict}
-use Rattle.amending.specs.declared.grounds.Verdict.TheVariants as verdict
+use Rattle.amending.specs.Verdict.{Verdict}
+use Rattle.amending.specs.Verdict as verdict
 use Rattle.amending.proofs.MoveLaws.{gap_leaves}
 use Rattle.amending.proofs.EntryLaws.{rows_of_words, rows_split, rows_count}
 use Rattle.amending.proofs.OrderLaws.{Stands, stands}

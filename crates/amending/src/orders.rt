@@ -2,8 +2,9 @@
 ghost use Rattle.std.specs.Prelude.{◌≡◌, ◌&&◌, ◌*◌, ◌^◌, ◌≤◌, ◌<◌, max, leb, ltb, eqb, length, if◌then◌else◌};
 ghost use Rattle.grammar.specs.Sizes.{entry_width};
 ghost use Rattle.grammar.specs.Words.{latest_of};
-ghost use Rattle.amending.specs.Lent.{ascending, sum_records, sum_tokens};
+ghost use Rattle.amending.specs.Lent.{sum_records};
 ghost use Rattle.amending.specs.Entries.{rows_from, entry, row_fits};
+ghost use Rattle.amending.specs.Grounds.{has_order};
 
 use crate::held::Held;
 use crate::rows::Row;
@@ -43,11 +44,7 @@ impl Rest {
 // Whether the directory has as many entries as are held, in order, with these totals of bytes, records and tokens, and this
 // latest date. What an entry counts is taken from what is left, so that no sum can wrap.
 pub fn in_order(directory: &[u32], held: &Held) -> bool
-    ensures { result ≡ (leb (entry_width * held.now.statements) (length directory.now)
-        && (ascending 0 held.now.bytes (rows_from held.now.statements directory.now)
-        && (eqb held.now.records (sum_records (rows_from held.now.statements directory.now))
-        && (eqb held.now.tokens (sum_tokens (rows_from held.now.statements directory.now))
-        && eqb held.now.latest (latest_of (rows_from held.now.statements directory.now)))))) }
+    ensures { result ≡ has_order directory.now held.now }
 {
     if directory.len() / ENTRY_WIDTH < held.statements {
         return false;

@@ -1,0 +1,52 @@
+// stub
+ghost use Rattle.std.specs.Prelude.{◌≡◌};
+ghost use Rattle.tokens.specs.LentLists.{lists_of};
+ghost use Rattle.tokens.specs.Refusals.{number_of};
+ghost use Rattle.reading.specs.Meets.{edition_by};
+ghost use Rattle.reading.specs.Judging.{judgement};
+ghost use Rattle.reading.specs.Reading.{Leaves, refused_at};
+ghost use Rattle.amending.specs.Stub.{judged};
+
+use reading::judging::Counts;
+use reading::reading::Answer;
+use tokens::lists::Lists;
+use tokens::refusals::{Ground, Refusal};
+
+pub fn judge(script: &[u8], two: bool, lists: &Lists) -> Result<Counts, Refusal>
+    ensures { judged result ≡ judgement (edition_by two) (lists_of lists.now) script.now }
+{
+    Err(Refusal {
+        ground: if two && lists.reserved.len() == 1 {
+            Ground::TooLong
+        } else {
+            Ground::List
+        },
+        byte: script.len(),
+    })
+}
+
+pub fn read(
+    script: &[u8],
+    edition: u32,
+    lists: &Lists,
+    records: &mut [u32],
+    directory: &mut [u32],
+) -> Answer
+    ensures { Leaves edition (lists_of lists.now) script.now records.old directory.old result records.new directory.new }
+{
+    reading::reading::read(
+        script,
+        edition,
+        lists.reserved,
+        lists.currencies,
+        lists.counters,
+        records,
+        directory,
+    )
+}
+
+pub fn refusal(script: &[u8], e: Refusal) -> Answer
+    ensures { result ≡ refused_at script.now (number_of e.ground) e.byte }
+{
+    reading::reading::refusal(script, e.ground.number(), e.byte)
+}
