@@ -157,29 +157,6 @@ module _ (M : Memory) (h : Held) (w : Within (rooms_in M) h) where
 
 -- ---- 18 and 16
 
--- what the two tests tell of the verdict
-module _ (R : Rooms) (h : Held) (r : Line) (n : List ℕ) (c : Counts) where
-  pub not_whole : ends_whole n c.last ≡ false → fitting_by R h r n c ≡ verdict.Refused 18 c.bytes
-  unfolding fitting_by
-  not_whole f = rw f
-
-  pub not_shut : ends_whole n c.last ≡ true → ends_shut n c.last c.tokens ≡ false → fitting_by R h r n c ≡ verdict.Refused 18 c.bytes
-  unfolding fitting_by
-  not_shut e f = rw (e, f)
-
-  module _ (e : ends_whole n c.last ≡ true) (f : ends_shut n c.last c.tokens ≡ true) where
-    pub not_alone : within R (alone c) ≡ false → fitting_by R h r n c ≡ verdict.Refused 16 c.bytes
-    unfolding fitting_by
-    not_alone a = rw (e, f, a)
-
-    pub not_all : within R (alone c) ≡ true → within R (totals h r c) ≡ false → fitting_by R h r n c ≡ verdict.Refused 16 c.bytes
-    unfolding fitting_by
-    not_all a b = rw (e, f, a, b)
-
-    pub all_fits : within R (alone c) ≡ true → within R (totals h r c) ≡ true → fitting_by R h r n c ≡ verdict.Fits c (totals h r c)
-    unfolding fitting_by
-    all_fits a b = rw (e, f, a, b)
-
 -- counts that are within rooms are within the capacities
 pub few_capped : (R : Most) (c : Counts) → within (as_rooms R) (alone c) ≡ true → Few c
 few_capped R c b =

@@ -207,17 +207,7 @@ module _ (l : Lists) (M : Memory) (h : Held) (k : ℕ) (n : List ℕ) {c : Count
 
 -- ---- the call
 
--- the fields of the entry that the code has
-pub row_is : {row : Line} (d : List ℕ) (i : ℕ) → row ≡ words_at d i → (row.start ≡ get_or d i 0) × (row.end ≡ get_or d (i + 1) 0) × (row.records ≡ get_or d (i + 2) 0)
-row_is d i e = (ap (λ (t : Line). t.start) e, ap (λ (t : Line). t.end) e, ap (λ (t : Line). t.records) e)
-
 module _ (l : Lists) (M : Memory) (h : Held) (k : ℕ) (n : List ℕ) where
-  pub verdict_refused : {v : Verdict} (f b : ℕ) → v ≡ verdict.Refused f b → MeetsVerdict l M h k n v → amend_in l M h k n ≡ unchanged f b
-  verdict_refused f b e m = rw e at m
-
-  pub verdict_fits : {v : Verdict} (c : Counts) (w : Held) → v ≡ verdict.Fits c w → MeetsVerdict l M h k n v → Fits l M h k n c w
-  verdict_fits c w e m = rw e at m
-
   -- the answer of the call is the one that the verdict stands for
   pub verdict_answers : (v : Verdict) → MeetsVerdict l M h k n v → answered h n (amend_in l M h k n) ≡ answer_by h n (latest_then (amend_in l M h k n)) v
   verdict_answers (verdict.Fits c w) m = ap (answered h n) m.is ∙ sym (ap accepted_with m.held_then)
