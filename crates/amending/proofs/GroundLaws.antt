@@ -7,7 +7,7 @@ use mathlib.Core.List.{List, [], ◌∷◌, ◌++◌, map}
 use Prim.Native.Nat.{ℕ, ◌+◌, ◌-◌, ◌*◌, ◌/◌, ◌≤◌, ◌<◌}
 use native.Mathlib.Omega.{arith}
 use lib.Dec.{T, leb, ltb, eqb}
-use lib.ListN.{length, take, drop, get_or, length-append, length-drop, length-map}
+use lib.ListN.{length, take, drop, length-append, length-drop, length-map}
 use lib.Seq.{length-take-le}
 use borrow.Author.Tests.{le-leb, leb-true, le-ltb, ltb-false, eq-eqb, ne_eqb, eqb-true}
 use Rattle.tokens.specs.Limits.{most_bytes, most_tokens}
@@ -31,11 +31,9 @@ use Rattle.amending.specs.Amending.{Rooms, Pick, pick}
 use Rattle.amending.specs.Lent.{Lent, handed, unchanged, ascending, sum_records, sum_tokens, over_rows, in_order, swapped, fitting_lent, put_lent, lent_at, amend_lent}
 use Rattle.amending.specs.Entries.{rows_from, pick_at}
 use Rattle.amending.specs.Memory.{Memory, rooms_in, as_rooms, used_in, within, is_edition, amend_in}
-use Rattle.amending.specs.Grounds.{ends_whole, ends_shut, ends_at, has_order, Ends, Few, words_at, Stands, Admits, alone, totals, fitting_by, Fits, latest_then, MeetsVerdict}
+use Rattle.amending.specs.Grounds.{ends_at, has_order, Ends, Few, words_at, Stands, Admits, alone, totals, fitting_by, Fits, latest_then, MeetsVerdict}
 use Rattle.amending.specs.declared.held.Held.{Held}
 use Rattle.amending.specs.declared.rooms.Rooms.{Rooms as Most}
-use Rattle.amending.specs.declared.rows.Row.{Row as Line}
-use Rattle.amending.specs.Verdict as verdict
 use Rattle.amending.proofs.Flags.{no, yes, left, right, cases, same}
 use Rattle.amending.proofs.EntryLaws.{pick_here, pick_past, rows_split, rows_count}
 use Rattle.amending.proofs.OrderLaws.{told, Ordered, ordered, Stands as Inside, stands as inside, records_joined, tokens_joined}

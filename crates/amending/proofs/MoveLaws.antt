@@ -2,11 +2,10 @@
 use mathlib.Core.Path.{◌≡◌, refl, sym, ap, ◌∙◌}
 use mathlib.Core.List.{List, [], ◌∷◌, ◌++◌, append_assoc}
 use Prim.Native.Nat.{ℕ, zero, suc, ◌+◌, ◌-◌, ◌≤◌, ◌<◌, max}
-use native.Mathlib.Nat.{add-zero, sub-zero, suc-sub-suc, not-suc-le-zero, le_of_suc-le-suc}
-use native.Mathlib.Numerals.{add-one}
+use native.Mathlib.Nat.{sub-zero, suc-sub-suc, not-suc-le-zero, le_of_suc-le-suc}
 use native.Mathlib.Omega.{arith}
-use lib.ListN.{length, take, drop, get_or, set, replicate, length-drop, length-append, length-replicate, get_or-replicate, take-append-drop, get_or-append}
-use lib.Seq.{paste, paste-suc, length_paste_head, length-take-le, get_or-append-add, get_or-drop, get_or-take, slice_empty, slice-cons, take-suc, set_at, append_snoc, take-nil, take_all, take-length, take-take, take-append-le, drop_at, take-paste, drop-paste, drop-drop}
+use lib.ListN.{length, take, drop, replicate, length-drop, length-append, length-replicate, take-append-drop}
+use lib.Seq.{paste, length-take-le, take-nil, take_all, take-length, take-take, take-append-le, drop_at, take-paste, drop-paste, drop-drop}
 use Rattle.amending.specs.Moves.{part, used_after, resized, spliced, leave}
 
 -- ---- a part that is given another size

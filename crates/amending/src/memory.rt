@@ -14,7 +14,7 @@ pub struct Memory<'a> {
 }
 
 impl<'a> Memory<'a> {
-    pub fn rooms(&self) -> Rooms
+    pub(crate) fn rooms(&self) -> Rooms
         ensures { as_rooms result ≡ rooms_in (as_memory self.now) }
     {
         Rooms {

@@ -1,7 +1,7 @@
 -- One ground after the other, in their order.
 use mathlib.Core.Path.{sym, ◌∙◌}
 use Rattle.amending.specs.Memory.{as_memory}
-use Rattle.amending.proofs.GroundLaws.{not_edition, refused_room, refused_order, refused_number, refused_zero, row_there}
+use Rattle.amending.proofs.GroundLaws.{not_edition, refused_room, refused_order, refused_number, refused_zero}
 use Rattle.amending.proofs.grounds.admitted.Goals as goal
 
 pub returns-then-not-is_edition : goal.returns-then-not-is_edition

@@ -5,7 +5,7 @@ use Rattle.tokens.specs.LentLists.{lists_of}
 use Rattle.amending.specs.Memory.{as_memory}
 use Rattle.amending.specs.Grounds.{Stands, fitting_by, MeetsGround, MeetsVerdict}
 use Rattle.amending.specs.Verdict.{as_verdict, as_fitting}
-use Rattle.amending.proofs.GroundLaws.{ok_was, err_was, admitted_stands, admitted_refused, admitted_ends, admitted_fits}
+use Rattle.amending.proofs.GroundLaws.{ok_was, admitted_stands, admitted_refused, admitted_ends, admitted_fits}
 use Rattle.amending.proofs.grounds.verdict_on.Goals as goal
 use Rattle.amending.proofs.grounds.verdict_on.Goals.{After-judge}
 
