@@ -413,10 +413,6 @@ module _ (M : Memory) (h : Held) (k : ℕ) (n : List ℕ) where
         pub refused_zero : k < h.statements → no_zero n ≡ false → (l : Lists) → amend_in l M h k n ≡ unchanged 19 0
         refused_zero t f l = not_clear l M h k n E (tested h.edition e) W o t f
 
-  -- the entry lies in the directory
-  pub row_there : within (rooms_in M) h ≡ true → k < h.statements → entry_width * k + entry_width ≤ length M.directory
-  row_there w t = omega (arith, entries_fit M h (within_are (rooms_in M) h w))
-
   module _ (l : Lists) (A : Admits M h k n) where
     pub admitted_stands : Stands h (words_at M.directory (entry_width * k))
     admitted_stands = one_stands l M h k n E (tested h.edition A.edition) (within_are (rooms_in M) h A.holds) A.ordered A.there

@@ -91,9 +91,6 @@ module _ (i m t : ℕ) (r : Row) where
         tokens_left = leb-true r.tokens t (right (leb r.records m) _ b₄);
       }
 
-  pub fits_no : (Fits i m t r → ⊥) → row_fits i m t r ≡ false
-  fits_no h = no _ (λ b. h (fits_are b))
-
 -- ---- one entry after the other
 
 -- entries in order from the byte i to the byte j, with as many records and tokens as m and t say; x is the latest date, theirs or y

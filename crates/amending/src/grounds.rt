@@ -81,10 +81,7 @@ fn fitting(rooms: Rooms, held: Held, row: Row, text: &[u8], c: Counts) -> Result
     requires ends { Ends text.now c }
     ensures { as_fitting c result ≡ fitting_by (as_rooms rooms) held row text.now c }
 {
-    if !is_whole(text, c.last) {
-        return Err(Ground::Ending);
-    }
-    if !is_shut(text, c.last, c.tokens) {
+    if !is_whole(text, c.last) || !is_shut(text, c.last, c.tokens) {
         return Err(Ground::Ending);
     }
     if !rooms.hold(&alone(c)) {

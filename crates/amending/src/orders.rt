@@ -26,10 +26,11 @@ impl Rest {
         ensures { result ≡ row_fits self.now.after self.now.records self.now.tokens (entry row.now) }
     {
         self.after <= row.start
-            && (row.start < row.end
-                && (1 <= row.records
-                    && (1 <= row.tokens
-                        && (row.records <= self.records && row.tokens <= self.tokens))))
+            && row.start < row.end
+            && 1 <= row.records
+            && 1 <= row.tokens
+            && row.records <= self.records
+            && row.tokens <= self.tokens
     }
 
     // Whether the last entry ends inside the script, no records and tokens are left, and the latest date is the one that was seen.
@@ -37,7 +38,9 @@ impl Rest {
         ensures { result ≡ (leb self.now.after held.now.bytes && (eqb self.now.records 0 && (eqb self.now.tokens 0 && eqb held.now.latest self.now.latest))) }
     {
         self.after <= held.bytes
-            && (self.records == 0 && (self.tokens == 0 && held.latest == self.latest))
+            && self.records == 0
+            && self.tokens == 0
+            && held.latest == self.latest
     }
 }
 

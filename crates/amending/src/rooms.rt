@@ -28,7 +28,8 @@ impl Rooms {
         ensures { result ≡ within (as_rooms self.now) held.now }
     {
         held.bytes <= self.bytes
-            && (held.tokens <= self.tokens
-                && (held.records <= self.records && held.statements <= self.statements))
+            && held.tokens <= self.tokens
+            && held.records <= self.records
+            && held.statements <= self.statements
     }
 }
