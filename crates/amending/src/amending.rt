@@ -64,20 +64,18 @@ fn replace(
     let from = RECORD_WIDTH * records_before(directory, statement);
     let later = statement + c.statements;
     let statements = held.statements - 1 + c.statements;
-    replace_bytes(script, held.bytes, row.start, row.end, text);
+    replace_bytes(script, held.bytes, row.start..row.end, text);
     resize(
         records,
         RECORD_WIDTH * held.records,
-        from,
-        from + RECORD_WIDTH * row.records,
+        from..from + RECORD_WIDTH * row.records,
         RECORD_WIDTH * c.records,
         0,
     );
     resize(
         directory,
         ENTRY_WIDTH * held.statements,
-        at,
-        at + ENTRY_WIDTH,
+        at..at + ENTRY_WIDTH,
         ENTRY_WIDTH * c.statements,
         0,
     );

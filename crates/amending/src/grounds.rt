@@ -51,10 +51,7 @@ fn admitted(memory: &Memory<'_>, held: Held, statement: usize, text: &[u8]) -> R
     if !is_edition(held.edition) {
         return Err(Ground::Edition);
     }
-    if !memory.rooms().hold(&held) {
-        return Err(Ground::Directory);
-    }
-    if !in_order(memory.directory, &held) {
+    if !memory.rooms().hold(&held) || !in_order(memory.directory, &held) {
         return Err(Ground::Directory);
     }
     if held.statements <= statement {

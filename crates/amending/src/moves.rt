@@ -2,32 +2,34 @@
 ghost use Rattle.std.specs.Prelude.{◌≡◌, ◌≤◌, length};
 ghost use Rattle.amending.specs.Moves.{used_after, resized, spliced};
 
-// Makes the part [from, to) of the first `used` elements k elements long: those from `to` on move to
-// from + k, and the room that they leave is filled with `zero`. A part that keeps its length moves nothing. Returns how many
-// elements are then in use.
-pub fn resize<T: Copy>(s: &mut [T], used: usize, from: usize, to: usize, k: usize, zero: T) -> usize
-    requires room { (from ≤ to) × (to ≤ used) × (used ≤ length s.old) × (used_after used from to k ≤ length s.old) }
+use std::ops::Range;
+
+// Makes a part of the first `used` elements k elements long: those behind it move to where it ends then, and the room that they
+// leave is filled with `zero`. A part that keeps its length moves nothing. Returns how many elements are then in use.
+pub fn resize<T: Copy>(s: &mut [T], used: usize, part: Range<usize>, k: usize, zero: T) -> usize
+    requires room { (part.start ≤ part.end) × (part.end ≤ used) × (used ≤ length s.old) × (used_after used part.start part.end k ≤ length s.old) }
     requires copies { T.is_infallible zero × ((y : T) → T.is_clone zero y → y ≡ zero) }
-    ensures { (result ≡ used_after used from to k) × (s.new ≡ resized zero s.old used from to k) }
+    ensures { (result ≡ used_after used part.start part.end k) × (s.new ≡ resized zero s.old used part.start part.end k) }
 {
-    let at = from + k;
-    let end = at + (used - to);
-    if at == to {
+    let at = part.start + k;
+    let end = at + (used - part.end);
+    if at == part.end {
         return end;
     }
-    s.copy_within(to..used, at);
+    s.copy_within(part.end..used, at);
     if end < used {
         s[end..used].fill(zero);
     }
     end
 }
 
-// Replaces the bytes [from, to) of the first `used` by `text`, and zeroes the room that is freed. Returns how many bytes are then in use.
-pub fn replace_bytes(script: &mut [u8], used: usize, from: usize, to: usize, text: &[u8]) -> usize
-    requires { (from ≤ to) × (to ≤ used) × (used ≤ length script.old) × (used_after used from to (length text.now) ≤ length script.old) }
-    ensures { (result ≡ used_after used from to (length text.now)) × (script.new ≡ spliced script.old used from to text.now) }
+// Replaces a part of the first `used` bytes by `text`, and zeroes the room that is freed. Returns how many bytes are then in use.
+pub fn replace_bytes(script: &mut [u8], used: usize, part: Range<usize>, text: &[u8]) -> usize
+    requires { (part.start ≤ part.end) × (part.end ≤ used) × (used ≤ length script.old) × (used_after used part.start part.end (length text.now) ≤ length script.old) }
+    ensures { (result ≡ used_after used part.start part.end (length text.now)) × (script.new ≡ spliced script.old used part.start part.end text.now) }
 {
-    let end = resize(script, used, from, to, text.len(), 0);
+    let from = part.start;
+    let end = resize(script, used, part, text.len(), 0);
     script[from..from + text.len()].copy_from_slice(text);
     end
 }
