@@ -12,8 +12,6 @@ use Rattle.grammar.specs.Words.{Row, rows_words, latest_of}
 use Rattle.amending.specs.Amending.{Pick, onto, pick}
 use Rattle.amending.specs.Lent.{sum_records}
 use Rattle.amending.specs.Entries.{row_at, rows_from, pick_at}
-use Rattle.amending.specs.Grounds.{words_at}
-use Rattle.amending.specs.declared.rows.Row.{Row as Line}
 use Rattle.amending.proofs.AmendingLaws.{pick_is}
 
 -- ---- rows and words
@@ -72,23 +70,6 @@ latest_turn d k n h = ap latest_of (rows_turn d k n h)
 pub latest_none : (d : List ℕ) (left : ℕ) → left ≡ 0 → latest_of (rows_from left d) ≡ 0
 unfolding latest_of
 latest_none d left h = ap latest_of (rows_none d left h)
-
--- what the code reads of an entry
-pub record Reads (d : List ℕ) (i : ℕ) (row : Line) : Type 0 where
-  pub start : row.start ≡ get_or d i 0
-  pub end : row.end ≡ get_or d (i + 1) 0
-  pub records : row.records ≡ get_or d (i + 2) 0
-  pub tokens : row.tokens ≡ get_or d (i + 3) 0
-  pub latest : row.latest ≡ get_or d (i + 4) 0
-
-pub reads : (d : List ℕ) (i : ℕ) (row : Line) → row ≡ words_at d i → Reads d i row
-reads d i row e = record {
-  start = ap (λ (r : Line). r.start) e;
-  end = ap (λ (r : Line). r.end) e;
-  records = ap (λ (r : Line). r.records) e;
-  tokens = ap (λ (r : Line). r.tokens) e;
-  latest = ap (λ (r : Line). r.latest) e;
-}
 
 -- ---- the entry that is picked
 

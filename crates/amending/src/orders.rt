@@ -46,6 +46,7 @@ impl Rest {
 
 // Whether the directory has as many entries as are held, in order, with these totals of bytes, records and tokens, and this
 // latest date. What an entry counts is taken from what is left, so that no sum can wrap.
+#[tactic(auto, using(crate::proofs::OrderLaws::counted_first, crate::proofs::OrderLaws::counted_next, crate::proofs::OrderLaws::counted_none, crate::proofs::OrderLaws::fits_are))]
 pub fn in_order(directory: &[u32], held: &Held) -> bool
     ensures { result ≡ has_order directory.now held.now }
 {
@@ -74,6 +75,7 @@ pub fn in_order(directory: &[u32], held: &Held) -> bool
 }
 
 // How many records the first `number` statements have.
+#[tactic(auto, using(crate::proofs::EntryLaws::records_turn, crate::proofs::EntryLaws::records_none))]
 pub fn records_before(directory: &[u32], number: usize) -> usize
     requires { (entry_width * number ≤ length directory.now) × (sum_records (rows_from number directory.now) < 2 ^ 64) }
     ensures { result ≡ sum_records (rows_from number directory.now) }
@@ -86,6 +88,7 @@ pub fn records_before(directory: &[u32], number: usize) -> usize
 }
 
 // The latest date of the first `number` entries.
+#[tactic(auto, using(crate::proofs::EntryLaws::latest_turn, crate::proofs::EntryLaws::latest_none))]
 fn latest_entry(directory: &[u32], number: usize) -> usize
     requires { entry_width * number ≤ length directory.now }
     ensures { result ≡ latest_of (rows_from number directory.now) }

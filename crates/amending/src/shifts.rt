@@ -15,6 +15,7 @@ fn moved_place(w: u32, old: u32, new: u32) -> u32
 
 // Moves the starts and ends of the entries from number `from` up to, not including, number `to` as far as `new` is from `old`;
 // their other words stay. Where the directory has not so many entries, or they stay where they are, nothing changes.
+#[tactic(auto, using(crate::proofs::ShiftLaws::shift_none, crate::proofs::ShiftLaws::shift_same))]
 pub fn shift_entries(directory: &mut [u32], from: usize, to: usize, old: u32, new: u32)
     ensures { directory.new ≡ shifted directory.old from to old new }
 {
