@@ -45,6 +45,7 @@ pub fn verdict_on(
 }
 
 // The entry that is replaced; or 26, 20, 17 or 19, all of which lie at byte 0.
+#[tactic(auto, using(crate::proofs::GroundLaws::not_edition, crate::proofs::GroundLaws::refused_room, crate::proofs::GroundLaws::refused_order, crate::proofs::GroundLaws::refused_number, crate::proofs::GroundLaws::refused_zero))]
 fn admitted(memory: &Memory<'_>, held: Held, statement: usize, text: &[u8]) -> Result<Row, Ground>
     ensures { MeetsGround (as_memory memory.now) held statement text.now result }
 {

@@ -6,6 +6,7 @@ use std::ops::Range;
 
 // Makes a part of the first `used` elements k elements long: those behind it move to where it ends then, and the room that they
 // leave is filled with `zero`. A part that keeps its length moves nothing. Returns how many elements are then in use.
+#[tactic(auto, using(crate::proofs::MoveLaws::kept, crate::proofs::MoveLaws::grown))]
 pub fn resize<T: Copy>(s: &mut [T], used: usize, part: Range<usize>, k: usize, zero: T) -> usize
     requires room { (part.start ≤ part.end) × (part.end ≤ used) × (used ≤ length s.old) × (used_after used part.start part.end k ≤ length s.old) }
     requires copies { T.is_infallible zero × ((y : T) → T.is_clone zero y → y ≡ zero) }
