@@ -8,4 +8,4 @@ use Rattle.reading.specs.declared.judging.Judged.TheVariants as j
 
 abbrev pub judged : Result Counts Refusal → Judged
 judged (Ok c) = j.Good c
-judged (Err e) = j.Refused (number_of e.ground) e.byte
+judged (Err e) = j.Refused (number_of e.cause) e.byte

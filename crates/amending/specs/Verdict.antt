@@ -15,7 +15,7 @@ pub data Verdict : Type 0 where
 -- as the code answers it
 abbrev pub as_verdict : Result Fit Refusal → Verdict
 as_verdict (Ok f) = Fits f.counts f.whole
-as_verdict (Err e) = Refused (number_of e.ground) e.byte
+as_verdict (Err e) = Refused (number_of e.cause) e.byte
 
 -- as the code answers it of a text that holds c, all of whose refusals lie at its end
 abbrev pub as_fitting : Counts → Result Held Ground → Verdict

@@ -12,9 +12,9 @@ use crate::moves::{replace_bytes, resize};
 use crate::orders::{latest_then, records_before};
 use crate::rows::Row;
 use crate::shifts::shift_entries;
-use crate::stub::{read, refusal};
+use crate::stub::read;
 use reading::judging::Counts;
-use reading::reading::Answer;
+use reading::reading::{Answer, refusal};
 use reading::rooms::{ENTRY_WIDTH, RECORD_WIDTH};
 use tokens::lists::Lists;
 use tokens::refusals::Refusal;
@@ -114,7 +114,7 @@ fn acceptance(whole: Held, latest: usize) -> Answer
 
 // A refusal: its place is in the new text; the counts, the latest date and the edition are the old ones.
 fn unchanged(held: Held, text: &[u8], e: Refusal) -> Answer
-    ensures { result ≡ refused_at held text.now (number_of e.ground) e.byte }
+    ensures { result ≡ refused_at held text.now (number_of e.cause) e.byte }
 {
     Answer {
         bytes: held.bytes,
@@ -123,6 +123,6 @@ fn unchanged(held: Held, text: &[u8], e: Refusal) -> Answer
         tokens: held.tokens,
         latest: held.latest,
         edition: held.edition,
-        ..refusal(text, e)
+        ..refusal(text, e.cause.number(), e.byte)
     }
 }

@@ -32,13 +32,10 @@ pub fn verdict_on(
 ) -> Result<Fit, Refusal>
     ensures { MeetsVerdict (lists_of lists.now) (as_memory memory.now) held statement text.now (as_verdict result) }
 {
-    let row = admitted(memory, held, statement, text).map_err(|ground| Refusal {
-        ground,
-        byte: 0,
-    })?;
+    let row = admitted(memory, held, statement, text).map_err(|cause| Refusal { cause, byte: 0 })?;
     let counts = judge(text, held.edition == 2, lists)?;
-    let whole = fitting(memory.rooms(), held, row, text, counts).map_err(|ground| Refusal {
-        ground,
+    let whole = fitting(memory.rooms(), held, row, text, counts).map_err(|cause| Refusal {
+        cause,
         byte: counts.bytes,
     })?;
     Ok(Fit { counts, whole })

@@ -4,7 +4,7 @@ ghost use Rattle.tokens.specs.LentLists.{lists_of};
 ghost use Rattle.tokens.specs.Refusals.{number_of};
 ghost use Rattle.reading.specs.Meets.{edition_by};
 ghost use Rattle.reading.specs.Judging.{judgement};
-ghost use Rattle.reading.specs.Reading.{Leaves, refused_at};
+ghost use Rattle.reading.specs.Reading.{Leaves};
 ghost use Rattle.amending.specs.Stub.{judged};
 
 use reading::judging::{Counts, Judged};
@@ -47,7 +47,7 @@ pub fn judge(script: &[u8], two: bool, lists: &Lists) -> Result<Counts, Refusal>
     ) {
         Judged::Good(c) => Ok(c),
         Judged::Refused(number, byte) => Err(Refusal {
-            ground: ground_of(number),
+            cause: ground_of(number),
             byte,
         }),
     }
@@ -71,10 +71,4 @@ pub fn read(
         records,
         directory,
     )
-}
-
-pub fn refusal(script: &[u8], e: Refusal) -> Answer
-    ensures { result ≡ refused_at script.now (number_of e.ground) e.byte }
-{
-    reading::reading::refusal(script, e.ground.number(), e.byte)
 }
