@@ -9,6 +9,7 @@ use native.Mathlib.Omega.{arith}
 use lib.Dec.{T, leb, ltb, eqb}
 use lib.ListN.{length, take, drop, length-append, length-drop, length-map}
 use lib.Seq.{length-take-le}
+use Rattle.std.proofs.lemmas.Bool.Decides.{nat_tests}
 use borrow.Author.Tests.{le-leb, leb-true, le-ltb, ltb-false, eq-eqb, ne_eqb, eqb-true}
 use Rattle.tokens.specs.Limits.{most_bytes, most_tokens}
 use Rattle.tokens.specs.Text.{count}
@@ -54,50 +55,24 @@ pub record Within (R : Rooms) (h : Held) : Type 0 where
 module _ (R : Rooms) (h : Held) where
   pub within_yes : Within R h → within R h ≡ true
   unfolding within
-  within_yes w = yes (le-leb _ _ w.bytes) (yes (le-leb _ _ w.tokens) (yes (le-leb _ _ w.records) (le-leb _ _ w.statements)))
+  within_yes w = grind (arith, nat_tests)
 
   pub within_are : within R h ≡ true → Within R h
   unfolding within
-  within_are b =
-      let b₁ = right (leb h.bytes R.bytes) _ b in
-      let b₂ = right (leb h.tokens R.tokens) _ b₁ in
-      record {
-        bytes = leb-true h.bytes R.bytes (left _ _ b);
-        tokens = leb-true h.tokens R.tokens (left _ _ b₁);
-        records = leb-true h.records R.records (left _ _ b₂);
-        statements = leb-true h.statements R.statements (right (leb h.records R.records) _ b₂);
-      }
+  within_are b = record { bytes = grind (arith, nat_tests); tokens = grind (arith, nat_tests); records = grind (arith, nat_tests); statements = grind (arith, nat_tests) }
 
   pub within_no : (Within R h → ⊥) → within R h ≡ false
   within_no f = no _ (λ b. f (within_are b))
-
-neither : (a b : Bool) → (a || b) ≡ false → (a ≡ false) × (b ≡ false)
-neither true b e = absurd (false≢true (sym e))
-neither false b e = (refl, e)
 
 -- totals that are over capacity or room are those that are not within
 module _ (R : Rooms) (b : ℕ) (rs : List Row) (h : Held) (p : h.bytes ≡ b) (q : h.tokens ≡ sum_tokens rs) (r : h.records ≡ sum_records rs) (s : h.statements ≡ length rs) where
   over_no : Within R h → over_rows R b rs ≡ false
   unfolding over_rows
-  over_no w =
-      let a₁ : ltb R.bytes b ≡ false = le-ltb R.bytes b (omega (arith, w.bytes, p)) in
-      let a₂ : ltb R.tokens (sum_tokens rs) ≡ false = le-ltb R.tokens (sum_tokens rs) (omega (arith, w.tokens, q)) in
-      let a₃ : ltb R.records (sum_records rs) ≡ false = le-ltb R.records (sum_records rs) (omega (arith, w.records, r)) in
-      let a₄ : ltb R.statements (length rs) ≡ false = le-ltb R.statements (length rs) (omega (arith, w.statements, s)) in
-      rw (a₁, a₂, a₃, a₄)
+  over_no w = grind (arith, nat_tests)
 
   pub over_are : over_rows R b rs ≡ false → Within R h
   unfolding over_rows
-  over_are f =
-      let f₁ = neither (ltb R.bytes b) _ f in
-      let f₂ = neither (ltb R.tokens (sum_tokens rs)) _ f₁.1 in
-      let f₃ = neither (ltb R.records (sum_records rs)) _ f₂.1 in
-      record {
-        bytes = omega (arith, ltb-false R.bytes b f₁.0, p);
-        tokens = omega (arith, ltb-false R.tokens (sum_tokens rs) f₂.0, q);
-        records = omega (arith, ltb-false R.records (sum_records rs) f₃.0, r);
-        statements = omega (arith, ltb-false R.statements (length rs) f₃.1, s);
-      }
+  over_are f = record { bytes = grind (arith, nat_tests); tokens = grind (arith, nat_tests); records = grind (arith, nat_tests); statements = grind (arith, nat_tests) }
 
   over_yes : within R h ≡ false → over_rows R b rs ≡ true
   over_yes f = cases (over_rows R b rs) (λ t. t) (λ n. absurd (false≢true (sym f ∙ within_yes R h (over_are n))))

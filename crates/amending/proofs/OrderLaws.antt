@@ -6,6 +6,7 @@ use Prim.Native.Nat.{ℕ, ◌+◌, ◌-◌, ◌*◌, ◌≤◌, ◌<◌, max}
 use native.Mathlib.Omega.{arith}
 use lib.Dec.{leb, ltb, eqb}
 use lib.ListN.{length, drop}
+use Rattle.std.proofs.lemmas.Bool.Decides.{nat_tests}
 use borrow.Author.Tests.{ltb-true, leb-true, eqb-true, lt-ltb, le-leb, eq-eqb}
 use Rattle.grammar.specs.Sizes.{entry_width}
 use Rattle.grammar.specs.Words.{Row, latest_of}
@@ -27,17 +28,13 @@ pub record Ascends (i j : ℕ) (r : Row) (rs : List Row) : Type 0 where
 
 pub ascends : (i j : ℕ) (r : Row) (rs : List Row) → ascending i j (r ∷ rs) ≡ true → Ascends i j r rs
 unfolding ascending
-ascends i j r rs b =
-    let b₁ = right (leb i r.start) _ b in
-    let b₂ = right (ltb r.start r.end) _ b₁ in
-    let b₃ = right (leb 1 r.records) _ b₂ in
-    record {
-      after = leb-true i r.start (left _ _ b);
-      filled = ltb-true r.start r.end (left _ _ b₁);
-      has_record = leb-true 1 r.records (left _ _ b₂);
-      has_token = leb-true 1 r.tokens (left _ _ b₃);
-      rest = right (leb 1 r.tokens) _ b₃;
-    }
+ascends i j r rs b = record {
+  after = grind (arith, nat_tests);
+  filled = grind (arith, nat_tests);
+  has_record = grind (arith, nat_tests);
+  has_token = grind (arith, nat_tests);
+  rest = grind (arith, nat_tests);
+}
 
 ascends_none : (i j : ℕ) → ascending i j [] ≡ true → i ≤ j
 unfolding ascending
@@ -71,25 +68,18 @@ pub record Fits (i records tokens : ℕ) (r : Row) : Type 0 where
   pub tokens_left : r.tokens ≤ tokens
 
 module _ (i m t : ℕ) (r : Row) where
-  pub fits_yes : Fits i m t r → row_fits i m t r ≡ true
-  fits_yes f =
-      yes (le-leb _ _ f.after) (yes (lt-ltb _ _ f.filled) (yes (le-leb _ _ f.has_record)
-      (yes (le-leb _ _ f.has_token) (yes (le-leb _ _ f.records_left) (le-leb _ _ f.tokens_left)))))
+  fits_yes : Fits i m t r → row_fits i m t r ≡ true
+  fits_yes f = grind (arith, nat_tests)
 
   pub fits_are : row_fits i m t r ≡ true → Fits i m t r
-  fits_are b =
-      let b₁ = right (leb i r.start) _ b in
-      let b₂ = right (ltb r.start r.end) _ b₁ in
-      let b₃ = right (leb 1 r.records) _ b₂ in
-      let b₄ = right (leb 1 r.tokens) _ b₃ in
-      record {
-        after = leb-true i r.start (left _ _ b);
-        filled = ltb-true r.start r.end (left _ _ b₁);
-        has_record = leb-true 1 r.records (left _ _ b₂);
-        has_token = leb-true 1 r.tokens (left _ _ b₃);
-        records_left = leb-true r.records m (left _ _ b₄);
-        tokens_left = leb-true r.tokens t (right (leb r.records m) _ b₄);
-      }
+  fits_are b = record {
+    after = grind (arith, nat_tests);
+    filled = grind (arith, nat_tests);
+    has_record = grind (arith, nat_tests);
+    has_token = grind (arith, nat_tests);
+    records_left = grind (arith, nat_tests);
+    tokens_left = grind (arith, nat_tests);
+  }
 
 -- ---- one entry after the other
 
@@ -160,18 +150,13 @@ pub record Ordered (d : List ℕ) (statements bytes records tokens latest : ℕ)
 pub ordered : (d : List ℕ) (statements bytes records tokens latest : ℕ)
     → (leb (entry_width * statements) (length d) && told bytes records tokens latest (rows_from statements d)) ≡ true
     → Ordered d statements bytes records tokens latest
-ordered d statements bytes records tokens latest b =
-    let rs : List Row = rows_from statements d in
-    let b₁ = right (leb (entry_width * statements) (length d)) _ b in
-    let b₂ = right (ascending 0 bytes rs) _ b₁ in
-    let b₃ = right (eqb records (sum_records rs)) _ b₂ in
-    record {
-      room = leb-true (entry_width * statements) (length d) (left _ _ b);
-      order = left _ _ b₁;
-      record_sum = eqb-true records (sum_records rs) (left _ _ b₂);
-      token_sum = eqb-true tokens (sum_tokens rs) (left _ _ b₃);
-      latest_is = eqb-true latest (latest_of rs) (right (eqb tokens (sum_tokens rs)) _ b₃);
-    }
+ordered d statements bytes records tokens latest b = record {
+  room = grind (arith, nat_tests);
+  order = grind (arith, nat_tests);
+  record_sum = grind (arith, nat_tests);
+  token_sum = grind (arith, nat_tests);
+  latest_is = grind (arith, nat_tests);
+}
 
 -- a sum over rows, of their records or of their tokens
 module _ (sum : List Row → ℕ) (of : Row → ℕ) (nil : sum [] ≡ 0) (cons : (r : Row) (rs : List Row) → sum (r ∷ rs) ≡ of r + sum rs) where
