@@ -96,10 +96,7 @@ counted_first j m t x rs = let own : max 0 (latest_of rs) ≡ latest_of rs = ome
 
 -- a sum of which a is known
 eqb_less : (a s m : ℕ) → a ≤ m → eqb m (a + s) ≡ eqb (m - a) s
-eqb_less a s m h =
-    same _ _
-    (λ b. let q : m ≡ a + s = eqb-true m (a + s) b in eq-eqb (m - a) s (omega arith))
-    (λ b. let q : m - a ≡ s = eqb-true (m - a) s b in eq-eqb m (a + s) (omega arith))
+eqb_less a s m h = grind (arith, nat_tests)
 
 -- the first fits, and the rest are in order for what it leaves
 pub counted_turn : (i j m t x y : ℕ) (r : Row) (rs : List Row)

@@ -10,6 +10,7 @@ use native.Mathlib.Omega.{arith}
 use lib.Dec.{leb, ltb}
 use lib.ListN.{length, take, drop, get_or, set, length-append, take-append-drop}
 use lib.Seq.{drop-cons, take_at, drop_at, take-append-add, drop-append-add, length-take-le, get_or-set_other}
+use Rattle.std.proofs.lemmas.Bool.Decides.{nat_tests}
 use borrow.Author.Tests.{ltb-true, leb-true, lt-ltb, le-leb}
 use Rattle.grammar.specs.Sizes.{entry_width}
 use Rattle.grammar.specs.Words.{Row, rows_words}
@@ -21,13 +22,9 @@ use Rattle.amending.proofs.OrderLaws.{Ascends, ascends, ascending_le}
 
 -- ---- one place
 
-pub moved_no : (old new w : ℕ) → (old ≤ w → w - old + new < 2 ^ 32 → ⊥) → moved_place old new w ≡ w
-moved_no old new w h = rw (no (leb old w && ltb (w - old + new) (2 ^ 32)) (λ b.
-    h (leb-true old w (left _ _ b)) (ltb-true (w - old + new) (2 ^ 32) (right (leb old w) _ b))))
-
 -- moved plainly, where it lies at or past `old` and stays a word
-pub moved_yes : (old new w : ℕ) → old ≤ w → w - old + new < 2 ^ 32 → moved_place old new w ≡ w - old + new
-moved_yes old new w h k = rw (le-leb _ _ h, lt-ltb _ _ k)
+moved_yes : (old new w : ℕ) → old ≤ w → w - old + new < 2 ^ 32 → moved_place old new w ≡ w - old + new
+moved_yes old new w h k = grind (arith, nat_tests)
 
 -- ---- one turn of the loop
 
@@ -101,11 +98,7 @@ shift_none s old new n at h = rw h (take-append-drop at s)
 
 -- places that stay where they are
 moved_same : (old w : ℕ) → moved_place old old w ≡ w
-moved_same old w = go (leb old w && ltb (w - old + old) (2 ^ 32)) refl
-  where
-    go : (b : Bool) → (leb old w && ltb (w - old + old) (2 ^ 32)) ≡ b → (if b then w - old + old else w) ≡ w
-    go true e = omega (arith, leb-true old w (left _ _ e))
-    go false e = refl
+moved_same old w = grind (arith, nat_tests)
 
 words_same : (old k : ℕ) (d : List ℕ) → moved_words old old k d ≡ d
 unfolding moved_words

@@ -4,7 +4,6 @@ ghost use Rattle.amending.specs.Entries.{moved_place, shifted};
 
 use reading::rooms::ENTRY_WIDTH;
 
-#[tactic(auto, using(crate::proofs::ShiftLaws::moved_yes, crate::proofs::ShiftLaws::moved_no))]
 fn moved_place(w: u32, old: u32, new: u32) -> u32
     ensures { result ≡ moved_place old new w }
 {
