@@ -31,7 +31,7 @@ use Rattle.amending.specs.Lent.{Lent, Handed, handed, unchanged, sum_records, su
 use Rattle.amending.specs.Memory.{Memory, rooms_in, used_in, within, is_edition, amend_in, held_by, refused_at, answered, left_in, Amends}
 use Rattle.amending.specs.States.{held_of, Holds}
 use Rattle.amending.specs.declared.held.Held.{Held}
-use Rattle.amending.proofs.Flags.{left, right}
+use Rattle.std.proofs.lemmas.Bool.Decides.{nat_tests}
 use Rattle.amending.proofs.AmendingLaws.{pick_is}
 use Rattle.amending.proofs.SwapLaws.{swapped_latest}
 use Rattle.amending.proofs.Editions.{tested, known, none_tested}
@@ -90,9 +90,7 @@ module _ (E : Edition) (l : Lists) (n : List ℕ) (R : Rooms) (e : ℕ) where
     lent_latest : in_order R L ≡ true → L.latest ≡ latest_of L.rows
     unfolding in_order
     lent_latest o =
-        let a = right (ascending 0 (length L.script) L.rows) _ o in
-        let b = right (eqb (length L.words) (record_width * sum_records L.rows)) _ a in
-        eqb-true _ _ (left _ _ (right (eqb L.tokens (sum_tokens L.rows)) _ b))
+        grind (arith, nat_tests)
 
     lent_told : (k : ℕ) → Told R e L.latest n (amend_lent E l R L k n)
     unfolding amend_lent lent_at latest_of

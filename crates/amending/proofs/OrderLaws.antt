@@ -68,9 +68,6 @@ pub record Fits (i records tokens : ℕ) (r : Row) : Type 0 where
   pub tokens_left : r.tokens ≤ tokens
 
 module _ (i m t : ℕ) (r : Row) where
-  fits_yes : Fits i m t r → row_fits i m t r ≡ true
-  fits_yes f = grind (arith, nat_tests)
-
   pub fits_are : row_fits i m t r ≡ true → Fits i m t r
   fits_are b = record {
     after = grind (arith, nat_tests);
@@ -94,33 +91,11 @@ told j m t x rs = ascending 0 j rs && (eqb m (sum_records rs) && (eqb t (sum_tok
 pub counted_first : (j m t x : ℕ) (rs : List Row) → told j m t x rs ≡ counted 0 j m t x 0 rs
 counted_first j m t x rs = let own : max 0 (latest_of rs) ≡ latest_of rs = omega arith in rw own
 
--- a sum of which a is known
-eqb_less : (a s m : ℕ) → a ≤ m → eqb m (a + s) ≡ eqb (m - a) s
-eqb_less a s m h = grind (arith, nat_tests)
-
 -- the first fits, and the rest are in order for what it leaves
 pub counted_turn : (i j m t x y : ℕ) (r : Row) (rs : List Row)
     → counted i j m t x y (r ∷ rs) ≡ (row_fits i m t r && counted r.end j (m - r.records) (t - r.tokens) x (max y r.latest) rs)
 unfolding ascending latest_of
-counted_turn i j m t x y r rs =
-    cases (row_fits i m t r)
-    (λ b.
-    let f : Fits i m t r = fits_are i m t r b in
-    let late : max y (max r.latest (latest_of rs)) ≡ max (max y r.latest) (latest_of rs) = omega arith in
-    rw (b, le-leb _ _ f.after, lt-ltb _ _ f.filled, le-leb _ _ f.has_record, le-leb _ _ f.has_token, eqb_less _ (sum_records rs) m f.records_left, eqb_less _ (sum_tokens rs) t f.tokens_left, late))
-    (λ b. rw b (no _ (λ o.
-    let f : Ascends i j r rs = ascends i j r rs (left (ascending i j (r ∷ rs)) _ o) in
-    let s = right (ascending i j (r ∷ rs)) _ o in
-    let sm : m ≡ r.records + sum_records rs = eqb-true m (r.records + sum_records rs) (left _ _ s) in
-    let st : t ≡ r.tokens + sum_tokens rs = eqb-true t (r.tokens + sum_tokens rs) (left _ _ (right (eqb m (r.records + sum_records rs)) _ s)) in
-    false≢true (sym b ∙ fits_yes i m t r (record {
-      after = f.after;
-      filled = f.filled;
-      has_record = f.has_record;
-      has_token = f.has_token;
-      records_left = omega arith;
-      tokens_left = omega arith;
-    })))))
+counted_turn i j m t x y r rs = grind (arith, nat_tests)
 
 -- so of the n entries of a directory, those from number k on
 pub counted_next : (d : List ℕ) (k n i j m t x y : ℕ) → k < n
