@@ -2,15 +2,15 @@
 use Rattle.std.specs.Prelude.{if◌then◌else◌, Result, Ok, Err, MatchResult}
 use Rattle.std.specs.Result.{IsErrAnd}
 use mathlib.Core.Path.{◌≡◌, refl, sym, ap, ◌∙◌, subst}
-use mathlib.Core.Bool.{Bool, true, false, ◌&&◌, ◌||◌, not, false≢true}
+use mathlib.Core.Bool.{true, false, ◌&&◌, not, false≢true}
 use mathlib.Core.List.{List, [], ◌∷◌, ◌++◌, map}
 use Prim.Native.Nat.{ℕ, ◌+◌, ◌-◌, ◌*◌, ◌/◌, ◌≤◌, ◌<◌}
 use native.Mathlib.Omega.{arith}
-use lib.Dec.{T, leb, ltb, eqb}
+use lib.Dec.{T, leb, eqb}
 use lib.ListN.{length, take, drop, length-append, length-drop, length-map}
 use lib.Seq.{length-take-le}
 use Rattle.std.proofs.lemmas.Bool.Decides.{nat_tests}
-use borrow.Author.Tests.{le-leb, leb-true, le-ltb, ltb-false, eq-eqb, ne_eqb, eqb-true}
+use borrow.Author.Tests.{eq-eqb, ne_eqb}
 use Rattle.tokens.specs.Limits.{most_bytes, most_tokens}
 use Rattle.tokens.specs.Text.{count}
 use Rattle.tokens.specs.Names.{Lists}
@@ -18,7 +18,7 @@ use Rattle.tokens.specs.Tokens.{Lexed, counts, end_of}
 use Rattle.grammar.specs.Sizes.{record_width, entry_width, most_records, most_statements}
 use Rattle.grammar.specs.Grammar.{Edition, Language}
 use Rattle.grammar.specs.Script.{Entry, accepted, refused, read_script, no_zero, tokens_of, language, number_of}
-use Rattle.grammar.specs.Words.{Row, row_of, latest_of}
+use Rattle.grammar.specs.Words.{Row, row_of}
 use Rattle.reading.specs.Meets.{edition_by, listed}
 use Rattle.reading.specs.Judging.{last_end as text_end, judgement}
 use Rattle.reading.specs.declared.judging.Counts.{Counts}
@@ -35,7 +35,7 @@ use Rattle.amending.specs.Memory.{Memory, rooms_in, as_rooms, used_in, within, i
 use Rattle.amending.specs.Grounds.{ends_at, has_order, Ends, Few, words_at, Stands, Admits, alone, totals, fitting_by, Fits, latest_then, MeetsVerdict}
 use Rattle.amending.specs.declared.held.Held.{Held}
 use Rattle.amending.specs.declared.rooms.Rooms.{Rooms as Most}
-use Rattle.amending.proofs.Flags.{no, yes, left, right, cases, same}
+use Rattle.amending.proofs.Flags.{no, cases}
 use Rattle.amending.proofs.EntryLaws.{pick_here, pick_past, rows_split, rows_count}
 use Rattle.amending.proofs.OrderLaws.{told, Ordered, ordered, Stands as Inside, stands as inside, records_joined, tokens_joined}
 use Rattle.amending.proofs.SwapLaws.{swapped_records, swapped_tokens, swapped_count}
@@ -106,27 +106,13 @@ module _ (M : Memory) (h : Held) (w : Within (rooms_in M) h) where
   -- 20: the code's test is the definition's
   pub order_is : in_order (rooms_in M) (used_in M h) ≡ (leb (entry_width * h.statements) (length M.directory) && told h.bytes h.records h.tokens h.latest rows)
   unfolding in_order
-  order_is = same _ _ to from
-    where
-      to : in_order (rooms_in M) (used_in M h) ≡ true → (leb (entry_width * h.statements) (length M.directory) && told h.bytes h.records h.tokens h.latest rows) ≡ true
-      to b =
-          let b₁ = right (ascending 0 (length (take h.bytes M.script)) rows) _ b in
-          let b₂ = right (eqb (length (take (record_width * h.records) M.records)) (record_width * sum_records rows)) _ b₁ in
-          let a : ascending 0 h.bytes rows ≡ true = ap (λ (n : ℕ). ascending 0 n rows) (sym bytes_used) ∙ left _ _ b in
-          let e : length (take (record_width * h.records) M.records) ≡ record_width * sum_records rows = eqb-true _ _ (left _ _ b₁) in
-          let r : h.records ≡ sum_records rows = omega (arith, words_used, e) in
-          let b₃ = right (eqb h.tokens (sum_tokens rows)) _ b₂ in
-          let t : eqb h.tokens (sum_tokens rows) ≡ true = left _ _ b₂ in
-          let x : eqb h.latest (latest_of rows) ≡ true = left _ _ b₃ in
-          yes (le-leb _ _ entries_fit) (yes a (yes (eq-eqb _ _ r) (yes t x)))
-
-      from : (leb (entry_width * h.statements) (length M.directory) && told h.bytes h.records h.tokens h.latest rows) ≡ true → in_order (rooms_in M) (used_in M h) ≡ true
-      from b =
-          let O : Ordered M.directory h.statements h.bytes h.records h.tokens h.latest = ordered M.directory h.statements h.bytes h.records h.tokens h.latest b in
-          let e : length (take (record_width * h.records) M.records) ≡ record_width * sum_records rows = omega (arith, words_used, O.record_sum) in
-          let o : over_rows (rooms_in M) (length (take h.bytes M.script)) rows ≡ false =
-          over_no (rooms_in M) (length (take h.bytes M.script)) rows h (sym bytes_used) O.token_sum O.record_sum (sym (rows_count h.statements M.directory)) w in
-          yes (ap (λ (n : ℕ). ascending 0 n rows) bytes_used ∙ O.order) (yes (eq-eqb _ _ e) (yes (eq-eqb _ _ O.token_sum) (yes (eq-eqb _ _ O.latest_is) (ap not o))))
+  order_is =
+      let fits : h.tokens ≡ sum_tokens rows → h.records ≡ sum_records rows → over_rows (rooms_in M) (length (take h.bytes M.script)) rows ≡ false =
+      λ t r. over_no (rooms_in M) (length (take h.bytes M.script)) rows h (sym bytes_used) t r (sym (rows_count h.statements M.directory)) w in
+      let order : ascending 0 (length (take h.bytes M.script)) rows ≡ ascending 0 h.bytes rows = ap (λ (n : ℕ). ascending 0 n rows) bytes_used in
+      let words = words_used in
+      let entries = entries_fit in
+      grind (arith, nat_tests)
 
 -- ---- 18 and 16
 

@@ -1,20 +1,14 @@
 -- Laws of a part that gets another length or other elements in place, and of the memory that is left.
 use mathlib.Core.Path.{◌≡◌, refl, sym, ap, ◌∙◌}
-use mathlib.Core.List.{List, [], ◌∷◌, ◌++◌, append_assoc}
-use Prim.Native.Nat.{ℕ, zero, suc, ◌+◌, ◌-◌, ◌≤◌, ◌<◌, max}
-use native.Mathlib.Nat.{sub-zero, suc-sub-suc, not-suc-le-zero, le_of_suc-le-suc}
+use mathlib.Core.List.{List, ◌++◌, append_assoc}
+use Prim.Native.Nat.{ℕ, ◌+◌, ◌-◌, ◌≤◌, ◌<◌, max}
 use native.Mathlib.Omega.{arith}
 use lib.ListN.{length, take, drop, replicate, length-drop, length-append, length-replicate, take-append-drop}
-use lib.Seq.{paste, length-take-le, take-nil, take_all, take-length, take-take, take-append-le, drop_at, take-paste, drop-paste, drop-drop}
+use lib.Seq.{paste, length-take-le, take_all, take-length, take-take, take-append-le, drop_at, take-paste, drop-paste, drop-drop}
+use Rattle.std.proofs.lemmas.Slice.{between_is}
 use Rattle.amending.specs.Moves.{part, used_after, resized, spliced, leave}
 
 -- ---- a part that is given another size
-
-pub part_is : {A : Type 0} (t u : ℕ) (l : List A) → t ≤ u → take (u - t) (drop t l) ≡ part t u l
-part_is zero u l h = rw sub-zero
-part_is (suc t) zero l h = absurd (not-suc-le-zero h)
-part_is (suc t) (suc u) [] h = take-nil (suc u - suc t)
-part_is (suc t) (suc u) (x ∷ xs) h = rw suc-sub-suc (part_is t u xs (le_of_suc-le-suc h))
 
 module _ {A : Type 0} (clear : A) (l : List A) (used from to k : ℕ) (ordered : to ≤ used) (within : used ≤ length l) (room : from + k + (used - to) ≤ length l) where
   -- the part keeps its size: nothing moves
@@ -32,7 +26,7 @@ module _ {A : Type 0} (clear : A) (l : List A) (used from to k : ℕ) (ordered :
   grown h =
       let z : used - used_after used from to k ≡ 0 = omega arith in
       let m : max used (used_after used from to k) ≡ from + k + (used - to) = omega arith in
-      rw (z, m, part_is to used l ordered) (append_assoc (take (from + k) l) (part to used l) (drop (from + k + (used - to)) l))
+      rw (z, m, between_is l to used) (append_assoc (take (from + k) l) (part to used l) (drop (from + k + (used - to)) l))
 
   -- it shrinks: what the move leaves behind is cleared
   pub shrunk : from + k < to
@@ -49,7 +43,7 @@ module _ {A : Type 0} (clear : A) (l : List A) (used from to k : ℕ) (ordered :
       let t : take u moved ≡ take (from + k) l ++ take n (drop to l) = take-paste l (from + k) (drop to l) n (omega arith) (omega arith) in
       let d : drop (u + f) moved ≡ drop (u + f) l =
       sym (drop-drop f u moved) ∙ ap (drop f) (drop-paste l (from + k) (drop to l) n (omega arith) (omega arith)) ∙ drop-drop f u l in
-      rw (t, d, m, part_is to used l ordered, take_all f (replicate f clear) (omega arith)) (simp append_assoc)
+      rw (t, d, m, between_is l to used, take_all f (replicate f clear) (omega arith)) (simp append_assoc)
 
 -- ---- a part that is replaced
 

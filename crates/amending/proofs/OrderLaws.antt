@@ -1,19 +1,19 @@
 -- Entries in order: tested one after the other, and what their order tells.
-use mathlib.Core.Path.{◌≡◌, refl, sym, ap, ◌∙◌}
-use mathlib.Core.Bool.{Bool, true, false, ◌&&◌, false≢true}
+use mathlib.Core.Path.{◌≡◌, refl, ap, ◌∙◌}
+use mathlib.Core.Bool.{Bool, true, ◌&&◌}
 use mathlib.Core.List.{List, [], ◌∷◌, ◌++◌, map}
 use Prim.Native.Nat.{ℕ, ◌+◌, ◌-◌, ◌*◌, ◌≤◌, ◌<◌, max}
 use native.Mathlib.Omega.{arith}
-use lib.Dec.{leb, ltb, eqb}
+use lib.Dec.{leb, eqb}
 use lib.ListN.{length, drop}
 use Rattle.std.proofs.lemmas.Bool.Decides.{nat_tests}
-use borrow.Author.Tests.{ltb-true, leb-true, eqb-true, lt-ltb, le-leb, eq-eqb}
+use borrow.Author.Tests.{leb-true}
 use Rattle.grammar.specs.Sizes.{entry_width}
 use Rattle.grammar.specs.Words.{Row, latest_of}
 use Rattle.amending.specs.Amending.{Pick}
 use Rattle.amending.specs.Lent.{ascending, sum_records, sum_tokens}
 use Rattle.amending.specs.Entries.{row_at, rows_from, row_fits}
-use Rattle.amending.proofs.Flags.{no, yes, left, right, cases, same}
+use Rattle.amending.proofs.Flags.{same}
 use Rattle.amending.proofs.EntryLaws.{rows_turn, rows_none}
 
 -- ---- what `ascending` tells

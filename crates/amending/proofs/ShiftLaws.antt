@@ -1,23 +1,20 @@
 -- Laws of a directory whose places are moved: one turn of the loop, the rows of the moved words, and where a place is moved plainly.
-use Rattle.std.specs.Prelude.{if◌then◌else◌}
 use mathlib.Core.Path.{◌≡◌, refl, sym, ap, ◌∙◌}
-use mathlib.Core.Bool.{Bool, true, false, ◌&&◌}
+use mathlib.Core.Bool.{true}
 use mathlib.Core.List.{List, [], ◌∷◌, ◌++◌, append_assoc, map}
 use Prim.Native.Nat.{ℕ, zero, suc, ◌+◌, ◌-◌, ◌*◌, ◌^◌, ◌≤◌, ◌<◌}
 use native.Mathlib.Nat.{suc-add}
 use native.Mathlib.Numerals.{towards_suc}
 use native.Mathlib.Omega.{arith}
-use lib.Dec.{leb, ltb}
 use lib.ListN.{length, take, drop, get_or, set, length-append, take-append-drop}
 use lib.Seq.{drop-cons, take_at, drop_at, take-append-add, drop-append-add, length-take-le, get_or-set_other}
 use Rattle.std.proofs.lemmas.Bool.Decides.{nat_tests}
-use borrow.Author.Tests.{ltb-true, leb-true, lt-ltb, le-leb}
+use borrow.Author.Tests.{le-leb}
 use Rattle.grammar.specs.Sizes.{entry_width}
 use Rattle.grammar.specs.Words.{Row, rows_words}
 use Rattle.grammar.proofs.WordLaws.{rows_length}
 use Rattle.amending.specs.Lent.{ascending, moved_row, between_row}
 use Rattle.amending.specs.Entries.{moved_place, shifted_row, moved_words, shifted}
-use Rattle.amending.proofs.Flags.{no, left, right}
 use Rattle.amending.proofs.OrderLaws.{Ascends, ascends, ascending_le}
 
 -- ---- one place
