@@ -9,6 +9,8 @@ use native.Mathlib.Omega.{arith}
 use lib.Dec.{T, leb, eqb}
 use lib.ListN.{length, take, drop, length-append, length-drop, length-map}
 use lib.Seq.{length-take-le}
+use mathlib.Core.Logic.{◌⊎◌, ⊎_elim}
+use Rattle.std.proofs.lemmas.Bool.{cases_Bool}
 use Rattle.std.proofs.lemmas.Bool.Decides.{nat_tests}
 use borrow.Author.Tests.{eq-eqb, ne_eqb}
 use Rattle.tokens.specs.Limits.{most_bytes, most_tokens}
@@ -35,7 +37,6 @@ use Rattle.amending.specs.Memory.{Memory, rooms_in, as_rooms, used_in, within, i
 use Rattle.amending.specs.Grounds.{ends_at, has_order, Ends, Few, words_at, Stands, Admits, alone, totals, fitting_by, Fits, latest_then, MeetsVerdict}
 use Rattle.amending.specs.declared.held.Held.{Held}
 use Rattle.amending.specs.declared.rooms.Rooms.{Rooms as Most}
-use Rattle.amending.proofs.Flags.{no, cases}
 use Rattle.amending.proofs.EntryLaws.{pick_here, pick_past, rows_split, rows_count}
 use Rattle.amending.proofs.OrderLaws.{told, Ordered, ordered, Stands as Inside, stands as inside, records_joined, tokens_joined}
 use Rattle.amending.proofs.SwapLaws.{swapped_records, swapped_tokens, swapped_count}
@@ -61,9 +62,6 @@ module _ (R : Rooms) (h : Held) where
   unfolding within
   within_are b = record { bytes = grind (arith, nat_tests); tokens = grind (arith, nat_tests); records = grind (arith, nat_tests); statements = grind (arith, nat_tests) }
 
-  pub within_no : (Within R h → ⊥) → within R h ≡ false
-  within_no f = no _ (λ b. f (within_are b))
-
 -- totals that are over capacity or room are those that are not within
 module _ (R : Rooms) (b : ℕ) (rs : List Row) (h : Held) (p : h.bytes ≡ b) (q : h.tokens ≡ sum_tokens rs) (r : h.records ≡ sum_records rs) (s : h.statements ≡ length rs) where
   over_no : Within R h → over_rows R b rs ≡ false
@@ -75,7 +73,8 @@ module _ (R : Rooms) (b : ℕ) (rs : List Row) (h : Held) (p : h.bytes ≡ b) (q
   over_are f = record { bytes = grind (arith, nat_tests); tokens = grind (arith, nat_tests); records = grind (arith, nat_tests); statements = grind (arith, nat_tests) }
 
   over_yes : within R h ≡ false → over_rows R b rs ≡ true
-  over_yes f = cases (over_rows R b rs) (λ t. t) (λ n. absurd (false≢true (sym f ∙ within_yes R h (over_are n))))
+  unfolding over_rows within
+  over_yes f = grind (arith, nat_tests)
 
 -- ---- the words that are used, where counts are within
 
@@ -304,22 +303,20 @@ module _ (l : Lists) (M : Memory) (h : Held) (k : ℕ) (n : List ℕ) (E : Editi
 
             -- a text that does not fit alone does not fit with others
             alone_not : within (rooms_in M) (alone c) ≡ false → within (rooms_in M) whole ≡ false
-            alone_not f = within_no (rooms_in M) whole (λ x. false≢true (sym f ∙ within_yes (rooms_in M) (alone c) (record {
-              bytes = omega (arith, x.bytes);
-              tokens = omega (arith, x.tokens);
-              records = omega (arith, x.records);
-              statements = omega (arith, x.statements);
-            })))
+            unfolding within
+            alone_not f = grind (arith, nat_tests)
 
             -- 18, 16, or what is made
             fitted : MeetsVerdict l M h k n (fitting_by (rooms_in M) h (words_at d (entry_width * k)) n c)
             unfolding fitting_by put_lent fitting_lent swapped
             fitted =
-                cases (ends_at n c.last c.tokens)
-                (λ e. rw e (cases (within (rooms_in M) (alone c))
-                (λ a. rw a (cases (within (rooms_in M) whole) (λ f. rw f (made e f)) (λ f. rw f (over_there e f))))
-                (λ a. rw a (over_there e (alone_not a)))))
+                ⊎_elim
+                (λ e. rw e (⊎_elim
+                (λ a. rw a (⊎_elim (λ f. rw f (made e f)) (λ f. rw f (over_there e f)) (cases_Bool (within (rooms_in M) whole))))
+                (λ a. rw a (over_there e (alone_not a)))
+                (cases_Bool (within (rooms_in M) (alone c)))))
                 (λ e. rw e (not_ended e))
+                (cases_Bool (ends_at n c.last c.tokens))
               where
                 not_ended : ends_at n c.last c.tokens ≡ false → amend_in l M h k n ≡ unchanged 18 c.bytes
                 not_ended e = put ∙ rw (G.reads, ends_is ∙ e, size_is)

@@ -13,7 +13,6 @@ use Rattle.grammar.specs.Words.{Row, latest_of}
 use Rattle.amending.specs.Amending.{Pick}
 use Rattle.amending.specs.Lent.{ascending, sum_records, sum_tokens}
 use Rattle.amending.specs.Entries.{row_at, rows_from, row_fits}
-use Rattle.amending.proofs.Flags.{same}
 use Rattle.amending.proofs.EntryLaws.{rows_turn, rows_none}
 
 -- ---- what `ascending` tells
