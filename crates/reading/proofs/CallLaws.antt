@@ -22,7 +22,8 @@ use Rattle.grammar.specs.Trees.{Tree, node, nil, fields}
 use Rattle.grammar.specs.Readers.{Out, ok, refused, Reader, bind, ◌>>=◌, ◌>>◌, give, fail_at, the}
 use Rattle.grammar.specs.Grammar.{Language, content, optional, date_of, a_date, currency_of, a_currency, curve, df, rate_of, rate_index, equity, pair, spot_of, spot, call_of}
 use Rattle.reading.specs.Calls.{call_kind, call_by, method_kind, optional_by, ending}
-use Rattle.reading.specs.Meets.{toks_at, token_at, Holds, Follows, the_by, Takes, MeetsNumber, MeetsLeaf, Leads, Few}
+use Rattle.reading.specs.Meets.{toks_at, token_at, Holds, Follows, the_by, Takes, MeetsNumber, MeetsLeaf, Leads}
+use Rattle.reading.specs.Few.{Few}
 use Rattle.reading.specs.declared.records.Node.{Node}
 use Rattle.reading.specs.Faults.{refused_by, fault_at}
 use Rattle.reading.specs.declared.answers.Fault.{Fault}
@@ -200,7 +201,7 @@ module _ {t : List ℕ} {c : Cursor} (h : Holds t c) (W : Language) (l a : ℕ) 
 
 -- the first string decides
 module _ {t : List ℕ} {c : Cursor} (h : Holds t c) (s : c.code ≡ 5) (W : Language) (l : ℕ) {r : Option ℕ}
-  (e : r ≡ index_of (place W.currencies (take (c.end - 1 - (c.start + 1)) (drop (c.start + 1) t)))) (ts : List Token) where
+    (e : r ≡ index_of (place W.currencies (take (c.end - 1 - (c.start + 1)) (drop (c.start + 1) t)))) (ts : List Token) where
   place_of : r ≡ index_of (place W.currencies (content (token_at t c)))
   place_of = e ∙ ap (λ (l : List ℕ). index_of (place W.currencies l)) (sym (content_is h s))
 
