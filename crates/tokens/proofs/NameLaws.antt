@@ -226,13 +226,6 @@ place_le (m ∷ ms) n = go (same m n) refl (place_le ms n)
     go false e h = rw (place_miss m ms n e) (after_le (place ms n) (length ms) h)
 
 -- ---- whether a name stands among others
-pub member_test : (ns : List (List ℕ)) (n : List ℕ) → not (eqb (place ns n) 0) ≡ member ns n
-member_test ns n = go (place ns n)
-  where
-    go : (p : ℕ) → not (eqb p 0) ≡ leb 1 p
-    go zero = refl
-    go (suc p) = simp (ne_eqb (suc p) 0 (λ e. omega arith), le-leb 1 (suc p) (omega arith))
-
 member_cons : (m : List ℕ) (ms : List (List ℕ)) (n : List ℕ) → member (m ∷ ms) n ≡ (same m n || member ms n)
 unfolding after
 member_cons m ms n = go (same m n) refl (place ms n) refl

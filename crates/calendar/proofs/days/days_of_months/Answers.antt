@@ -15,6 +15,3 @@ pub returns-then-is_leap : goal.returns-then-is_leap
 returns-then-is_leap c = simp (months_of c.args.y c.args.n, le-leb 2 _ c.if-n-lt2.false, sym c.is_leap.ensures ∙ c.if-is_leap.true)
     (omega (arith, c.days_of_plain_months-plain.ensures))
 
-pub returns-else-is_leap : goal.returns-else-is_leap
-returns-else-is_leap c = simp (months_of c.args.y c.args.n, le-leb 2 _ c.if-n-lt2.false, sym c.is_leap.ensures ∙ c.if-is_leap.false)
-    (omega (arith, c.days_of_plain_months-plain.ensures))
