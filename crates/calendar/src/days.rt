@@ -36,6 +36,7 @@ fn is_day(y: u32, m: u32, d: u32) -> bool
 }
 
 // The days of the first n years: 365 each, and a leap day by the Gregorian rule.
+#[tactic(auto, using(crate::proofs::YearLaws::years_by_rule))]
 fn days_of_years(n: u32) -> u32
     requires { n ≤ last_year }
     ensures { result ≡ total year_days n }
@@ -67,6 +68,7 @@ fn days_of_plain_months(n: u32) -> u32
 }
 
 // The days of the first n months of the year y.
+#[tactic(auto, using(crate::proofs::YearLaws::months_of, crate::proofs::YearLaws::months_most))]
 fn days_of_months(y: u32, n: u32) -> u32
     requires { n ≤ 12 }
     ensures { result ≡ total (days_of y) n }
