@@ -9,9 +9,6 @@ use Rattle.tokens.proofs.TableLaws.{tens_small}
 use Rattle.tokens.proofs.FloatLaws.{zero_is}
 use Rattle.tokens.proofs.numbers.value_of.Goals as goal
 
-pub returns-in-Err : goal.returns-in-Err
-returns-in-Err c = zero_is ∙ value_none _ _ c.measured-run.ensures (λ z. omega (arith, number_in c.in-Err.field-0, c.in-Err.ensures, z))
-
 pub int_to_float-result-in-Ok : goal.int_to_float-result-in-Ok
 unfolding in_float
 int_to_float-result-in-Ok c =
@@ -19,5 +16,3 @@ int_to_float-result-in-Ok c =
     let l = fault_none m.dots m.digits m.decimals (sym c.in-Ok.ensures) in
     rw c.ten_to.ensures (le→leb _ _ (tens_small m.decimals (omega arith)))
 
-pub returns-in-Ok : goal.returns-in-Ok
-returns-in-Ok c = rw c.ten_to.ensures (value_said _ _ c.measured-run.ensures (sym c.in-Ok.ensures))
