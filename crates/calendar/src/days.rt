@@ -120,7 +120,7 @@ fn month_of(y: u32, n: u32) -> u32
     }
 }
 
-// The day that has the count n; year, month and day are 0 where none has it.
+// The day that has the count n; year, month and day are 0 where none has it, and so the archive's exports hand them on.
 pub fn day_of(n: u32) -> Day
     ensures { result ≡ day_of n }
 {

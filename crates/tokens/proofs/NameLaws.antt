@@ -7,9 +7,9 @@ use native.Mathlib.Nat.{zero-add, add_comm}
 use native.Mathlib.Numerals.{add-one}
 use native.Mathlib.Omega.{arith}
 use lib.Dec.{eqb, leb, ltb}
-use borrow.Author.Tests.{ltb-true, ltb-false, leb-true, eq-eqb, ne_eqb, le-leb, not-true}
-use lib.ListN.{length, get_or, drop, take, drop_of_length-le, length-drop, take-append-drop}
-use lib.Seq.{drop-cons, drop-drop, take_all, take-add}
+use borrow.Author.Tests.{ltb-true, ltb-false, leb-true, eq-eqb, le-leb, not-true}
+use lib.ListN.{length, drop, take, drop_of_length-le, length-drop, take-append-drop}
+use lib.Seq.{drop-drop, take_all, take-add}
 use Rattle.tokens.specs.Text.{same, every, leading, other}
 use Rattle.tokens.specs.Names.{push, names, ended, place, member, distinct, good_name, good_names, usd_first, good_list}
 use Rattle.tokens.proofs.Shapes.{same_eq, leading_le}

@@ -168,6 +168,7 @@ fn token_at(s: &[u8], at: usize) -> Result<Mark, Refusal>
 pub fn lex(s: &[u8], at: usize) -> Result<Mark, Refusal>
     ensures { Tells (mark_at s.now at) result }
 {
+    // A gap may have any length, so no range gives the places.
     let mut i = at;
     while i < s.len() {
         let end = gap_end(s, i);

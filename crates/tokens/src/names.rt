@@ -126,6 +126,7 @@ fn are_good(money: bool, list: &[u8]) -> bool
     let mut slots = [0u8; 2048];
     let mut at: usize = 0;
     let mut k: usize = 0;
+    // Each name says where the next begins, so no range gives the places.
     while at < list.len() {
         if k == MOST_NAMES {
             return false;

@@ -62,6 +62,7 @@ pub fn scan(s: &[u8]) -> Result<Summary, Refusal>
     let mut at: usize = 0;
     let mut count: usize = 0;
     let mut last: usize = 0;
+    // Each token says where the next is looked for, so no range gives the places.
     loop {
         let m = lex(s, at)?;
         if m.code == EOF {

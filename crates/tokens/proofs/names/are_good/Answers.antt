@@ -1,5 +1,4 @@
 -- `are_good` meets its contract. What the walk keeps stands in `Passed`, and the measure is how many bytes are left.
-use borrow.Author.Tests.{not-true, not-false}
 use mathlib.Core.Path.{refl, sym, ◌∙◌}
 use native.Mathlib.Omega.{arith}
 use lib.ListN.{get_or}

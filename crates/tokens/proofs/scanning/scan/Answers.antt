@@ -2,8 +2,7 @@
 use mathlib.Core.Path.{refl, sym, ◌∙◌}
 use native.Mathlib.Omega.{arith}
 use Rattle.std.proofs.lemmas.Result.{err_from_is_err_and}
-use Rattle.tokens.specs.Lexing.{scan_of}
-use Rattle.tokens.proofs.ScanLaws.{summary_end, summary_refused, summary_token, summary_line, mark_progress}
+use Rattle.tokens.proofs.ScanLaws.{summary_refused, summary_token, mark_progress}
 use Rattle.tokens.proofs.scanning.scan.Goals as goal
 
 pub returns-in_err-m : goal.returns-in_err-m
@@ -17,4 +16,3 @@ loop-m-preserved-then-m-ne-NEWLINE c =
     let l = c.loop-m in
     let p = mark_progress c.args.s.now l.at l.count l.last c.in_ok-m.m c.in_ok-m.ensures.0 c.if-m-eq-EOF.false c.in_ok-m.ensures.1 in
     (p.1, omega arith, sym (summary_token c.args.s.now l.at l.count l.last c.in_ok-m.m c.in_ok-m.ensures.0 c.if-m-eq-EOF.false c.in_ok-m.ensures.1 c.if-m-ne-NEWLINE.true) ∙ l.invariant.2)
-
