@@ -1,5 +1,5 @@
 // The calls that `archive_c` exports to C and Rust: reading, amending, the lookup, and the calendar. Answers, places and days
-// are words of 32 bits in lent arrays.
+// are words of 32 bits in lent arrays, and the arguments are those of the C interface.
 #![tactic(auto)]
 
 ghost use Rattle.std.specs.Prelude.{◌≡◌};
