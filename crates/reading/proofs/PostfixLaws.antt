@@ -69,7 +69,7 @@ module _ (W : Language) (p : Reader Tree) (moves : Moves p) (short : Sized p) (l
   unfolding ◌>>=◌
   index_refuses e h x = rw h
 
-  module _ (d : Cursor) (k q : ℕ) (o₁ : List ℕ) (r : Reads t (expression W p (toks_at t c.start)) m o d k q o₁) where
+  module _ {d : Cursor} {k q : ℕ} {o₁ : List ℕ} (r : Reads t (expression W p (toks_at t c.start)) m o d k q o₁) where
     index_at : (x : Tree) → index_of W p l x (toks_at t c.start) ≡ (the "]" >> give (again (binary 28 l x r.tree))) (toks_at t d.start)
     unfolding ◌>>=◌
     index_at x = rw r.is
@@ -90,10 +90,10 @@ module _ (W : Language) (p : Reader Tree) (moves : Moves p) (short : Sized p) (l
           let v : length (toks_at t d.start) < length (toks_at t c.start) = moves_less (expression_law W p moves) (toks_at t c.start) r.tree (toks_at t d.start) r.is in
           omega (arith, within, f, v, room, low, r.counts)
 
-      pub index_reads : (o₂ : List ℕ) → o₂ ≡ put_row o₁ k (row 28 (k - n + 1) 2 unused l)
+      pub index_reads : {o₂ : List ℕ} → o₂ ≡ put_row o₁ k (row 28 (k - n + 1) 2 unused l)
           → MeetsTurns t (λ x. index_of W p l x (toks_at t c.start)) n m o c (Ok (record { at = e; records = k + 1; string = 0 })) o₂
       unfolding code give
-      index_reads o₂ u = (
+      index_reads u = (
         λ x z h.
             record {
               tree = binary 28 l x r.tree;
@@ -159,7 +159,7 @@ module _ (W : Language) (I : Option (Reader Tree)) (sizes-in : EachSized I) (l :
     unfolding ◌>>=◌
     method_refuses e h x = method_at x ∙ (rw h)
 
-    module _ (e : Cursor) (k count : ℕ) (τ : Texts) (o₁ : List ℕ) (j : ReadsItems t (arguments W I (toks_at t d.start)) m o e k count τ o₁) where
+    module _ {e : Cursor} {k count : ℕ} {τ : Texts} {o₁ : List ℕ} (j : ReadsItems t (arguments W I (toks_at t d.start)) m o e k count τ o₁) where
       method_in : (x : Tree) → method_of W I l x (toks_at t c.start) ≡ (method l x (token_at t c) j.items >>= λ y. give (again y)) (toks_at t e.start)
       unfolding ◌>>=◌
       method_in x = method_at x ∙ (rw j.is)
@@ -178,10 +178,10 @@ module _ (W : Language) (I : Option (Reader Tree)) (sizes-in : EachSized I) (l :
             let spare = (arguments_spare W I sizes-in).bound (toks_at t d.start) j.items (toks_at t e.start) j.is in
             omega (arith, spare, named_then.0.fewer some_name, room, low, j.counts, j.parts_are, parts_few j.items)
 
-        pub method_reads : (κ : ℕ) → κ ≡ method_kind (token_at t c).text count → (κ ≡ 0 → ⊥) → (o₂ : List ℕ) → o₂ ≡ put_row o₁ k (row κ (k - n + 1) (count + 1) unused l)
+        pub method_reads : {κ : ℕ} → κ ≡ method_kind (token_at t c).text count → (κ ≡ 0 → ⊥) → {o₂ : List ℕ} → o₂ ≡ put_row o₁ k (row κ (k - n + 1) (count + 1) unused l)
             → MeetsTurns t (λ x. method_of W I l x (toks_at t c.start)) n m o c (Ok (record { at = e; records = k + 1; string = 0 })) o₂
         unfolding ◌>>=◌ give
-        method_reads κ q z o₂ u =
+        method_reads {κ} q z {o₂} u =
             (λ x s g. turn x s g, ((j.holds, method_numbers.2), omega (arith, method_numbers), method_numbers.3))
           where
             kind_is : κ ≡ method_kind (token_at t c).text (parts j.items)
@@ -250,53 +250,54 @@ pub record PostChain (W : Language) (I : Option (Reader Tree)) (l : ℕ) (t : Li
   pub tree : Tree
   pub is : R ≡ loop (postfix_turn W I l) tree (toks_at t c.start)
   pub tops : Tops n o tree m o'
+  pub each : Each I
 
 -- what is no String node
 plain_string : (t : List ℕ) (y : Tree) → Unquoted y → (0 ≡ string_at y) × Quoted t y
 plain_string t (node k l x (fields a b c d) ts) h = (rw (ne_eqb k 5 h), λ e. absurd (h e))
 
-module _ (W : Language) (I : Option (Reader Tree)) (each : Each I) (l : ℕ) (t : List ℕ) where
-  -- where the loop begins
-  pub post_enter : (x : Tree) (n : ℕ) (o : List ℕ) (c : Cursor) (m : ℕ) (o' : List ℕ) → Tops n o x m o' → PostChain W I l t (postfixes W I l x (toks_at t c.start)) n o c m o'
-  unfolding postfixes
-  post_enter x n o c m o' h = record { tree = x; is = refl; tops = h }
+-- where the loop begins
+pub post_enter : (W : Language) (I : Option (Reader Tree)) → Each I → (l : ℕ) (t : List ℕ) (x : Tree) {n : ℕ} {o : List ℕ} (c : Cursor) {m : ℕ} {o' : List ℕ} → Tops n o x m o'
+    → PostChain W I l t (postfixes W I l x (toks_at t c.start)) n o c m o'
+unfolding postfixes
+post_enter W I each l t x c h = record { tree = x; is = refl; tops = h; each = each }
 
-  module _ (R : Out Tree) (n : ℕ) (o : List ℕ) (c : Cursor) (m : ℕ) (o' : List ℕ) (ch : PostChain W I l t R n o c m o') where
-    turn_of : R ≡ follow (loop (postfix_turn W I l)) (postfix_turn W I l ch.tree (toks_at t c.start))
-    turn_of = ch.is ∙ loop_eq (postfix_turn_law W I each l) ch.tree (toks_at t c.start)
+module _ {W : Language} {I : Option (Reader Tree)} {l : ℕ} {t : List ℕ} {R : Out Tree} {n : ℕ} {o : List ℕ} {c : Cursor} {m : ℕ} {o' : List ℕ} (ch : PostChain W I l t R n o c m o') where
+  turn_of : R ≡ follow (loop (postfix_turn W I l)) (postfix_turn W I l ch.tree (toks_at t c.start))
+  turn_of = ch.is ∙ loop_eq (postfix_turn_law W I ch.each l) ch.tree (toks_at t c.start)
 
-    -- no sign: the loop ends
-    pub post_exit : Holds t c → postfix_sign c.code ≡ false → Reads t R n o c m 0 o'
-    unfolding postfix_turn code give
-    post_exit h z =
-        let s = plain_string t ch.tree ch.tops.unquoted in
-        let dot : eqb 47 c.code ≡ false = or_left (eqb 47 c.code) (eqb 44 c.code) z in
-        let bracket : eqb 44 c.code ≡ false = or_right (eqb 47 c.code) (eqb 44 c.code) z in
-        let q : postfix_turn W I l ch.tree (toks_at t c.start) ≡ ok (done ch.tree) (toks_at t c.start) = peek_is h _ ∙ (rw (dot, bracket)) in
-        record {
-          tree = ch.tree;
-          is = turn_of ∙ (rw q);
-          counts = ch.tops.counts;
-          writes = ch.tops.writes;
-          holds = h;
-          string = s.0;
-          quoted = s.1;
-        }
-      where
-        or_left : (a b : Bool) → (a || b) ≡ false → a ≡ false
-        or_left true b e = absurd (true≢false e)
-        or_left false b e = refl
+  -- no sign: the loop ends
+  pub post_exit : Holds t c → postfix_sign c.code ≡ false → Reads t R n o c m 0 o'
+  unfolding postfix_turn code give
+  post_exit h z =
+      let s = plain_string t ch.tree ch.tops.unquoted in
+      let dot : eqb 47 c.code ≡ false = or_left (eqb 47 c.code) (eqb 44 c.code) z in
+      let bracket : eqb 44 c.code ≡ false = or_right (eqb 47 c.code) (eqb 44 c.code) z in
+      let q : postfix_turn W I l ch.tree (toks_at t c.start) ≡ ok (done ch.tree) (toks_at t c.start) = peek_is h _ ∙ (rw (dot, bracket)) in
+      record {
+        tree = ch.tree;
+        is = turn_of ∙ (rw q);
+        counts = ch.tops.counts;
+        writes = ch.tops.writes;
+        holds = h;
+        string = s.0;
+        quoted = s.1;
+      }
+    where
+      or_left : (a b : Bool) → (a || b) ≡ false → a ≡ false
+      or_left true b e = absurd (true≢false e)
+      or_left false b e = refl
 
-        or_right : (a b : Bool) → (a || b) ≡ false → b ≡ false
-        or_right true b e = absurd (true≢false e)
-        or_right false b e = e
+      or_right : (a b : Bool) → (a || b) ≡ false → b ≡ false
+      or_right true b e = absurd (true≢false e)
+      or_right false b e = e
 
-    -- a turn is refused
-    pub post_refused : (e : Fault) → ((x : Tree) (s : List ℕ) → Tops n s x m o' → postfix_turn W I l x (toks_at t c.start) ≡ refused_by e) → R ≡ refused_by e
-    post_refused e turn = turn_of ∙ ap (follow (loop (postfix_turn W I l))) (turn ch.tree o ch.tops)
+  -- a turn is refused
+  pub post_refused : (e : Fault) → ((x : Tree) (s : List ℕ) → Tops n s x m o' → postfix_turn W I l x (toks_at t c.start) ≡ refused_by e) → R ≡ refused_by e
+  post_refused e turn = turn_of ∙ ap (follow (loop (postfix_turn W I l))) (turn ch.tree o ch.tops)
 
-    pub post_more : (r : Read) (o₂ : List ℕ) → MeetsTurns t (λ x. postfix_turn W I l x (toks_at t c.start)) n m o' c (Ok r) o₂ → PostChain W I l t R n o r.at r.records o₂
-    post_more r o₂ turn = let f = turn.0 ch.tree o ch.tops in record { tree = f.tree; is = turn_of ∙ (rw f.is); tops = f.tops }
+  pub post_more : (r : Read) (o₂ : List ℕ) → MeetsTurns t (λ x. postfix_turn W I l x (toks_at t c.start)) n m o' c (Ok r) o₂ → PostChain W I l t R n o r.at r.records o₂
+  post_more r o₂ turn = let f = turn.0 ch.tree o ch.tops in record { tree = f.tree; is = turn_of ∙ (rw f.is); tops = f.tops; each = ch.each }
 
 -- ---- names
 
@@ -376,7 +377,7 @@ module _ (s₂ : Bool) (res cur cou : List ℕ) (I : Option (Reader Tree)) (t : 
       let g : named (language_in s₂ res cur cou) (token_at t c) (toks_at t d.start) ≡ refused_by e = ap (λ (R : Reader Tree). R (toks_at t d.start)) (sym named_same) ∙ h in
       Facts.0 (sym ki ∙ z) ∙ (rw g)
 
-  module _ (f : Cursor) (m q : ℕ) (o₁ : List ℕ) (r : Reads t (named (words_in res [] []) (token_at t c) (toks_at t d.start)) n o f m q o₁) where
+  module _ {f : Cursor} {m q : ℕ} {o₁ : List ℕ} (r : Reads t (named (words_in res [] []) (token_at t c) (toks_at t d.start)) n o f m q o₁) where
     pub name_numbers : Room t c n → Follows t c d → c.code ≡ 1 → Ready t f m × (n < m)
     name_numbers room w e =
         let l = named_size (words_in res [] []) (token_at t c) (toks_at t d.start) r.tree (toks_at t f.start) r.is in

@@ -227,7 +227,7 @@ module _ (alone : Bool) (p : Reader Tree) (short : Sized p) (t : List ℕ) (c : 
         by_sign k (λ z. comparison_refused f b (rw (w.0 z).e_is at g))
         (λ z. comparison_second (w.1 z).sign m (w.1 z).q o' (w.1 z).left (w.1 z).yes e (w.1 z).follows f b g)
 
-    module _ (d : Cursor) (m₂ q₂ : ℕ) (o₂ : List ℕ) (r : Reads t (p (toks_at t e.start)) m o' d m₂ q₂ o₂) where
+    module _ {d : Cursor} {m₂ q₂ : ℕ} {o₂ : List ℕ} (r : Reads t (p (toks_at t e.start)) m o' d m₂ q₂ o₂) where
       first_read : k ≡ 0 → Reads t (p (toks_at t c.start)) n o d m₂ q₂ o₂
       first_read z = let F = w.0 z in rw (F.e_is, F.m_is, F.o_is) at r
 
@@ -273,7 +273,7 @@ module _ (W : Language) (t : List ℕ) (c d : Cursor) (n : ℕ) (o : List ℕ) (
         → parenthesised W depth (token_at t c) (toks_at t c.start) ≡ refused k b
     parenthesis_refused k b e = inside ∙ bind_refused (expression W (primary W (depth - 1))) _ (toks_at t d.start) k b e
 
-    module _ (e : Cursor) (m q : ℕ) (o' : List ℕ) (r : Reads t (expression W (primary W (depth - 1)) (toks_at t d.start)) n o e m q o') where
+    module _ {e : Cursor} {m q : ℕ} {o' : List ℕ} (r : Reads t (expression W (primary W (depth - 1)) (toks_at t d.start)) n o e m q o') where
       closing : parenthesised W depth (token_at t c) (toks_at t c.start) ≡ (the ")" >> give r.tree) (toks_at t e.start)
       unfolding ◌>>=◌
       closing = inside ∙ (rw r.is)
