@@ -9,12 +9,12 @@ use Rattle.reading.specs.declared.answers.Fault.{Fault}
 
 -- at the token that the cursor c holds
 abbrev pub fault_at : Cursor → Ground → Fault
-fault_at c g = record { ground = g; byte = c.start }
+fault_at c g = record { cause = g; byte = c.start }
 
 -- in a script whose statement begins at the byte b
 abbrev pub in_script : Fault → ℕ → Refusal
-in_script e b = record { ground = e.ground; byte = b + e.byte }
+in_script e b = record { cause = e.cause; byte = b + e.byte }
 
 -- as the definition has it
 abbrev pub refused_by : {A : Type 0} → Fault → Out A
-refused_by e = refused (number_of e.ground) e.byte
+refused_by e = refused (number_of e.cause) e.byte

@@ -21,7 +21,7 @@ pub data Judged : Type 0 where
 -- as the code answers it
 abbrev pub judged : Result Counts Refusal → Judged
 judged (Ok c) = good c
-judged (Err e) = rejected (number_of e.ground) e.byte
+judged (Err e) = rejected (number_of e.cause) e.byte
 
 -- a text of n bytes, whose last token ends at e
 abbrev pub judged_of : ℕ → ℕ → Outcome → Judged

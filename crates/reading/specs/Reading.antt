@@ -60,7 +60,7 @@ answer_to e bs x = answer_of e bs (latest_by x) (judged_of (length (script bs)) 
 -- what the code answers of a script that it accepts or refuses
 abbrev pub answered : List ℕ → Result Answer Refusal → Answer
 answered bs (Ok a) = a
-answered bs (Err e) = refused_at bs (ground_number e.ground) e.byte
+answered bs (Err e) = refused_at bs (ground_number e.cause) e.byte
 
 -- words at the front of lent memory: those past them are unchanged
 abbrev pub over : List ℕ → List ℕ → List ℕ

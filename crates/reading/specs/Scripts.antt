@@ -42,4 +42,4 @@ pub record ReadsAll (R : Outcome) (o d : List ℕ) (k n x : ℕ) (o' d' : List �
 
 abbrev pub MeetsAll : Outcome → List ℕ → List ℕ → Result All Refusal → List ℕ → List ℕ → Type 0
 MeetsAll R o d (Ok a) o' d' = ReadsAll R o d a.statements a.records a.latest o' d'
-MeetsAll R o d (Err e) o' d' = R ≡ refused (number_of e.ground) e.byte
+MeetsAll R o d (Err e) o' d' = R ≡ refused (number_of e.cause) e.byte

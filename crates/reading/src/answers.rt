@@ -9,17 +9,17 @@ use tokens::refusals::{Ground, Refusal};
 // A refusal inside a statement.
 #[derive(Clone, Copy)]
 pub struct Fault {
-    pub ground: Ground,
+    pub cause: Ground,
     pub byte: u16,
 }
 
 impl Fault {
     // A refusal at the token that stands at c.
-    pub fn at(c: Cursor, ground: Ground) -> Self
-        ensures { result ≡ fault_at c ground }
+    pub fn at(c: Cursor, cause: Ground) -> Self
+        ensures { result ≡ fault_at c cause }
     {
         Fault {
-            ground,
+            cause,
             byte: c.start,
         }
     }
@@ -30,7 +30,7 @@ impl Fault {
         ensures { result ≡ in_script self base }
     {
         Refusal {
-            ground: self.ground,
+            cause: self.cause,
             byte: base + self.byte as usize,
         }
     }

@@ -29,7 +29,7 @@ pub fn judge(script: &[u8], two: bool, lists: &Lists) -> Result<Counts, Refusal>
     let n = script_end(script)?;
     if !lists.are_well_formed() {
         return Err(Refusal {
-            ground: Ground::List,
+            cause: Ground::List,
             byte: 0,
         });
     }

@@ -45,7 +45,7 @@ pub fn read(
         _ => return refusal(
             script,
             Refusal {
-                ground: Ground::Edition,
+                cause: Ground::Edition,
                 byte: 0,
             },
         ),
@@ -69,7 +69,7 @@ fn read_in(
     let c = judge(script, two, lists)?;
     if c.records > record_room(records.len()) || c.statements > statement_room(directory.len()) {
         return Err(Refusal {
-            ground: Ground::Room,
+            cause: Ground::Room,
             byte: c.bytes,
         });
     }
@@ -103,11 +103,11 @@ fn acceptance(two: bool, c: Counts, latest: usize) -> Answer
 
 // A refusal, with the line and the column of its byte; the counts are 0, and so are the latest date and the edition.
 pub fn refusal(script: &[u8], e: Refusal) -> Answer
-    ensures { result ≡ refused_at script.now (number_of e.ground) e.byte }
+    ensures { result ≡ refused_at script.now (number_of e.cause) e.byte }
 {
     let place = place_of(script, e.byte);
     Answer {
-        number: e.ground.number(),
+        number: e.cause.number(),
         byte: e.byte,
         line: place.line,
         column: place.column,

@@ -177,10 +177,6 @@ module _ (s : List ℕ) (at : ℕ) where
 
 -- ---- the bytes of a token
 
--- a run of bytes behind the first one stays in the text
-pub run_fits : (f : ℕ → Bool) (s : List ℕ) (at : ℕ) → at < length s → at + 1 + leading f (drop (at + 1) s) ≤ length s
-run_fits f s at h = omega (arith, leading_le f (drop (at + 1) s), length-drop (at + 1) s)
-
 module _ (s : List ℕ) (at : ℕ) where
   -- the first quote behind `at` stands at q
   module _ (q : ℕ) (is : q ≡ at + 1 + leading (other 34) (drop (at + 1) s)) where

@@ -6,7 +6,9 @@ pub mod Cuts
 pub mod Shapes
 pub mod Closers
 pub mod Leading
+pub mod Chains
 pub mod KeyLaws
+pub mod WordLaws
 pub mod NumberLaws
 pub mod TableLaws
 pub mod FloatLaws

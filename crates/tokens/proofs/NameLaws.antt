@@ -57,17 +57,6 @@ module _ {A : Type 0} (f : A → Bool) where
       go true e k = simp (every_cons a xs e, every_cons a (xs ++ ys) e) k
       go false e k = simp (every_other a xs e, every_other a (xs ++ ys) e)
 
-module _ (f : ℕ → Bool) (s : List ℕ) (i : ℕ) where
-  pub every_turn : i < length s → f (get_or s i 0) ≡ true → every f (drop (i + 1) s) ≡ every f (drop i s)
-  every_turn h e = rw (add-one, drop-cons s i 0 h) (sym (every_cons f _ _ e))
-
-  pub every_stop : i < length s → f (get_or s i 0) ≡ false → every f (drop i s) ≡ false
-  every_stop h e = rw (drop-cons s i 0 h) (every_other f _ _ e)
-
-  pub every_end : length s ≤ i → every f (drop i s) ≡ true
-  unfolding every
-  every_end h = rw (drop_of_length-le s h)
-
 -- ---- the first name of a list: its bytes up to the line feed, or all of them
 abbrev line : List ℕ → ℕ
 line s = leading (other 10) s

@@ -270,7 +270,7 @@ module _ (s : List ℕ) (at n last : ℕ) (m : Mark) (is : m ≡ mark_at s at) w
 
   pub summary_refused : (e : Refusal) → refused_mark e ≡ m → as_scanned (Err e) ≡ Rest n last at
   summary_refused e h =
-      let k : m.code - 100 ≡ number_of e.ground = omega (arith, ap (λ (x : Mark). x.code) h) in
+      let k : m.code - 100 ≡ number_of e.cause = omega (arith, ap (λ (x : Mark). x.code) h) in
       (λ i. scanned.Refused (sym k i) (ap (λ (x : Mark). x.start) h i)) ∙ summary_fault (omega (arith, ap (λ (x : Mark). x.code) h))
 
   module _ (some : m.code ≡ 0 → ⊥) (whole : m.code < 100) where
@@ -306,7 +306,7 @@ module _ (s : List ℕ) (at : ℕ) (m : Mark) (is : m ≡ mark_at s at) where
 
   pub step_refused : (e : Refusal) → refused_mark e ≡ m → as_found (Err e) ≡ step_at s at
   step_refused e h =
-      let k : m.code - 100 ≡ number_of e.ground = omega (arith, ap (λ (x : Mark). x.code) h) in
+      let k : m.code - 100 ≡ number_of e.cause = omega (arith, ap (λ (x : Mark). x.code) h) in
       (λ i. found.Refused (sym k i) (ap (λ (x : Mark). x.start) h i)) ∙ step_fault (omega (arith, ap (λ (x : Mark). x.code) h))
 
   pub step_number : m.code ≡ 2 → (x : Float) → x ≡ value_of (take (m.end - m.start) (drop m.start s))

@@ -11,4 +11,4 @@ pub data Found : Type 0 where
 
 abbrev pub as_found : Result Piece Refusal → Found
 as_found (Ok t) = Token t
-as_found (Err e) = Refused (number_of e.ground) e.byte
+as_found (Err e) = Refused (number_of e.cause) e.byte

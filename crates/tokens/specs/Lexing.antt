@@ -78,7 +78,7 @@ mark_at s at = mark_from 0 at (drop at s)
 
 -- a refusal has no bytes
 abbrev pub refused_mark : Refusal → Mark
-refused_mark e = record { start = e.byte; end = e.byte; code = 100 + number_of e.ground }
+refused_mark e = record { start = e.byte; end = e.byte; code = 100 + number_of e.cause }
 
 -- what the code answers tells a mark: a token's, or that of a fault
 abbrev pub Tells : Mark → Result Mark Refusal → Type 0

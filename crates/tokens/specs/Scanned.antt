@@ -11,4 +11,4 @@ pub data Scanned : Type 0 where
 
 abbrev pub as_scanned : Result Summary Refusal → Scanned
 as_scanned (Ok n) = Counted n.tokens n.last
-as_scanned (Err e) = Refused (number_of e.ground) e.byte
+as_scanned (Err e) = Refused (number_of e.cause) e.byte

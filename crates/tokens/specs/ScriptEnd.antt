@@ -10,4 +10,4 @@ pub data ScriptEnd : Type 0 where
 
 abbrev pub as_end : Result ℕ Refusal → ScriptEnd
 as_end (Ok n) = At n
-as_end (Err e) = Refused (number_of e.ground) e.byte
+as_end (Err e) = Refused (number_of e.cause) e.byte

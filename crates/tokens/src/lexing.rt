@@ -7,7 +7,7 @@ ghost use Rattle.tokens.specs.Lexing.{lexeme_at, gap_width, byte_at, comment, wo
 use crate::codes::{EOF, NEWLINE, NUMBER, STRING};
 use crate::numbers::number_fault;
 use crate::refusals::{Ground, Refusal};
-use crate::text::{find, is_blank, is_digit, is_letter, is_name_byte, is_number_byte};
+use crate::text::{find, is_blank, is_digit, is_letter, is_name_byte, is_number_byte, run_end};
 use crate::words::{keyword, lone_sign, pair_key, pair_sign};
 
 // A token as readers keep it: its place and its kind's number.
@@ -26,7 +26,7 @@ impl From<Refusal> for Mark {
         Mark {
             start: e.byte,
             end: e.byte,
-            code: 100 + e.ground.number() as u8,
+            code: 100 + e.cause.number() as u8,
         }
     }
 }
@@ -35,42 +35,14 @@ impl From<Refusal> for Mark {
 fn byte_at(s: &[u8], at: usize) -> u8
     ensures { result ≡ byte_at s.now at }
 {
-    if at < s.len() { s[at] } else { 0 }
-}
-
-// Where the name that goes on at a place ends.
-fn name_end(s: &[u8], at: usize) -> usize
-    ensures { result ≡ at + leading name_byte (drop at s.now) }
-{
-    let mut i = at;
-    while i < s.len() {
-        if !is_name_byte(s[i]) {
-            return i;
-        }
-        i += 1;
-    }
-    i
-}
-
-// Where the number that goes on at a place ends.
-fn number_end(s: &[u8], at: usize) -> usize
-    ensures { result ≡ at + leading number_byte (drop at s.now) }
-{
-    let mut i = at;
-    while i < s.len() {
-        if !is_number_byte(s[i]) {
-            return i;
-        }
-        i += 1;
-    }
-    i
+    s.get(at).copied().unwrap_or(0)
 }
 
 // `#` and `//` begin a comment.
 fn is_comment(b: u8, next: u8) -> bool
     ensures { result ≡ comment b next }
 {
-    b == 35 || (b == 47 && next == 47)
+    b == b'#' || b == b'/' && next == b'/'
 }
 
 // Where the blank or the comment at a place ends; the place itself where there is none.
@@ -83,7 +55,7 @@ fn gap_end(s: &[u8], at: usize) -> usize
         return at + 1;
     }
     if is_comment(b, byte_at(s, at + 1)) {
-        return find(s, at + 1, 10);
+        return find(s, at + 1, b'\n');
     }
     at
 }
@@ -109,7 +81,7 @@ fn sign_at(s: &[u8], at: usize) -> Result<Mark, Refusal>
         });
     }
     Err(Refusal {
-        ground: Ground::Character,
+        cause: Ground::Character,
         byte: at,
     })
 }
@@ -119,7 +91,7 @@ fn word_at(s: &[u8], at: usize) -> Mark
     requires { at < length s.now }
     ensures { (result ≡ mark_of at (word_at s.now at)) × (result.code < 100) }
 {
-    let end = name_end(s, at + 1);
+    let end = run_end(s, at + 1, is_name_byte);
     let code = keyword(&s[at..end]);
     Mark {
         start: at,
@@ -133,14 +105,14 @@ fn number_at(s: &[u8], at: usize) -> Result<Mark, Refusal>
     requires { at < length s.now }
     ensures { Tells (mark_of at (number_at s.now at)) result }
 {
-    let end = number_end(s, at + 1);
+    let end = run_end(s, at + 1, is_number_byte);
     match number_fault(&s[at..end]) {
         Ok(()) => Ok(Mark {
             start: at,
             end,
             code: NUMBER,
         }),
-        Err(ground) => Err(Refusal { ground, byte: at }),
+        Err(ground) => Err(Refusal { cause: ground, byte: at }),
     }
 }
 
@@ -149,7 +121,7 @@ fn string_at(s: &[u8], at: usize) -> Result<Mark, Refusal>
     requires { at < length s.now }
     ensures { Tells (mark_of at (string_at s.now at)) result }
 {
-    let quote = find(s, at + 1, 34);
+    let quote = find(s, at + 1, b'"');
     if quote < s.len() {
         return Ok(Mark {
             start: at,
@@ -158,7 +130,7 @@ fn string_at(s: &[u8], at: usize) -> Result<Mark, Refusal>
         });
     }
     Err(Refusal {
-        ground: Ground::OpenString,
+        cause: Ground::OpenString,
         byte: at,
     })
 }
@@ -175,10 +147,10 @@ fn token_at(s: &[u8], at: usize) -> Result<Mark, Refusal>
     if is_digit(b) {
         return number_at(s, at);
     }
-    if b == 34 {
+    if b == b'"' {
         return string_at(s, at);
     }
-    if b == 10 {
+    if b == b'\n' {
         return Ok(Mark {
             start: at,
             end: at + 1,

@@ -28,19 +28,6 @@ fn walked(list: &[u8], name: &[u8]) -> Option<usize>
     None
 }
 
-// 0 where two bytes are equal.
-fn differ(a: u8, b: u8) -> u8
-    ensures { (a ≡ b → result ≡ 0) × (result ≤ 1) }
-{
-    if a == b { 0 } else { 1 }
-}
-
-fn least(a: u8, b: u8) -> u8
-    ensures { (result ≤ a) × (result ≤ b) }
-{
-    if b < a { b } else { a }
-}
-
 // 0 where a first byte, a last one and a line feed stand somewhere in a list as they would for a name of n bytes. Nothing
 // leaves the loop early, so that it is compiled to take many bytes at once.
 fn lowest(list: &[u8], n: usize, first: u8, last: u8) -> u8
@@ -49,13 +36,11 @@ fn lowest(list: &[u8], n: usize, first: u8, last: u8) -> u8
 {
     let most = list.len() - n;
     let mut low: u8 = 3;
-    let mut i: usize = 0;
-    while i < most {
-        let a = differ(list[i], first);
-        let b = differ(list[i + n - 1], last);
-        let c = differ(list[i + n], 10);
-        low = least(low, a + b + c);
-        i += 1;
+    for i in 0..most {
+        let a = u8::from(list[i] != first);
+        let b = u8::from(list[i + n - 1] != last);
+        let c = u8::from(list[i + n] != b'\n');
+        low = low.min(a + b + c);
     }
     low
 }
@@ -93,7 +78,7 @@ fn is_good_length(money: bool, n: usize) -> bool
     if money {
         return n == 3;
     }
-    1 <= n && n <= LONGEST_NAME
+    (1..=LONGEST_NAME).contains(&n)
 }
 
 fn is_good_byte(money: bool, b: u8) -> bool
@@ -102,34 +87,22 @@ fn is_good_byte(money: bool, b: u8) -> bool
     if money {
         return is_capital(b);
     }
-    32 <= b && (b <= 126 && b != 34)
+    (32..=126).contains(&b) && b != b'"'
 }
 
 fn is_good_name(money: bool, name: &[u8]) -> bool
     ensures { result ≡ good_name money name.now }
 {
-    if !is_good_length(money, name.len()) {
-        return false;
-    }
-    let mut i: usize = 0;
-    while i < name.len() {
-        if !is_good_byte(money, name[i]) {
-            return false;
-        }
-        i += 1;
-    }
-    true
+    is_good_length(money, name.len()) && name.iter().all(|&b| is_good_byte(money, b))
 }
 
 // A slot for a name: two equal names have the same.
 fn slot_of(name: &[u8]) -> usize
     ensures { (result ≡ slot_of name.now) × (result < 2048) }
 {
-    let mut h: usize = 0;
-    let mut i: usize = 0;
-    while i < name.len() {
-        h = (h * 37 + name[i] as usize) % 2048;
-        i += 1;
+    let mut h = 0;
+    for &b in name {
+        h = (h * 37 + b as usize) % 2048;
     }
     h
 }
@@ -156,7 +129,7 @@ fn are_good(money: bool, list: &[u8]) -> bool
         if k == MOST_NAMES {
             return false;
         }
-        let e = find(list, at, 10);
+        let e = find(list, at, b'\n');
         if !is_good_name(money, &list[at..e]) {
             return false;
         }
@@ -174,7 +147,7 @@ fn are_good(money: bool, list: &[u8]) -> bool
 fn is_ended(list: &[u8]) -> bool
     ensures { result ≡ ended list.now }
 {
-    list.len() == 0 || list[list.len() - 1] == 10
+    matches!(list, [] | [.., b'\n'])
 }
 
 fn is_usd_first(list: &[u8]) -> bool
@@ -187,14 +160,9 @@ fn is_usd_first(list: &[u8]) -> bool
 }
 
 // Whether a list is well formed, as one of currencies or as another.
+#[tactic(auto, unfolding(crate::specs::Names::good_list))]
 pub fn is_well_formed(money: bool, list: &[u8]) -> bool
     ensures { result ≡ good_list money list.now }
 {
-    if !is_ended(list) {
-        return false;
-    }
-    if !are_good(money, list) {
-        return false;
-    }
-    !money || is_usd_first(list)
+    is_ended(list) && are_good(money, list) && (!money || is_usd_first(list))
 }

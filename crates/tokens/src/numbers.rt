@@ -43,13 +43,6 @@ pub struct Bits {
     pub low: u32,
 }
 
-// What a digit counts.
-fn worth(b: u8) -> u64
-    ensures { result ≡ b - 48 }
-{
-    if b < 48 { 0 } else { (b - 48) as u64 }
-}
-
 fn up_to(n: u32, cap: u32) -> u32
     ensures { result ≡ up n cap }
 {
@@ -60,7 +53,7 @@ fn grown(v: u64, b: u8) -> u64
     ensures { result ≡ grow v b }
 {
     if v <= MOST_DIGITS {
-        v * 10 + worth(b)
+        v * 10 + u64::from(b.saturating_sub(b'0'))
     } else {
         v
     }
@@ -69,42 +62,32 @@ fn grown(v: u64, b: u8) -> u64
 fn fed(r: Run, b: u8) -> Run
     ensures { result ≡ feed r b }
 {
-    if b == 46 {
+    if b == b'.' {
         return Run {
             dots: up_to(r.dots, 2),
-            digits: r.digits,
-            decimals: r.decimals,
+            ..r
         };
     }
     let digits = grown(r.digits, b);
     if 0 < r.dots {
         return Run {
-            dots: r.dots,
             digits,
             decimals: up_to(r.decimals, 16),
+            ..r
         };
     }
-    Run {
-        dots: r.dots,
-        digits,
-        decimals: r.decimals,
-    }
+    Run { digits, ..r }
 }
 
 fn measured(w: &[u8]) -> Run
     ensures { result ≡ feed_all w.now begin }
 {
-    let mut run = Run {
+    let begin = Run {
         dots: 0,
         digits: 0,
         decimals: 0,
     };
-    let mut i: usize = 0;
-    while i < w.len() {
-        run = fed(run, w[i]);
-        i += 1;
-    }
-    run
+    w.iter().fold(begin, |run, &b| fed(run, b))
 }
 
 fn judged(dots: u32, digits: u64, decimals: u32) -> Result<(), Ground>
@@ -166,8 +149,5 @@ pub fn bits_of(w: &[u8], minus: bool) -> Bits
     ensures { result ≡ bits_of (signed minus (value_of w.now)) }
 {
     let x = value_of(w);
-    if minus {
-        return parted(-x);
-    }
-    parted(x)
+    if minus { parted(-x) } else { parted(x) }
 }

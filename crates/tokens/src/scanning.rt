@@ -46,7 +46,7 @@ fn judged(tokens: usize, last: usize, end: usize) -> Result<Summary, Refusal>
 {
     if Cursor::TOKENS < tokens {
         return Err(Refusal {
-            ground: Ground::ManyTokens,
+            cause: Ground::ManyTokens,
             byte: end,
         });
     }

@@ -30,15 +30,13 @@ fn place_after(s: &[u8], at: usize, tokens: usize) -> usize
     ensures { result ≡ place_after s.now at tokens }
 {
     let mut i = at;
-    let mut left = tokens;
-    while 0 < left {
+    for _ in 0..tokens {
         let next = behind(s, i);
         // A place that is not passed once is never passed.
         if next == i {
             return i;
         }
         i = next;
-        left -= 1;
     }
     i
 }

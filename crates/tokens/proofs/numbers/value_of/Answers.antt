@@ -12,17 +12,6 @@ use Rattle.tokens.proofs.numbers.value_of.Goals as goal
 pub returns-in-Err : goal.returns-in-Err
 returns-in-Err c = zero_is ∙ value_none _ _ c.measured-run.ensures (λ z. omega (arith, number_in c.in-Err.field-0, c.in-Err.ensures, z))
 
-pub ten_to-requires : goal.ten_to-requires
-ten_to-requires c =
-    let m = c.measured-run.result in
-    omega (arith, fault_none m.dots m.digits m.decimals (sym c.in-Ok.ensures))
-
-pub int_to_float-result : goal.int_to_float-result
-unfolding in_float
-int_to_float-result c =
-    let m = c.measured-run.result in
-    le→leb _ _ (fault_none m.dots m.digits m.decimals (sym c.in-Ok.ensures)).0
-
 pub int_to_float-result-in-Ok : goal.int_to_float-result-in-Ok
 unfolding in_float
 int_to_float-result-in-Ok c =

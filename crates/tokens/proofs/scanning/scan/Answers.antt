@@ -21,9 +21,6 @@ returns-then-m-eq-EOF c =
     let l = c.loop-m in
     c.judged.ensures ∙ (summary_end c.args.s.now l.at l.count l.last c.in_ok-m.m c.in_ok-m.ensures.0 c.if-m-eq-EOF.true ∙ l.invariant.2)
 
-pub overflow_add-count : goal.overflow_add-count
-overflow_add-count c = omega arith
-
 pub loop-m-smaller-then-m-ne-NEWLINE : goal.loop-m-smaller-then-m-ne-NEWLINE
 loop-m-smaller-then-m-ne-NEWLINE c =
     let l = c.loop-m in
