@@ -236,9 +236,6 @@ module _ {loose tight : Token → Bool} {lop top : ℕ → Bool} {p : Reader Tre
     abbrev Q : Out Tree
     Q = grouped tight p (toks_at t N.begins.start)
 
-    pub nest_ready : Ready t c m
-    nest_ready = pend_ready I t N.inner
-
     pub nest_refused : (x z : ℕ) → p (toks_at t c.start) ≡ refused x z → R ≡ refused x z
     nest_refused x z e = pend_refused O t N.outer x z (pend_refused I t N.inner x z e)
 
@@ -253,9 +250,6 @@ module _ {loose tight : Token → Bool} {lop top : ℕ → Bool} {p : Reader Tre
       module _ (i : Joined) (o₃ : List ℕ) (J : Joins o₂ j f m₂ q₂ b i o₃) where
         tight_chain : Chain tight p t b Q f N.q c₂ i.records i.string o₃
         tight_chain = pend_chain I t N.inner r i o₃ J
-
-        pub nest_holds : Holds t c₂
-        nest_holds = tight_chain.holds
 
         -- a sign of the inner chain
         pub nest_tighter : top c₂.code ≡ true → (d : Cursor) → Follows t c₂ d → Nests loose tight lop top p t y R n o k c₂.code f b d i.records o₃

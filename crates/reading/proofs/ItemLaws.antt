@@ -171,9 +171,6 @@ module _ {W : Language} {k : ℕ} {p : Reader Tree} {t : List ℕ} {R : Out Tree
   turn : R ≡ follow (loop (item_turn_by W k p)) (item_turn_by W k p ch.trees (toks_at t c.start))
   turn = ch.is ∙ loop_eq (item_turn_by_law W k p ch.moves) ch.trees (toks_at t c.start)
 
-  pub items_ready : Ready t c m
-  items_ready = (ch.holds, ch.room)
-
   -- the closing sign: the loop ends
   pub items_exit : c.code ≡ k → ReadsItems t R n o c m count x o'
   unfolding give
@@ -266,9 +263,6 @@ module _ (W : Language) (depth : ℕ) (t : List ℕ) (c : Cursor) (h : Holds t c
   module _ (e : c.code ≡ 40) (z : depth ≡ 0 → ⊥) (d : Cursor) (w : Follows t c d) where
     opens : c.code ≡ 0 → ⊥
     opens q = omega (arith, e)
-
-    pub arguments_ready : (n : ℕ) → Room t c n → Ready t d n
-    arguments_ready n room = (w.holds, omega (arith, room, w.fewer opens))
 
     arguments_are : arguments W (inner W depth) (toks_at t c.start) ≡ closed W ")" (primary W (depth - 1)) (toks_at t d.start)
     arguments_are = arguments_yes e ∙ (deeper_some (token_at t c) W depth _ (toks_at t c.start) z ∙ read_next w opens _)
@@ -508,9 +502,6 @@ pay_start W p moves short t n o c ready =
 module _ {W : Language} {p : Reader Tree} {t : List ℕ} {R : Out Trees} {n : ℕ} {o : List ℕ} {c : Cursor} {m count : ℕ} {o' : List ℕ} (ch : PayChain W p t R n o c m count o') where
   pay_turn_lem : R ≡ follow (loop (G.pay_turn W p)) (G.pay_turn W p ch.trees (toks_at t c.start))
   pay_turn_lem = ch.is ∙ loop_eq (pay_turn_law W p ch.moves) ch.trees (toks_at t c.start)
-
-  pub pay_ready : Ready t c m × (n ≤ m)
-  pay_ready = ((ch.holds, ch.room), omega (arith, ch.before.counts))
 
   pub pay_exit : pays_stop c.code ≡ true → R ≡ ok ch.trees (toks_at t c.start)
   unfolding G.pay_turn give

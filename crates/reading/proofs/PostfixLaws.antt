@@ -33,11 +33,11 @@ use Rattle.reading.specs.declared.answers.Read.{Read}
 use Rattle.reading.specs.declared.answers.Texts.{Texts}
 use Rattle.grammar.proofs.Laws.{loop_eq}
 use Rattle.grammar.proofs.GrammarLaws.{Each, nothing, just, Moves, expression_law, postfix_turn_law, primary_law}
-use Rattle.grammar.proofs.SizeLaws.{Sized, EachSized, moves_less, expression_size, arguments_spare, named_size}
+use Rattle.grammar.proofs.SizeLaws.{primary_size, moves_less, expression_size, arguments_spare, named_size}
 use Rattle.reading.proofs.HoldLaws.{toks_are, peek_is, read_next, the_then, the_next, the_then_not, the_next_not, reads_some}
 use Rattle.reading.proofs.RowLaws.{size_some, size_node, size_two, sizes_front, parts_few, put_front, put_rows_same, after_two, before_node}
 use Rattle.reading.proofs.ChainLaws.{reads_within}
-use Rattle.reading.proofs.StepLaws.{meets_as, bind_refused, deeper_none, deeper_some, row_says}
+use Rattle.reading.proofs.StepLaws.{meets_as, bind_refused, deeper_none, deeper_some, inner_sized, row_says}
 
 -- ---- answers of calls, as the code takes them apart
 
@@ -63,35 +63,35 @@ each_inner W (suc d) = just (primary_law W d)
 
 -- ---- an index, behind its `[`
 
-module _ (W : Language) (p : Reader Tree) (moves : Moves p) (short : Sized p) (l : ℕ) (t : List ℕ) (c : Cursor) (n m : ℕ) (o : List ℕ) where
+module _ (W : Language) (depth l : ℕ) (t : List ℕ) (c : Cursor) where
   -- the expression is refused
-  pub index_refuses : (e : Fault) → expression W p (toks_at t c.start) ≡ refused_by e → (x : Tree) → index_of W p l x (toks_at t c.start) ≡ refused_by e
+  pub index_refuses : (e : Fault) → expression W (primary W depth) (toks_at t c.start) ≡ refused_by e → (x : Tree) → index_of W (primary W depth) l x (toks_at t c.start) ≡ refused_by e
   unfolding ◌>>=◌
   index_refuses e h x = rw h
 
-  module _ {d : Cursor} {k q : ℕ} {o₁ : List ℕ} (r : Reads t (expression W p (toks_at t c.start)) m o d k q o₁) where
-    index_at : (x : Tree) → index_of W p l x (toks_at t c.start) ≡ (the "]" >> give (again (binary 28 l x r.tree))) (toks_at t d.start)
+  module _ {m : ℕ} {o : List ℕ} {d : Cursor} {k q : ℕ} {o₁ : List ℕ} (r : Reads t (expression W (primary W depth) (toks_at t c.start)) m o d k q o₁) where
+    index_at : (x : Tree) → index_of W (primary W depth) l x (toks_at t c.start) ≡ (the "]" >> give (again (binary 28 l x r.tree))) (toks_at t d.start)
     unfolding ◌>>=◌
     index_at x = rw r.is
 
     -- no `]`
-    pub index_open : (e : Fault) → Takes t 45 d (Err e) → (x : Tree) → index_of W p l x (toks_at t c.start) ≡ refused_by e
+    pub index_open : (e : Fault) → Takes t 45 d (Err e) → (x : Tree) → index_of W (primary W depth) l x (toks_at t c.start) ≡ refused_by e
     unfolding code ◌>>◌ ◌>>=◌ the
     index_open e w x = index_at x ∙ (rw w)
 
-    module _ (room : Room t c m) (low : n < m) (e : Cursor) (follows : Takes t 45 d (Ok e)) where
+    module _ (room : Room t c m) (n : ℕ) (low : n < m) (e : Cursor) (follows : Takes t 45 d (Ok e)) where
       some_left : d.code ≡ 0 → ⊥
       some_left z = omega (arith, z, follows.1)
 
       pub index_numbers : (n < k) × (k < 50000) × (k + 1 + 3 * length (toks_at t e.start) ≤ 50000) × (length (toks_at t e.start) < length (toks_at t c.start))
       index_numbers =
-          let within = reads_within t (expression W p) (expression_size W p short) c m o d k q o₁ r room in
+          let within = reads_within t (expression W (primary W depth)) (expression_size W (primary W depth) (primary_size W depth)) c m o d k q o₁ r room in
           let f = follows.0.fewer some_left in
-          let v : length (toks_at t d.start) < length (toks_at t c.start) = moves_less (expression_law W p moves) (toks_at t c.start) r.tree (toks_at t d.start) r.is in
+          let v : length (toks_at t d.start) < length (toks_at t c.start) = moves_less (expression_law W (primary W depth) (primary_law W depth)) (toks_at t c.start) r.tree (toks_at t d.start) r.is in
           omega (arith, within, f, v, room, low, r.counts)
 
       pub index_reads : {o₂ : List ℕ} → o₂ ≡ put_row o₁ k (row 28 (k - n + 1) 2 unused l)
-          → MeetsTurns t (λ x. index_of W p l x (toks_at t c.start)) n m o c (Ok (record { at = e; records = k + 1; string = 0 })) o₂
+          → MeetsTurns t (λ x. index_of W (primary W depth) l x (toks_at t c.start)) n m o c (Ok (record { at = e; records = k + 1; string = 0 })) o₂
       unfolding code give
       index_reads u = (
         λ x z h.
@@ -136,9 +136,9 @@ module _ (l : ℕ) (x : Tree) (u : Token) (es : Trees) (ts : List Token) where
       yields (same (bytes "append") u.text && eqb (parts es) 1) (same (bytes "mean") u.text && eqb (parts es) 0) (same (bytes "std") u.text && eqb (parts es) 0)
       (nil_of (same (bytes "mean") u.text) es) (nil_of (same (bytes "std") u.text) es)
 
-module _ (W : Language) (I : Option (Reader Tree)) (sizes-in : EachSized I) (l : ℕ) (t : List ℕ) (c : Cursor) (h : Holds t c) (n m : ℕ) (o : List ℕ) where
+module _ (W : Language) (depth l : ℕ) (t : List ℕ) (c : Cursor) (h : Holds t c) where
   -- no name
-  pub method_unnamed : (e : Fault) → Takes t 1 c (Err e) → (x : Tree) → method_of W I l x (toks_at t c.start) ≡ refused_by e
+  pub method_unnamed : (e : Fault) → Takes t 1 c (Err e) → (x : Tree) → method_of W (inner W depth) l x (toks_at t c.start) ≡ refused_by e
   unfolding code ◌>>◌ ◌>>=◌ the
   method_unnamed e w x = rw w
 
@@ -146,40 +146,37 @@ module _ (W : Language) (I : Option (Reader Tree)) (sizes-in : EachSized I) (l :
     some_name : c.code ≡ 0 → ⊥
     some_name z = omega (arith, z, named_then.1)
 
-    pub method_ready : Room t c m → Ready t d m
-    method_ready room = ready_behind t c d m 0 room named_then.0 named_then.1
-
     method_at : (x : Tree)
-        → method_of W I l x (toks_at t c.start) ≡ (arguments W I >>= λ es. method l x (token_at t c) es >>= λ y. give (again y)) (toks_at t d.start)
+        → method_of W (inner W depth) l x (toks_at t c.start) ≡ (arguments W (inner W depth) >>= λ es. method l x (token_at t c) es >>= λ y. give (again y)) (toks_at t d.start)
     unfolding code
     method_at x = the_then h named_then.0 some_name "name" (sym named_then.1) _
 
     -- the arguments are refused
-    pub method_refuses : (e : Fault) → arguments W I (toks_at t d.start) ≡ refused_by e → (x : Tree) → method_of W I l x (toks_at t c.start) ≡ refused_by e
+    pub method_refuses : (e : Fault) → arguments W (inner W depth) (toks_at t d.start) ≡ refused_by e → (x : Tree) → method_of W (inner W depth) l x (toks_at t c.start) ≡ refused_by e
     unfolding ◌>>=◌
     method_refuses e h x = method_at x ∙ (rw h)
 
-    module _ {e : Cursor} {k count : ℕ} {τ : Texts} {o₁ : List ℕ} (j : ReadsItems t (arguments W I (toks_at t d.start)) m o e k count τ o₁) where
-      method_in : (x : Tree) → method_of W I l x (toks_at t c.start) ≡ (method l x (token_at t c) j.items >>= λ y. give (again y)) (toks_at t e.start)
+    module _ {m : ℕ} {o : List ℕ} {e : Cursor} {k count : ℕ} {τ : Texts} {o₁ : List ℕ} (j : ReadsItems t (arguments W (inner W depth) (toks_at t d.start)) m o e k count τ o₁) where
+      method_in : (x : Tree) → method_of W (inner W depth) l x (toks_at t c.start) ≡ (method l x (token_at t c) j.items >>= λ y. give (again y)) (toks_at t e.start)
       unfolding ◌>>=◌
       method_in x = method_at x ∙ (rw j.is)
 
       -- no such method
-      pub method_none : 0 ≡ method_kind (token_at t c).text count → (x : Tree) → method_of W I l x (toks_at t c.start) ≡ refused 10 c.start
+      pub method_none : 0 ≡ method_kind (token_at t c).text count → (x : Tree) → method_of W (inner W depth) l x (toks_at t c.start) ≡ refused 10 c.start
       unfolding ◌>>=◌
       method_none q x =
           let v : method_kind (token_at t c).text (parts j.items) ≡ 0 = ap (method_kind (token_at t c).text) (sym j.parts_are) ∙ sym q in
           let y = (method_yields l x (token_at t c) j.items (toks_at t e.start)).1 v in
           method_in x ∙ (rw y)
 
-      module _ (room : Room t c m) (low : n < m) where
+      module _ (room : Room t c m) (n : ℕ) (low : n < m) where
         pub method_numbers : (n < k) × (k < 50000) × (k + 1 + 3 * length (toks_at t e.start) ≤ 50000) × (length (toks_at t e.start) < length (toks_at t c.start)) × (count < 50000)
         method_numbers =
-            let spare = (arguments_spare W I sizes-in).bound (toks_at t d.start) j.items (toks_at t e.start) j.is in
+            let spare = (arguments_spare W (inner W depth) (inner_sized W depth)).bound (toks_at t d.start) j.items (toks_at t e.start) j.is in
             omega (arith, spare, named_then.0.fewer some_name, room, low, j.counts, j.parts_are, parts_few j.items)
 
         pub method_reads : {κ : ℕ} → κ ≡ method_kind (token_at t c).text count → (κ ≡ 0 → ⊥) → {o₂ : List ℕ} → o₂ ≡ put_row o₁ k (row κ (k - n + 1) (count + 1) unused l)
-            → MeetsTurns t (λ x. method_of W I l x (toks_at t c.start)) n m o c (Ok (record { at = e; records = k + 1; string = 0 })) o₂
+            → MeetsTurns t (λ x. method_of W (inner W depth) l x (toks_at t c.start)) n m o c (Ok (record { at = e; records = k + 1; string = 0 })) o₂
         unfolding ◌>>=◌ give
         method_reads {κ} q z {o₂} u =
             (λ x s g. turn x s g, ((j.holds, method_numbers.2), omega (arith, method_numbers), method_numbers.3))
@@ -191,7 +188,7 @@ module _ (W : Language) (I : Option (Reader Tree)) (sizes-in : EachSized I) (l :
             made x = subst (λ (i : ℕ). (i ≡ 0 → ⊥) → (method l x (token_at t c) j.items (toks_at t e.start) ≡ ok (node i l [] unused (x ▹ j.items)) (toks_at t e.start)) × (i ≡ 5 → ⊥))
                 (sym kind_is) (method_yields l x (token_at t c) j.items (toks_at t e.start)).0 z
 
-            turn : (x : Tree) (s : List ℕ) → Tops n s x m o → ReadsTurn t (method_of W I l x (toks_at t c.start)) n s e (k + 1) o₂
+            turn : (x : Tree) (s : List ℕ) → Tops n s x m o → ReadsTurn t (method_of W (inner W depth) l x (toks_at t c.start)) n s e (k + 1) o₂
             turn x s g =
                 let b : Before n s (x ▹ j.items) k o₁ = record {
                   counts = omega (arith, g.counts, j.counts, sizes_front x j.items);
@@ -239,9 +236,6 @@ module _ (W : Language) (dep l : ℕ) (t : List ℕ) (c d : Cursor) (h : Holds t
   -- the sign is read
   pub postfix_fewer : postfix_sign c.code ≡ true → length (toks_at t d.start) < length (toks_at t c.start)
   postfix_fewer e = omega (arith, w.fewer (λ z. true≢false (sym e ∙ ap postfix_sign z)))
-
-  pub postfix_ready : (m : ℕ) → postfix_sign c.code ≡ true → Room t c m → Ready t d m
-  postfix_ready m e room = (w.holds, omega (arith, room, postfix_fewer e))
 
 -- ---- all postfixes
 

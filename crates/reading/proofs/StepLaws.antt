@@ -101,12 +101,6 @@ module _ {A : Type 0} where
   unfolding deeper
   deeper_some u W d k ts h = rw (inner_some W d h)
 
--- ---- numbers: what was read leaves room for one record more
-
-pub read_numbers : (t : List ℕ) (p : Reader Tree) → Sized p → (c : Cursor) (n : ℕ) (o : List ℕ) (d : Cursor) (m q : ℕ) (o' : List ℕ)
-    → Reads t (p (toks_at t c.start)) n o d m q o' → Room t c n → (n < m) × (m ≤ 50000) × (m + 3 * length (toks_at t d.start) ≤ 50000)
-read_numbers t p h c n o d m q o' r room = omega (arith, reads_within t p h c n o d m q o' r room, size_some r.tree, r.counts)
-
 -- ---- a comparison has at most one comparator
 
 -- two of what p reads, with a comparator between them; or one, where a power is read alone
@@ -148,11 +142,6 @@ pub record Second (alone : Bool) (p : Reader Tree) (t : List ℕ) (c : Cursor) (
 
 abbrev pub Compares : Bool → Reader Tree → List ℕ → Cursor → ℕ → List ℕ → ℕ → Cursor → ℕ → List ℕ → Type 0
 Compares alone p t c n o k e m o' = (k ≡ 0 → First c n o e m o') × ((k ≡ 0 → ⊥) → Second alone p t c n o k e m o')
-
--- the second one is the last
-pub compare_less : (alone : Bool) (k j : ℕ) → k ≡ 0 → comparator alone j ≡ true → 1 - j < 1 - k
-compare_less alone k zero z y = absurd (true≢false (sym y ∙ comparator_no alone 0 refl))
-compare_less alone k (suc j) z y = omega arith
 
 module _ (alone : Bool) (p : Reader Tree) (short : Sized p) (t : List ℕ) (c : Cursor) (n : ℕ) (o : List ℕ) (ready : Ready t c n) where
   comparison_refused : (k b : ℕ) → p (toks_at t c.start) ≡ refused k b → comparison_by alone p (toks_at t c.start) ≡ refused k b
@@ -213,9 +202,6 @@ module _ (alone : Bool) (p : Reader Tree) (short : Sized p) (t : List ℕ) (c : 
             }
 
   -- an operand that is to be read
-  pub compare_first : Compares alone p t c n o 0 c n o
-  compare_first = (λ z. record { e_is = refl; m_is = refl; o_is = refl }, λ z. absurd (z refl))
-
   module _ (k : ℕ) (e : Cursor) (m : ℕ) (o' : List ℕ) (w : Compares alone p t c n o k e m o') where
     pub compare_ready : Ready t e m
     compare_ready =
@@ -251,10 +237,6 @@ module _ (alone : Bool) (p : Reader Tree) (short : Sized p) (t : List ℕ) (c : 
 
           pub compare_none : comparator alone d.code ≡ false → Reads t (comparison_by alone p (toks_at t c.start)) n o d j.records j.string o₃
           compare_none = comparison_none d j.records j.string o₃ compare_alone
-
-          pub compare_next : comparator alone d.code ≡ true → (f : Cursor) → Follows t d f → Compares alone p t c n o d.code f j.records o₃
-          compare_next y f g =
-              (λ x. absurd (true≢false (sym y ∙ (ap (comparator alone) x ∙ comparator_no alone 0 refl))), λ x. record { sign = d; q = j.string; left = compare_alone; sign_is = refl; yes = y; follows = g })
 
 -- ---- parentheses
 
