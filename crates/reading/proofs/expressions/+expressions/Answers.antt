@@ -83,10 +83,10 @@ pub expression-loop-r-preserved : goal.expression-loop-r-preserved
 expression-loop-r-preserved t c = (c.join-j.auto.out ∙ (c.join-i.auto.out ∙ (c.comparison.auto.out ∙ c.loop-r.invariant.0)), nest_looser (looser_level _ _ _ _) (tighter_level _ _ _ _) _ c.loop-r.invariant.1 c.in_ok-r.ensures _ _ c.join-i.ensures (sym c.is_tighter.ensures ∙ c.if-is_tighter.false) _ _ c.join-j.ensures (sym c.is_looser.ensures ∙ c.if-not-is_looser.false) _ c.next-at-in-loop-r.ensures)
 
 pub index-returns-in_err-r : goal.index-returns-in_err-r
-index-returns-in_err-r t c = turns_err _ _ _ _ _ _ c.args.c _ _ c.from_residual.ensures.1 (index_refuses (language_of c.args.language.now) c.args.depth c.args.place c.args.s.now c.args.c _ c.in_err-r.ensures)
+index-returns-in_err-r t c = turns_err _ _ _ _ _ _ c.args.c _ _ c.from_residual.ensures.1 (index_refuses _ _ _ _ c.args.c _ c.in_err-r.ensures)
 
 pub index-returns-in_err-at : goal.index-returns-in_err-at
-index-returns-in_err-at t c = turns_err _ _ _ _ _ _ c.args.c _ _ c.from_residual-in_err-at.ensures.1 (index_open (language_of c.args.language.now) c.args.depth c.args.place c.args.s.now c.args.c c.in_ok-r.ensures _ c.in_err-at.ensures)
+index-returns-in_err-at t c = turns_err _ _ _ _ _ _ c.args.c _ _ c.from_residual-in_err-at.ensures.1 (index_open _ _ _ _ c.args.c c.in_ok-r.ensures _ c.in_err-at.ensures)
 
 pub index-overflow_add-k : goal.index-overflow_add-k
 index-overflow_add-k t c = omega (arith, index_numbers (language_of c.args.language.now) c.args.depth c.args.place c.args.s.now c.args.c c.in_ok-r.ensures c.requires.0.1 _ c.requires.2 _ c.in_ok-at.ensures)
@@ -95,7 +95,7 @@ pub index-overflow_add-result : goal.index-overflow_add-result
 index-overflow_add-result t c = omega (arith, index_numbers (language_of c.args.language.now) c.args.depth c.args.place c.args.s.now c.args.c c.in_ok-r.ensures c.requires.0.1 _ c.requires.2 _ c.in_ok-at.ensures)
 
 pub index-returns : goal.index-returns
-index-returns t c = index_reads (language_of c.args.language.now) c.args.depth c.args.place c.args.s.now c.args.c c.in_ok-r.ensures c.requires.0.1 _ c.requires.2 _ c.in_ok-at.ensures (put_fields _ _ _ _ _ _ _ _ _ _ c.plain.ensures c.put.ensures)
+index-returns t c = index_reads _ _ _ _ c.args.c c.in_ok-r.ensures c.requires.0.1 _ c.requires.2 _ c.in_ok-at.ensures (put_fields _ _ _ _ _ _ _ _ _ _ c.plain.ensures c.put.ensures)
 
 pub items-loop-at-init : goal.items-loop-at-init
 items-loop-at-init t c = (refl, items_start _ _ _ (primary_law _ _) (primary_size _ _) _ _ _ _ c.requires.0)
@@ -134,10 +134,10 @@ pub list-returns : goal.list-returns
 list-returns t c = meets_as _ _ _ _ _ _ _ (list_done _ _ _ _ _ c.requires.1 c.requires.2 c.if-depth-eq0.false c.requires.0.1 c.in_ok-r.ensures.0 c.in_ok-r.ensures.1 c.next-f.ensures) (c.postfixes.ensures _ _ (list_tops _ _ _ _ _ c.requires.1 c.requires.2 c.if-depth-eq0.false c.requires.0.1 c.in_ok-r.ensures.0 (put_fields _ _ _ _ _ _ _ _ _ _ c.plain.ensures c.put.ensures)))
 
 pub method-returns-in_err-d : goal.method-returns-in_err-d
-method-returns-in_err-d t c = turns_err _ _ _ _ _ _ c.args.c _ _ c.from_residual.ensures.1 (method_unnamed (language_of c.args.language.now) c.args.depth c.args.place c.args.s.now c.args.c c.requires.0.0 _ c.in_err-d.ensures)
+method-returns-in_err-d t c = turns_err _ _ _ _ _ _ c.args.c _ _ c.from_residual.ensures.1 (method_unnamed _ _ _ _ c.args.c c.requires.0.0 _ c.in_err-d.ensures)
 
 pub method-returns-in_err-r : goal.method-returns-in_err-r
-method-returns-in_err-r t c = turns_err _ _ _ _ _ _ c.args.c _ _ c.from_residual-in_err-r.ensures.1 (method_refuses (language_of c.args.language.now) c.args.depth c.args.place c.args.s.now c.args.c c.requires.0.0 _ c.in_ok-d.ensures _ c.in_err-r.ensures)
+method-returns-in_err-r t c = turns_err _ _ _ _ _ _ c.args.c _ _ c.from_residual-in_err-r.ensures.1 (method_refuses _ _ _ _ c.args.c c.requires.0.0 _ c.in_ok-d.ensures _ c.in_err-r.ensures)
 
 pub method-slice_bounds-method_of-count : goal.method-slice_bounds-method_of-count
 method-slice_bounds-method_of-count t c = omega (arith, start_in c.requires.0.0, end_in c.requires.0.0)
@@ -161,7 +161,7 @@ pub method-overflow_add-result : goal.method-overflow_add-result
 method-overflow_add-result t c = omega (arith, method_numbers (language_of c.args.language.now) c.args.depth c.args.place c.args.s.now c.args.c c.requires.0.0 _ c.in_ok-d.ensures c.in_ok-r.ensures c.requires.0.1 _ c.requires.2)
 
 pub method-returns : goal.method-returns
-method-returns t c = method_reads (language_of c.args.language.now) c.args.depth c.args.place c.args.s.now c.args.c c.requires.0.0 _ c.in_ok-d.ensures c.in_ok-r.ensures c.requires.0.1 _ c.requires.2 (c.number.ensures ∙ c.in-Some.ensures) (λ z. omega (arith, z, c.number.ensures, kind_some c.in-Some.kind)) (put_fields _ _ _ _ _ _ _ _ _ _ c.plain.ensures c.put.ensures)
+method-returns t c = method_reads _ _ _ _ _ c.requires.0.0 _ c.in_ok-d.ensures c.in_ok-r.ensures c.requires.0.1 _ c.requires.2 (c.number.ensures ∙ c.in-Some.ensures) (λ z. omega (arith, z, c.number.ensures, kind_some c.in-Some.kind)) (put_fields _ _ _ _ _ _ _ _ _ _ c.plain.ensures c.put.ensures)
 
 pub minus-returns-in-Some : goal.minus-returns-in-Some
 minus-returns-in-Some t c = meets_as _ _ _ _ _ (Ok c.constant_at.result) _ (minus_lone _ _ c.args.c c.args.d _ _ c.requires.1.holds c.in-Some.ensures.0 c.in-Some.ensures.1 c.in-Some.ensures.2) c.constant_at.ensures
