@@ -15,7 +15,7 @@ use Rattle.tokens.specs.Dates.{date}
 use Rattle.tokens.specs.Tokens.{Token, code, entry, final}
 use Rattle.tokens.specs.declared.cursor.Cursor.{Cursor}
 use Rattle.grammar.specs.Trees.{Tree, Trees, node, nil, ◌▹◌, fields, none as unused, snoc, parts, row}
-use Rattle.grammar.specs.Readers.{Out, ok, refused, Reader, bind, ◌>>=◌, ◌>>◌, Turn, again, follow, loop, is, give, fail, fail_at, read, the}
+use Rattle.grammar.specs.Readers.{Out, ok, refused, Reader, bind, ◌>>=◌, ◌>>◌, again, follow, loop, is, give, fail, fail_at, read}
 use Rattle.grammar.specs.Grammar as G
 use Rattle.grammar.specs.Grammar.{Language, expression, items, closed, arguments, deeper, primary, calls, call_of, cvg, call, payday, payments, payment, pays, listed, postfixes, currency_of, a_currency}
 use Rattle.reading.specs.Calls.{call_kind, right_count}
@@ -33,9 +33,9 @@ use Rattle.reading.specs.declared.answers.Fault.{Fault}
 use Rattle.reading.specs.declared.answers.Read.{Read}
 use Rattle.reading.specs.declared.answers.Texts.{Texts}
 use Rattle.grammar.proofs.Laws.{loop_eq, left_shorter}
-use Rattle.grammar.proofs.GrammarLaws.{Moves, Stays, Steps, laws, expression_law, pay_turn_law, primary_law}
+use Rattle.grammar.proofs.GrammarLaws.{Moves, Stays, Steps, laws, expression_law, pay_turn_law}
 use Rattle.grammar.proofs.SizeLaws.{Sized, SizedAll, expression_size, items_size, arguments_size, moves_less, primary_size}
-use Rattle.reading.proofs.HoldLaws.{toks_are, ask_yes, ask_no, peek_is, fail_is, read_next, the_next, reads_some}
+use Rattle.reading.proofs.HoldLaws.{toks_are, ask_yes, ask_no, peek_is, read_next, the_next, reads_some}
 use Rattle.grammar.proofs.TreeLaws.{parts_snoc}
 use Rattle.reading.proofs.RowLaws.{size_node, size_some, parts_few, before_none, before_more, before_node}
 use Rattle.reading.proofs.ChainLaws.{reads_within}

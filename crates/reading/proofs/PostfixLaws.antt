@@ -1,7 +1,7 @@
 -- Postfixes and names: what each step of the code comes to in the definition, over plain values.
 use Rattle.std.specs.Prelude.{if◌then◌else◌}
 use mathlib.Core.Path.{◌≡◌, refl, sym, ap, ◌∙◌, subst}
-use mathlib.Core.Bool.{Bool, true, false, ◌&&◌, ◌||◌, not, true≢false}
+use mathlib.Core.Bool.{Bool, true, false, ◌&&◌, ◌||◌, true≢false}
 use mathlib.Core.List.{List, []}
 use mathlib.Core.Option.{Option}
 use mathlib.Core.Logic.{◌⊎◌, inl, inr}
@@ -12,32 +12,31 @@ use borrow.Author.Tests.{eq-eqb, ne_eqb, eqb-true, leb-true}
 use lib.ListN.{length}
 use Rattle.tokens.specs.Text.{bytes, same}
 use Rattle.tokens.specs.Names.{member}
-use Rattle.tokens.specs.Tokens.{Token, code, final}
+use Rattle.tokens.specs.Tokens.{Token, code}
 use Rattle.tokens.specs.declared.cursor.Cursor.{Cursor}
 use Rattle.grammar.specs.Trees.{Tree, Trees, node, nil, ◌▹◌, fields, none as unused, parts, row}
-use Rattle.grammar.specs.Readers.{Out, ok, refused, Reader, bind, ◌>>=◌, ◌>>◌, Turn, again, done, follow, loop, give, fail, fail_at, read, the}
+use Rattle.grammar.specs.Readers.{Out, ok, refused, Reader, bind, ◌>>=◌, ◌>>◌, Turn, again, done, follow, loop, give, fail_at, read, the}
 use Rattle.grammar.specs.Grammar.{Language, binary, deeper, expression, arguments, method, method_of, index_of, postfix_turn, postfixes, calls, call_of, call, named, variable, name, spot, df, rate_index, currency_of, a_currency, equity, pair, primary}
 use Rattle.reading.specs.Rows.{put_row, kind_number, kind_at}
 use Rattle.reading.specs.declared.records.Kind.{Kind}
 use Rattle.reading.specs.declared.records.Kind.TheVariants as kind
 use Rattle.reading.proofs.KindLaws.{kind_back}
 use Rattle.reading.specs.Calls.{call_kind, method_kind}
-use Rattle.reading.specs.Meets.{words_in, language_in, toks_at, token_at, Holds, Room, Ready, Follows, the_by, Takes, string_at, Quoted, Reads, Meets, Before}
+use Rattle.reading.specs.Meets.{words_in, language_in, toks_at, token_at, Holds, Room, Ready, Follows, Takes, string_at, Quoted, Reads, Meets, Before}
 use Rattle.reading.specs.Signs.{postfix_sign}
 use Rattle.std.specs.Prelude.{Result, Ok, Err, Some}
-use Rattle.tokens.specs.declared.refusals.Ground.TheVariants as ground
-use Rattle.reading.specs.Faults.{fault_at, refused_by}
-use Rattle.reading.specs.Turns.{inner, ReadsItems, special_of, Unquoted, Tops, ReadsTurn, MeetsTurn, MeetsTurns}
+use Rattle.reading.specs.Faults.{refused_by}
+use Rattle.reading.specs.Turns.{inner, ReadsItems, special_of, Unquoted, Tops, ReadsTurn, MeetsTurns}
 use Rattle.reading.specs.declared.answers.Fault.{Fault}
 use Rattle.reading.specs.declared.answers.Read.{Read}
 use Rattle.reading.specs.declared.answers.Texts.{Texts}
 use Rattle.grammar.proofs.Laws.{loop_eq}
-use Rattle.grammar.proofs.GrammarLaws.{Each, nothing, just, Moves, expression_law, postfix_turn_law, primary_law}
+use Rattle.grammar.proofs.GrammarLaws.{Each, nothing, just, expression_law, postfix_turn_law, primary_law}
 use Rattle.grammar.proofs.SizeLaws.{primary_size, moves_less, expression_size, arguments_spare, named_size}
-use Rattle.reading.proofs.HoldLaws.{toks_are, peek_is, read_next, the_then, the_next, the_then_not, the_next_not, reads_some}
+use Rattle.reading.proofs.HoldLaws.{peek_is, read_next, the_then, the_next}
 use Rattle.reading.proofs.RowLaws.{size_some, size_node, size_two, sizes_front, parts_few, put_front, put_rows_same, after_two, before_node}
 use Rattle.reading.proofs.ChainLaws.{reads_within}
-use Rattle.reading.proofs.StepLaws.{meets_as, bind_refused, deeper_none, deeper_some, inner_sized, row_says}
+use Rattle.reading.proofs.StepLaws.{meets_as, deeper_none, deeper_some, inner_sized, row_says}
 
 -- ---- answers of calls, as the code takes them apart
 

@@ -1,16 +1,16 @@
 -- What each step of the expression readers' code comes to in the definition. Each law is over plain values, and an answer of a
 -- proof cites one.
-use mathlib.Core.Path.{◌≡◌, refl, sym, ap, ◌∙◌, subst}
+use mathlib.Core.Path.{◌≡◌, refl, sym, ap, ◌∙◌}
 use mathlib.Core.Bool.{Bool, true, false, ◌&&◌, not, true≢false}
 use mathlib.Core.Logic.{◌⊎◌, inl, inr, ⊎_elim}
 use mathlib.Core.List.{List, [], ◌∷◌}
 use mathlib.Core.Option.{none, some}
-use Prim.Native.Nat.{ℕ, zero, suc, ◌+◌, ◌-◌, ◌*◌, ◌≤◌, ◌<◌}
+use Prim.Native.Nat.{ℕ, zero, suc, ◌+◌, ◌-◌, ◌≤◌, ◌<◌}
 use Prim.Native.String.{String}
 use native.Mathlib.Omega.{arith}
 use lib.Dec.{eqb}
 use borrow.Author.Tests.{ne_eqb, eqb-true}
-use lib.ListN.{length, take}
+use lib.ListN.{take}
 use Rattle.tokens.specs.Limits.{most_bytes}
 use Rattle.tokens.specs.Text.{bytes, same, within}
 use Rattle.tokens.specs.Names.{names}
@@ -25,10 +25,10 @@ use Rattle.reading.specs.Joins.{Joins}
 use Rattle.reading.specs.declared.records.Node.{Node}
 use Rattle.reading.specs.declared.records.Joined.{Joined}
 use Rattle.reading.specs.Atoms.{literal, atom}
-use Rattle.reading.specs.Meets.{edition_by, language_in, toks_at, token_at, Holds, Room, Ready, Follows, Takes, Lone, Reads, Meets}
+use Rattle.reading.specs.Meets.{edition_by, language_in, toks_at, token_at, Holds, Room, Ready, Follows, Takes, Reads, Meets}
 use Rattle.reading.specs.Signs.{comparator, taken_in, raisable}
 use Rattle.reading.specs.Turns.{inner, power_at, sum_or, comparison_or, parenthesised, list_postfixed, negated_by, MeetsItems, Closed, MeetsTurns}
-use Rattle.std.specs.Prelude.{Result, Ok, Err, Some, None}
+use Rattle.std.specs.Prelude.{Result, Ok, Err}
 use Rattle.reading.specs.Faults.{refused_by}
 use Rattle.reading.specs.declared.answers.Fault.{Fault}
 use Rattle.reading.specs.declared.answers.Read.{Read}
@@ -38,7 +38,7 @@ use Rattle.std.proofs.lemmas.Result.{err_from_is_err_and}
 use Rattle.grammar.proofs.SignedLaws.{Bare, raised_alone, signed_stops, minus_stops}
 use Rattle.grammar.proofs.SizeLaws.{Sized, EachSized, nothing, just, primary_size}
 use Rattle.reading.proofs.HoldLaws.{first_kind, second_is, next_follows, ask_yes, ask_no, peek_is, read_then, read_next, the_then, the_next}
-use Rattle.reading.proofs.RowLaws.{size_some, size_one, size_two, after_one, after_two}
+use Rattle.reading.proofs.RowLaws.{size_one, size_two, after_one, after_two}
 use Rattle.reading.proofs.ChainLaws.{reads_within, binary_plain, by_sign}
 
 -- ---- answers of calls

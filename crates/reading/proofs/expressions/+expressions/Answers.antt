@@ -11,13 +11,13 @@ use Rattle.grammar.specs.Grammar.{primary}
 use Rattle.grammar.proofs.GrammarLaws.{primary_law}
 use Rattle.grammar.proofs.KindLaws.{primary_low}
 use Rattle.grammar.proofs.SizeLaws.{primary_size, signed_size}
-use Rattle.reading.specs.Meets.{language_of, toks_at, token_at}
-use Rattle.reading.specs.Turns.{inner, sum_or, postfix_turn_at, method_at, index_at}
+use Rattle.reading.specs.Meets.{language_of, toks_at}
+use Rattle.reading.specs.Turns.{inner, postfix_turn_at, method_at, index_at}
 use Rattle.reading.proofs.HoldLaws.{start_in, end_in}
 use Rattle.reading.proofs.KindLaws.{kind_some}
 use Rattle.reading.proofs.ChainLaws.{power_level, product_level, sum_level, product_gates, sum_gates, sum_short, tighter_level, looser_level, tighter_some, looser_some, nests_as, nest_refused, nest_numbers, nest_less, nest_tighter, nest_whole_numbers, nest_exit, nest_looser, chain_exit, pend_as, pend_next, pend_refused, pend_numbers, pend_chain, pend_less}
 use Rattle.reading.proofs.PowerLaws.{signed_right, powers_first, powers_refused, powers_numbers, powers_exit, powers_less, powers_next}
-use Rattle.reading.proofs.StepLaws.{meets_err, closed_err, turns_err, meets_as, follow_ready, put_fields, behind_read, raisable_two, minus_lone, minus_deep, reads_as, comparison_gates, compare_ready, compare_refused, compare_numbers, compare_last, compare_none, parenthesis_deep, parenthesis_open, parenthesis_closed, inner_sized}
+use Rattle.reading.proofs.StepLaws.{meets_err, closed_err, turns_err, meets_as, follow_ready, put_fields, behind_read, raisable_two, minus_lone, minus_deep, reads_as, comparison_gates, compare_ready, compare_refused, compare_numbers, compare_last, compare_none, parenthesis_deep, parenthesis_open, parenthesis_closed}
 use Rattle.reading.proofs.ItemLaws.{items_start, items_exit, items_refused, items_numbers, items_wrong, items_less, items_next, shown_inside, arguments_done, arguments_within, call_faulty, call_done, list_0, list_numbers, list_after, list_done, list_tops, pay_start, pay_refused, pay_numbers, pay_less, pay_next, pays_0, pays_ready, pays_refused, pays_done}
 use Rattle.reading.proofs.PostfixLaws.{turns_as, ready_behind, each_inner, index_refuses, index_open, index_numbers, index_reads, method_unnamed, method_refuses, method_none, method_numbers, method_reads, postfix_dot, postfix_low, postfix_index, postfix_fewer, post_enter, post_exit, post_refused, post_more, call_kind_low, name_numbers, name_call}
 use Rattle.reading.proofs.expressions.+expressions.Goals as goal
