@@ -226,8 +226,8 @@ module _ {W : Language} {k : ℕ} {p : Reader Tree} {t : List ℕ} {R : Out Tree
               room = omega (arith, read_within, no_more, ch.room);
               holds = w.0;
               shown = rw e (shown_more t ch.trees x count q r.tree ch.shown ch.many r.string r.quoted);
-            moves = ch.moves;
-            short = ch.short;
+              moves = ch.moves;
+              short = ch.short;
             }
 
 -- ---- the numbers behind parts that were read
