@@ -15,6 +15,7 @@ use tokens::codes::{
 use tokens::cursor::Cursor;
 
 // An expression and its `;`.
+#[tactic(auto, using(crate::proofs::AssignLaws::ended_refused, crate::proofs::AssignLaws::ended_open, crate::proofs::AssignLaws::ended_closed))]
 pub fn ended(
     s: &[u8],
     language: &Language,
@@ -36,6 +37,7 @@ pub fn ended(
 }
 
 // A pays, whose word stands at c, and its `;`, which is optional.
+#[tactic(auto, using(crate::proofs::AssignLaws::paid_refused, crate::proofs::AssignLaws::paid_bare, crate::proofs::AssignLaws::paid_closed))]
 pub fn paid(
     s: &[u8],
     language: &Language,
@@ -84,6 +86,7 @@ fn assign(
 }
 
 // The variable at c, written twice; d stands behind it.
+#[tactic(auto, using(crate::proofs::AssignLaws::named_one, crate::proofs::AssignLaws::twice_reads))]
 fn doubled(
     s: &[u8],
     reserved: &[u8],

@@ -37,9 +37,6 @@ numbers c =
     let words = language_of args.language.now in
     assign_numbers args.language.now _ _ _ _ _ pre.0 pre.1 pre.2 _ _ _ _ c.in_ok-v.ensures (primary words args.depth) (primary_size words args.depth) (λ z. omega (arith, z, pre.4)) _ c.next.ensures _ _ _ _ c.in_ok-r.ensures
 
-pub overflow_sub-k : goal.overflow_sub-k
-overflow_sub-k c = omega (arith, numbers (goal.at.overflow_sub-k c).In_ok-r)
-
 pub overflow_add-k : goal.overflow_add-k
 overflow_add-k c = omega (arith, numbers (goal.at.overflow_add-k c).In_ok-r)
 

@@ -16,13 +16,6 @@ returns-in_err-v c =
     let words = language_of args.language.now in
     meets_err _ _ _ _ _ _ _ c.from_residual.ensures.1 (compound_unnamed args.language.now _ _ _ _ args.out.now pre.0 pre.1 pre.2 (primary words args.depth) _ _ c.in_err-v.ensures)
 
-pub ended-requires : goal.ended-requires
-ended-requires c =
-    let args = c.args in
-    let pre = c.requires in
-    let words = language_of args.language.now in
-    (compound_ready args.language.now _ _ _ _ _ pre.0 pre.1 pre.2 _ _ _ c.in_ok-v.ensures (λ z. omega (arith, z, pre.4)) _ c.next.ensures (primary words args.depth) (primary_size words args.depth), pre.3)
-
 pub returns-in_err-r : goal.returns-in_err-r
 returns-in_err-r c =
     let args = c.args in
@@ -37,17 +30,8 @@ numbers c =
     let words = language_of args.language.now in
     compound_numbers args.language.now _ _ _ _ _ pre.0 pre.1 pre.2 _ _ _ c.in_ok-v.ensures (λ z. omega (arith, z, pre.4)) _ c.next.ensures (primary words args.depth) (primary_size words args.depth) _ _ _ _ c.in_ok-r.ensures
 
-pub overflow_sub-d : goal.overflow_sub-d
-overflow_sub-d c = omega (arith, c.requires.4)
-
-pub overflow_sub-k : goal.overflow_sub-k
-overflow_sub-k c = omega (arith, numbers (goal.at.overflow_sub-k c).In_ok-r)
-
 pub overflow_add-k : goal.overflow_add-k
 overflow_add-k c = omega (arith, numbers (goal.at.overflow_add-k c).In_ok-r)
-
-pub overflow_sub-k-2 : goal.overflow_sub-k-2
-overflow_sub-k-2 c = omega (arith, numbers (goal.at.overflow_sub-k-2 c).In_ok-r)
 
 pub overflow_add-k-2 : goal.overflow_add-k-2
 overflow_add-k-2 c = omega (arith, numbers (goal.at.overflow_add-k-2 c).In_ok-r)
