@@ -3,18 +3,7 @@ ghost use Rattle.std.specs.Prelude.{◌≡◌};
 ghost use Rattle.grammar.specs.Latest.{date_of};
 ghost use Rattle.reading.specs.Rows.{latest_between};
 
-use crate::records::{Kind, Node};
-
-// The kinds of records that have a date, as memory has them.
-const SPOT: u32 = Kind::Spot as u32;
-
-const EQUITY_SPOT: u32 = Kind::EquitySpot as u32;
-
-const DF: u32 = Kind::Df as u32;
-
-const RATE_INDEX: u32 = Kind::RateIndex as u32;
-
-const PAYS: u32 = Kind::Pays as u32;
+use crate::records::{DF, EQUITY_SPOT, Node, PAYS, RATE_INDEX, SPOT};
 
 // The date of a record, of its dates the later, by its kind.
 fn date_of(kind: u32, f1: u32, f3: u32, f4: u32) -> u32
