@@ -158,9 +158,6 @@ module _ {p : Reader Tree} (moves : Moves p) (short : Sized p) (low : Gives Low 
         some : c₂.code ≡ 0 → ⊥
         some x = true≢false (sym z ∙ ap power_sign x)
 
-        pub wait_less : length (toks_at t d.start) < length (toks_at t c.start)
-        wait_less = omega (arith, moves_less moves (toks_at t c.start) r.tree (toks_at t c₂.start) r.is, v.fewer some)
-
         abbrev next_ls : List (ℕ × Tree)
         next_ls = (c.start, r.tree) ∷ w.ls
 
