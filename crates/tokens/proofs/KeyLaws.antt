@@ -198,16 +198,34 @@ none_of f g es h no_such = go (eqb (entry f es).1 99) refl
 
 -- ---- words that a table does not have
 
+-- the words of a table that have n bytes
+abbrev pub sized : ℕ → List (String × ℕ) → List (String × ℕ)
+sized n [] = []
+sized n (e ∷ es) = if eqb (length (bytes e.0)) n then e ∷ sized n es else sized n es
+
 module _ (w : List ℕ) where
   -- w is none of a table's words
   abbrev pub None : List (String × ℕ) → Type 0
   None [] = Unit {0}
   None (e ∷ es) = (same (bytes e.0) w ≡ false) × None es
 
+  -- of the others its length tells
+  none_sized : (es : List (String × ℕ)) → None (sized (length w) es) → None es
+  none_sized [] h = h
+  none_sized (e ∷ es) h = go (eqb (length (bytes e.0)) (length w)) refl h (none_sized es)
+    where
+      go : (t : Bool) → eqb (length (bytes e.0)) (length w) ≡ t → None (if t then e ∷ sized (length w) es else sized (length w) es)
+          → (None (sized (length w) es) → None es) → None (e ∷ es)
+      go true q g ih = (g.0, ih g.1)
+      go false q g ih = (same_not (bytes e.0) w (λ p. eqb-false _ _ q (ap length p)), ih g)
+
   pub none_entry : (es : List (String × ℕ)) → None es → (entry (λ s. same (bytes s) w) es).1 ≡ 99
   unfolding entry
   none_entry [] h = refl
   none_entry (e ∷ es) h = rw (h.0, entry) (none_entry es h.1)
+
+  none_of_size : (es : List (String × ℕ)) → None (sized (length w) es) → (entry (λ s. same (bytes s) w) es).1 ≡ 99
+  none_of_size es h = none_entry es (none_sized es h)
 
 -- ---- short words by their keys
 
@@ -243,6 +261,18 @@ keyword_code w h k q =
 pub keyword_is : (w : List ℕ) (n : ℕ) → T (every small w) → word w n ≡ piece (keyword_by (key_of w)) n
 unfolding word
 keyword_is w n h = ap (λ (c : ℕ). piece c n) (keyword_code w h (entry (λ s. same (bytes s) w) keywords).1 refl)
+
+-- a word that is none of the keywords of its length is a name
+pub keyword_none : (w : List ℕ) → Bytes w → (n : ℕ) → length w ≡ n → None w (sized n keywords) → 1 ≡ keyword_by (key_of w)
+keyword_none w h n l g = keyword_code w (smalls w h) 99 (none_of_size w keywords (rw l g))
+
+-- and so is one of a length that no keyword has
+pub keyword_other : (w : List ℕ) → Bytes w → (length w ≡ 2 → ⊥) → (length w ≡ 3 → ⊥) → (length w ≡ 4 → ⊥) → (length w ≡ 5 → ⊥) → 1 ≡ keyword_by (key_of w)
+unfolding bytes
+keyword_other w h two three four five =
+    let n = length w in
+    keyword_none w h n refl
+    (rw (ne_eqb 2 n (λ e. two (sym e)), ne_eqb 3 n (λ e. three (sym e)), ne_eqb 4 n (λ e. four (sym e)), ne_eqb 5 n (λ e. five (sym e))) tt)
 
 -- the bytes of w from i on are those of v
 abbrev pub Spelled : ℕ → List ℕ → List ℕ → Type 0
