@@ -1,41 +1,44 @@
 -- What each step of the expression readers' code comes to in the definition. Each law is over plain values, and an answer of a
 -- proof cites one.
-use mathlib.Core.Path.{◌≡◌, refl, sym, ap, ◌∙◌, subst}
+use mathlib.Core.Path.{◌≡◌, refl, sym, ap, ◌∙◌}
 use mathlib.Core.Bool.{Bool, true, false, ◌&&◌, not, true≢false}
 use mathlib.Core.Logic.{◌⊎◌, inl, inr, ⊎_elim}
 use mathlib.Core.List.{List, [], ◌∷◌}
 use mathlib.Core.Option.{none, some}
-use Prim.Native.Nat.{ℕ, zero, suc, ◌+◌, ◌-◌, ◌*◌, ◌≤◌, ◌<◌}
+use Prim.Native.Nat.{ℕ, zero, suc, ◌+◌, ◌-◌, ◌≤◌, ◌<◌}
 use Prim.Native.String.{String}
 use native.Mathlib.Omega.{arith}
 use lib.Dec.{eqb}
 use borrow.Author.Tests.{ne_eqb, eqb-true}
-use lib.ListN.{length, take}
+use lib.ListN.{take}
 use Rattle.tokens.specs.Limits.{most_bytes}
 use Rattle.tokens.specs.Text.{bytes, same, within}
 use Rattle.tokens.specs.Names.{names}
 use Rattle.tokens.specs.Lexing.{advanced}
 use Rattle.tokens.specs.Tokens.{Token, code}
 use Rattle.tokens.specs.declared.cursor.Cursor.{Cursor}
-use Rattle.grammar.specs.Trees.{Tree, node, nil, ◌▹◌, fields, none as unused, row}
-use Rattle.grammar.specs.Readers.{Out, ok, refused, Reader, bind, ◌>>=◌, ◌>>◌, second as second_of, give, fail_at, ask, look, peek, read, the}
+use Rattle.grammar.specs.Trees.{Tree, Trees, node, nil, ◌▹◌, fields, none as unused, row}
+use Rattle.grammar.specs.Readers.{Out, ok, refused, Reader, bind, ◌>>=◌, ◌>>◌, second as second_of, Turn, give, fail_at, ask, look, peek, read, the}
 use Rattle.grammar.specs.Grammar.{call_of, Language, binary, chain, deeper, comparison, expression, in_edition, lone, power, signed, minus, negative, parenthesis, pays, name, primary_over, primary}
 use Rattle.reading.specs.Rows.{put_row, node_row}
 use Rattle.reading.specs.Joins.{Joins}
 use Rattle.reading.specs.declared.records.Node.{Node}
 use Rattle.reading.specs.declared.records.Joined.{Joined}
 use Rattle.reading.specs.Atoms.{literal, atom}
-use Rattle.reading.specs.Meets.{edition_by, language_in, toks_at, token_at, Holds, Room, Ready, Follows, Takes, Lone, Reads, Meets}
+use Rattle.reading.specs.Meets.{edition_by, language_in, toks_at, token_at, Holds, Room, Ready, Follows, Takes, Reads, Meets}
 use Rattle.reading.specs.Signs.{comparator, taken_in, raisable}
-use Rattle.reading.specs.Turns.{inner, power_at, sum_or, comparison_or, parenthesised, list_postfixed, negated_by}
-use Rattle.std.specs.Prelude.{Result, Ok, Err, Some, None}
+use Rattle.reading.specs.Turns.{inner, power_at, sum_or, comparison_or, parenthesised, list_postfixed, negated_by, MeetsItems, Closed, MeetsTurns}
+use Rattle.std.specs.Prelude.{Result, Ok, Err}
 use Rattle.reading.specs.Faults.{refused_by}
 use Rattle.reading.specs.declared.answers.Fault.{Fault}
 use Rattle.reading.specs.declared.answers.Read.{Read}
+use Rattle.reading.specs.declared.answers.Items.{Items}
+use Rattle.std.specs.Result.{IsErrAnd}
+use Rattle.std.proofs.lemmas.Result.{err_from_is_err_and}
 use Rattle.grammar.proofs.SignedLaws.{Bare, raised_alone, signed_stops, minus_stops}
 use Rattle.grammar.proofs.SizeLaws.{Sized, EachSized, nothing, just, primary_size}
 use Rattle.reading.proofs.HoldLaws.{first_kind, second_is, next_follows, ask_yes, ask_no, peek_is, read_then, read_next, the_then, the_next}
-use Rattle.reading.proofs.RowLaws.{size_some, size_one, size_two, after_one, after_two}
+use Rattle.reading.proofs.RowLaws.{size_one, size_two, after_one, after_two}
 use Rattle.reading.proofs.ChainLaws.{reads_within, binary_plain, by_sign}
 
 -- ---- answers of calls
@@ -46,6 +49,21 @@ meets_as t R R' n o r o' e h = rw e h
 
 pub reads_as : (t : List ℕ) (R R' : Out Tree) (n : ℕ) (o : List ℕ) (c : Cursor) (m q : ℕ) (o' : List ℕ) → R ≡ R' → Reads t R' n o c m q o' → Reads t R n o c m q o'
 reads_as t R R' n o c m q o' e h = rw e h
+
+-- what `?` hands on
+module _ (t : List ℕ) (n : ℕ) (e : Fault) where
+  pub meets_err : (R : Out Tree) (o : List ℕ) (r : Result Read Fault) (o' : List ℕ) → IsErrAnd r (λ x. x ≡ e) → R ≡ refused_by e → Meets t R n o r o'
+  meets_err R o r o' h q = let p = err_from_is_err_and r h in rw (p.1, p.2) q
+
+  pub items_err : (R : Out Trees) (o : List ℕ) (r : Result Items Fault) (o' : List ℕ) → IsErrAnd r (λ x. x ≡ e) → R ≡ refused_by e → MeetsItems t R n o r o'
+  items_err R o r o' h q = let p = err_from_is_err_and r h in rw (p.1, p.2) q
+
+  pub closed_err : (k : ℕ) (R : Out Trees) (o : List ℕ) (r : Result Items Fault) (o' : List ℕ) → IsErrAnd r (λ x. x ≡ e) → R ≡ refused_by e → MeetsItems t R n o r o' × Closed k r
+  closed_err k R o r o' h q = let p = err_from_is_err_and r h in rw (p.1, p.2) (q, tt)
+
+  pub turns_err : (R : Tree → Out (Turn Tree Tree)) (m : ℕ) (o : List ℕ) (c : Cursor) (r : Result Read Fault) (o' : List ℕ) → IsErrAnd r (λ x. x ≡ e) → ((x : Tree) → R x ≡ refused_by e)
+      → MeetsTurns t R n m o c r o'
+  turns_err R m o c r o' h q = let p = err_from_is_err_and r h in rw (p.1, p.2) (λ x o₁ g. q x, tt)
 
 module _ {A B : Type 0} where
   -- a refusal goes through what would read on
@@ -82,12 +100,6 @@ module _ {A : Type 0} where
   pub deeper_some : (u : Token) (W : Language) (d : ℕ) (k : Reader Tree → Reader A) (ts : List Token) → (d ≡ 0 → ⊥) → deeper u (inner W d) k ts ≡ k (primary W (d - 1)) ts
   unfolding deeper
   deeper_some u W d k ts h = rw (inner_some W d h)
-
--- ---- numbers: what was read leaves room for one record more
-
-pub read_numbers : (t : List ℕ) (p : Reader Tree) → Sized p → (c : Cursor) (n : ℕ) (o : List ℕ) (d : Cursor) (m q : ℕ) (o' : List ℕ)
-    → Reads t (p (toks_at t c.start)) n o d m q o' → Room t c n → (n < m) × (m ≤ 50000) × (m + 3 * length (toks_at t d.start) ≤ 50000)
-read_numbers t p h c n o d m q o' r room = omega (arith, reads_within t p h c n o d m q o' r room, size_some r.tree, r.counts)
 
 -- ---- a comparison has at most one comparator
 
@@ -130,11 +142,6 @@ pub record Second (alone : Bool) (p : Reader Tree) (t : List ℕ) (c : Cursor) (
 
 abbrev pub Compares : Bool → Reader Tree → List ℕ → Cursor → ℕ → List ℕ → ℕ → Cursor → ℕ → List ℕ → Type 0
 Compares alone p t c n o k e m o' = (k ≡ 0 → First c n o e m o') × ((k ≡ 0 → ⊥) → Second alone p t c n o k e m o')
-
--- the second one is the last
-pub compare_less : (alone : Bool) (k j : ℕ) → k ≡ 0 → comparator alone j ≡ true → 1 - j < 1 - k
-compare_less alone k zero z y = absurd (true≢false (sym y ∙ comparator_no alone 0 refl))
-compare_less alone k (suc j) z y = omega arith
 
 module _ (alone : Bool) (p : Reader Tree) (short : Sized p) (t : List ℕ) (c : Cursor) (n : ℕ) (o : List ℕ) (ready : Ready t c n) where
   comparison_refused : (k b : ℕ) → p (toks_at t c.start) ≡ refused k b → comparison_by alone p (toks_at t c.start) ≡ refused k b
@@ -195,9 +202,6 @@ module _ (alone : Bool) (p : Reader Tree) (short : Sized p) (t : List ℕ) (c : 
             }
 
   -- an operand that is to be read
-  pub compare_first : Compares alone p t c n o 0 c n o
-  compare_first = (λ z. record { e_is = refl; m_is = refl; o_is = refl }, λ z. absurd (z refl))
-
   module _ (k : ℕ) (e : Cursor) (m : ℕ) (o' : List ℕ) (w : Compares alone p t c n o k e m o') where
     pub compare_ready : Ready t e m
     compare_ready =
@@ -209,7 +213,7 @@ module _ (alone : Bool) (p : Reader Tree) (short : Sized p) (t : List ℕ) (c : 
         by_sign k (λ z. comparison_refused f b (rw (w.0 z).e_is at g))
         (λ z. comparison_second (w.1 z).sign m (w.1 z).q o' (w.1 z).left (w.1 z).yes e (w.1 z).follows f b g)
 
-    module _ (d : Cursor) (m₂ q₂ : ℕ) (o₂ : List ℕ) (r : Reads t (p (toks_at t e.start)) m o' d m₂ q₂ o₂) where
+    module _ {d : Cursor} {m₂ q₂ : ℕ} {o₂ : List ℕ} (r : Reads t (p (toks_at t e.start)) m o' d m₂ q₂ o₂) where
       first_read : k ≡ 0 → Reads t (p (toks_at t c.start)) n o d m₂ q₂ o₂
       first_read z = let F = w.0 z in rw (F.e_is, F.m_is, F.o_is) at r
 
@@ -234,13 +238,12 @@ module _ (alone : Bool) (p : Reader Tree) (short : Sized p) (t : List ℕ) (c : 
           pub compare_none : comparator alone d.code ≡ false → Reads t (comparison_by alone p (toks_at t c.start)) n o d j.records j.string o₃
           compare_none = comparison_none d j.records j.string o₃ compare_alone
 
-          pub compare_next : comparator alone d.code ≡ true → (f : Cursor) → Follows t d f → Compares alone p t c n o d.code f j.records o₃
-          compare_next y f g =
-              (λ x. absurd (true≢false (sym y ∙ (ap (comparator alone) x ∙ comparator_no alone 0 refl))), λ x. record { sign = d; q = j.string; left = compare_alone; sign_is = refl; yes = y; follows = g })
-
 -- ---- parentheses
 
-module _ (W : Language) (t : List ℕ) (c d : Cursor) (n : ℕ) (o : List ℕ) (depth : ℕ) (w : Follows t c d) (some_open : c.code ≡ 0 → ⊥) where
+module _ (W : Language) (t : List ℕ) (c d : Cursor) (n : ℕ) (o : List ℕ) (depth : ℕ) (w : Follows t c d) (is_open : c.code ≡ 40) where
+  some_open : c.code ≡ 0 → ⊥
+  some_open z = omega (arith, z, is_open)
+
   pub parenthesis_deep : depth ≡ 0 → parenthesised W depth (token_at t c) (toks_at t c.start) ≡ refused 15 c.start
   parenthesis_deep e = deeper_none (token_at t c) W depth (λ p. read >> parenthesis W p) (toks_at t c.start) e
 
@@ -252,7 +255,7 @@ module _ (W : Language) (t : List ℕ) (c d : Cursor) (n : ℕ) (o : List ℕ) (
         → parenthesised W depth (token_at t c) (toks_at t c.start) ≡ refused k b
     parenthesis_refused k b e = inside ∙ bind_refused (expression W (primary W (depth - 1))) _ (toks_at t d.start) k b e
 
-    module _ (e : Cursor) (m q : ℕ) (o' : List ℕ) (r : Reads t (expression W (primary W (depth - 1)) (toks_at t d.start)) n o e m q o') where
+    module _ {e : Cursor} {m q : ℕ} {o' : List ℕ} (r : Reads t (expression W (primary W (depth - 1)) (toks_at t d.start)) n o e m q o') where
       closing : parenthesised W depth (token_at t c) (toks_at t c.start) ≡ (the ")" >> give r.tree) (toks_at t e.start)
       unfolding ◌>>=◌
       closing = inside ∙ (rw r.is)
@@ -424,14 +427,6 @@ pub lone_not : (W : Language) (t : List ℕ) (c : Cursor) → Holds t c → (c.c
 unfolding code
 lone_not W t c h z = rw (first_kind h, ne_eqb 2 c.code (λ e. z (sym e)))
 
--- the lists do not matter to it
-pub lone_no : (t : List ℕ) (second : Bool) (x y z : List ℕ) (c : Cursor) → Lone t (language_in second [] [] []) c None → lone (language_in second x y z) (toks_at t c.start) ≡ false
-lone_no t second x y z c h = h
-
-pub lone_yes : (t : List ℕ) (second : Bool) (x y z : List ℕ) (c d : Cursor) → Lone t (language_in second [] [] []) c (Some d)
-    → Follows t c d × (c.code ≡ 2) × (lone (language_in second x y z) (toks_at t c.start) ≡ true)
-lone_yes t second x y z c d h = h
-
 -- behind what a sign takes in there is room for its record
 pub behind_read : (t : List ℕ) (p : Reader Tree) → Sized p → (c : Cursor) (n : ℕ) (o : List ℕ) (d : Cursor) (m q : ℕ) (o' : List ℕ) → Room t c (n + 3) → Reads t (p (toks_at t c.start)) n o d m q o'
     → (n ≤ m) × (m < 50000)
@@ -459,6 +454,9 @@ module _ (W : Language) (t : List ℕ) (c d : Cursor) (depth : ℕ) where
         go : (R : Out Tree) → bind (λ x. give (node 7 c.start [] unused (x ▹ nil))) R ≡ negated_by c.start R
         go (ok x r) = refl
         go (refused k b) = refl
+
+    pub minus_refused : (depth ≡ 0 → ⊥) → (e : Fault) → signed W (primary W (depth - 1)) (toks_at t d.start) ≡ refused_by e → M ≡ refused_by e
+    minus_refused z e h = minus_deep z ∙ ap (negated_by c.start) h
 
 -- a negation: what was read, and the record behind it
 pub negate_reads : (y : ℕ) (t : List ℕ) (R : Out Tree) (n : ℕ) (o : List ℕ) (e : Cursor) (m q : ℕ) (o₁ o₂ : List ℕ) → Reads t R n o e m q o₁

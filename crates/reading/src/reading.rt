@@ -1,8 +1,7 @@
 // A script read into lent memory.
 ghost use Rattle.std.specs.Prelude.{◌≡◌};
-ghost use Rattle.tokens.specs.Refusals.{number_of};
 ghost use Rattle.tokens.specs.LentLists.{lists_of};
-ghost use Rattle.grammar.specs.Script.{number_of as edition_number};
+ghost use Rattle.grammar.specs.Script.{number_of};
 ghost use Rattle.reading.specs.Meets.{edition_by};
 ghost use Rattle.reading.specs.Reading.{accepted_with, refused_at, answered, LeavesIn, Leaves};
 
@@ -42,17 +41,11 @@ pub fn read(
     let two = match edition {
         1 => false,
         2 => true,
-        _ => return refusal(
-            script,
-            Refusal {
-                cause: Ground::Edition,
-                byte: 0,
-            },
-        ),
+        _ => return refusal(script, Ground::Edition.number(), 0),
     };
     match read_in(script, two, lists, records, directory) {
         Ok(accepted) => accepted,
-        Err(e) => refusal(script, e),
+        Err(e) => refusal(script, e.cause.number(), e.byte),
     }
 }
 
@@ -78,14 +71,14 @@ fn read_in(
     Ok(acceptance(two, c, r.latest as usize))
 }
 
-fn edition_number(two: bool) -> u32
-    ensures { result ≡ edition_number (edition_by two) }
+fn number_of(two: bool) -> u32
+    ensures { result ≡ number_of (edition_by two) }
 {
     if two { 2 } else { 1 }
 }
 
 fn acceptance(two: bool, c: Counts, latest: usize) -> Answer
-    ensures { result ≡ accepted_with (edition_number (edition_by two)) c latest }
+    ensures { result ≡ accepted_with (number_of (edition_by two)) c latest }
 {
     Answer {
         number: 0,
@@ -97,18 +90,18 @@ fn acceptance(two: bool, c: Counts, latest: usize) -> Answer
         records: c.records,
         tokens: c.tokens,
         latest,
-        edition: edition_number(two),
+        edition: number_of(two),
     }
 }
 
 // A refusal, with the line and the column of its byte; the counts are 0, and so are the latest date and the edition.
-pub fn refusal(script: &[u8], e: Refusal) -> Answer
-    ensures { result ≡ refused_at script.now (number_of e.cause) e.byte }
+pub fn refusal(script: &[u8], number: u32, byte: usize) -> Answer
+    ensures { result ≡ refused_at script.now number byte }
 {
-    let place = place_of(script, e.byte);
+    let place = place_of(script, byte);
     Answer {
-        number: e.cause.number(),
-        byte: e.byte,
+        number,
+        byte,
         line: place.line,
         column: place.column,
         bytes: 0,

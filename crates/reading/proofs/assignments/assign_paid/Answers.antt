@@ -15,13 +15,6 @@ returns-in_err-v c =
     let words = language_of args.language.now in
     meets_err _ _ _ _ _ _ _ c.from_residual.ensures.1 (assign_paid_unnamed args.language.now _ _ _ _ args.out.now pre.0 pre.1 pre.2 (inner words args.depth) _ _ c.in_err-v.ensures)
 
-pub paid-requires : goal.paid-requires
-paid-requires c =
-    let args = c.args in
-    let pre = c.requires in
-    let words = language_of args.language.now in
-    (assign_paid_ready args.language.now _ _ _ _ _ pre.0 pre.1 pre.2 _ _ _ c.in_ok-v.ensures (inner words args.depth) (inner_sized words args.depth), pre.4, pre.3)
-
 pub returns-in_err-r : goal.returns-in_err-r
 returns-in_err-r c =
     let args = c.args in
@@ -36,14 +29,8 @@ numbers c =
     let words = language_of args.language.now in
     assign_paid_numbers args.language.now _ _ _ _ _ pre.0 pre.1 pre.2 _ _ _ c.in_ok-v.ensures (inner words args.depth) (inner_sized words args.depth) _ _ _ _ c.in_ok-r.ensures
 
-pub overflow_sub-k : goal.overflow_sub-k
-overflow_sub-k c = omega (arith, numbers (goal.at.overflow_sub-k c).In_ok-r)
-
 pub overflow_add-k : goal.overflow_add-k
 overflow_add-k c = omega (arith, numbers (goal.at.overflow_add-k c).In_ok-r)
-
-pub overflow_sub-k-2 : goal.overflow_sub-k-2
-overflow_sub-k-2 c = omega (arith, numbers (goal.at.overflow_sub-k-2 c).In_ok-r)
 
 pub overflow_add-k-2 : goal.overflow_add-k-2
 overflow_add-k-2 c = omega (arith, numbers (goal.at.overflow_add-k-2 c).In_ok-r)

@@ -9,25 +9,6 @@ use Rattle.reading.proofs.AssignLaws.{sign_at, first_assign, first_compound, fir
 use Rattle.reading.proofs.assignments.begun.Goals.{in_default-via-then-this-lt28, in_default-via-else-this-lt28+else-this-lt32}
 use Rattle.reading.proofs.assignments.begun.Goals as goal
 
-pub assign-requires : goal.assign-requires
-assign-requires c =
-    let args = c.args in
-    let pre = c.requires in
-    (pre.0, c.next-d.ensures, pre.1, pre.2, omega (arith, sign_at args.language.now args.depth _ _ _ c.next-d.ensures pre.1 _ c.sign_behind.ensures))
-
-pub compound-requires : goal.compound-requires
-compound-requires c =
-    let args = c.args in
-    let pre = c.requires in
-    let sign = sign_at args.language.now args.depth _ _ _ c.next-d.ensures pre.1 _ c.sign_behind.ensures in
-    (pre.0, c.next-d.ensures, pre.1, pre.2, omega (arith, sign (λ z. omega arith)), omega (arith, sign (λ z. omega arith)))
-
-pub assign_paid-requires : goal.assign_paid-requires
-assign_paid-requires c =
-    let args = c.args in
-    let pre = c.requires in
-    (pre.0, c.next-d.ensures, pre.1, pre.2, omega (arith, sign_at args.language.now args.depth _ _ _ c.next-d.ensures pre.1 _ c.sign_behind.ensures))
-
 pub returns-in-37 : goal.returns-in-37
 returns-in-37 c =
     let args = c.args in
