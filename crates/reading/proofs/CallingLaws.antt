@@ -158,9 +158,6 @@ module _ (t : List ℕ) (p r : ℕ) (l : p ≤ length t) (e : r ≡ p + leading 
   pub find_in : r ≤ length t
   find_in = omega (arith, leading_le (other 34) (drop p t), length-drop p t)
 
-  pub find_cut : take (r - p) (drop p t) ≡ content_at t p
-  find_cut = let n : r - p ≡ leading (other 34) (drop p t) = omega arith in ap (λ n. take n (drop p t)) n
-
 -- ---- what a call is refused for
 
 module _ (C : List (List ℕ)) (k n : ℕ) (es : Trees) (e : n ≡ parts es) where
@@ -216,10 +213,3 @@ module _ (t : List ℕ) (W : Language) (l : ℕ) (es : Trees) (p : ℕ) where
       string = refl;
       quoted = λ z. absurd (omega arith);
     }
-
--- ---- the lent lists that a reader does not look at
-
-module _ (s : Bool) (r c d : List ℕ) where
-  pub named_words : (t : Token) → named (words_in r [] []) t ≡ named (language_in s r c d) t
-  unfolding named
-  named_words t = refl

@@ -3,7 +3,6 @@ use mathlib.Core.Path.{◌≡◌, refl, sym, ap, ◌∙◌}
 use mathlib.Core.Bool.{Bool, true, false, ◌&&◌, true≢false}
 use mathlib.Core.List.{List, [], ◌∷◌}
 use Prim.Native.Nat.{ℕ, zero, suc, ◌+◌, ◌-◌, ◌*◌, ◌≤◌, ◌<◌}
-use native.Mathlib.Nat.{add_comm}
 use native.Mathlib.Omega.{arith}
 use lib.Dec.{eqb, leb, ltb}
 use lib.ListN.{length, get_or, take, drop, length-append, length-drop}
@@ -20,18 +19,6 @@ use Rattle.reading.specs.declared.parts.Place.{Place}
 
 -- ---- slices
 
--- a slice from one place to another of what was lent
-pub cut_part : (lent r : Bor (List ℕ)) (a n e : ℕ) → e ≡ a + n → e ≤ length lent.now → r.ref_ptr ≡ (lent.ref_ptr.0, a + lent.ref_ptr.1)
-    → r.now ≡ take (e - a) (drop a lent.now) → PartOf lent (span a n) r
-cut_part lent r a n e q h p d =
-    let m : e - a ≡ n = omega arith in
-    let t : r.now ≡ take n (drop a lent.now) = d ∙ ap (λ (k : ℕ). take k (drop a lent.now)) m in
-    record {
-      begins = p ∙ ap (λ (k : ℕ). (lent.ref_ptr.0, k)) (add_comm a lent.ref_ptr.1);
-      long = ap length t ∙ length-take-le n (drop a lent.now) (omega (arith, length-drop a lent.now));
-      holds = t;
-    }
-
 -- two slices that are the same part begin at the same place and hold the same bytes
 same_part : (lent : Bor (List ℕ)) (p : Span) (r q : Bor (List ℕ)) → PartOf lent p r → PartOf lent p q → (r.ref_ptr ≡ q.ref_ptr) × (r.now ≡ q.now)
 same_part lent p r q x y = (one_outcome x.begins y.begins, one_outcome x.holds y.holds)
@@ -40,27 +27,6 @@ pub parts_same : (script list : Bor (List ℕ)) (p : Part) (r q : Bor (List ℕ)
     → (r.ref_ptr ≡ q.ref_ptr) × (r.now ≡ q.now)
 parts_same script list (of_script p) r q x y = same_part script p r q x y
 parts_same script list (of_list p) r q x y = same_part list p r q x y
-
--- a slice cut by the numbers of a part is that part
-module _ (script list r : Bor (List ℕ)) (n : Place) where
-  pub hands_script : (p : Part) → n ≡ placed p → n.in_list ≡ false → PartOf script (span n.from n.size) r → HandsBack script list p r
-  hands_script (of_script p) e t x = rw e at x
-  hands_script (of_list p) e t x = absurd (true≢false (sym (ap (λ (q : Place). q.in_list) e) ∙ t))
-
-  pub hands_list : (p : Part) → n ≡ placed p → n.in_list ≡ true → PartOf list (span n.from n.size) r → HandsBack script list p r
-  hands_list (of_script p) e t x = absurd (true≢false (sym t ∙ ap (λ (q : Place). q.in_list) e))
-  hands_list (of_list p) e t x = rw e at x
-
--- ---- a place in the script
-
-module _ (n start at size : ℕ) where
-  pub text_inside : start + at + size ≤ n → text_at n start at size ≡ span (start + at) size
-  unfolding text_at
-  text_inside h = rw (le-leb (start + at + size) n h)
-
-  pub text_outside : n < start + at + size → text_at n start at size ≡ empty
-  unfolding text_at
-  text_outside h = rw (lt-leb (start + at + size) n h)
 
 -- ---- the names of a list
 

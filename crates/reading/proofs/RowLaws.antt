@@ -9,7 +9,7 @@ use native.Mathlib.Numerals.{add-one}
 use native.Mathlib.Omega.{arith}
 use lib.Dec.{ltb}
 use lib.ListN.{length, length-append, length-set, set, take, drop, take-append-drop}
-use lib.Seq.{sets, sets-eq, length-take-le, take_at, drop_at, drop-append-add, drop-drop}
+use lib.Seq.{sets, sets-eq, length-take-le, take_all, take_at, drop_at, drop-append-add, drop-drop}
 use borrow.Author.Tests.{lt-ltb, le-ltb}
 use Rattle.grammar.specs.Sizes.{record_width}
 use Rattle.grammar.specs.Trees.{Tree, Trees, node, nil, ◌▹◌, Fields, fields, snoc, join, parts, size, sizes, row, records, records_of}
@@ -277,6 +277,12 @@ module _ (w : ℕ) (some : 0 < w) where
       let room : w * n + length r ≤ length o = rw e h in
       rw (lt-ltb n (length o / w) fits) (put_words_sets o (w * n) r ∙ sets-eq r o (w * n) room ∙ rw e)
 
+  -- as a part of the memory that is written
+  pub put_part : (o : List ℕ) (n : ℕ) (r : List ℕ) → n < length o / w → length r ≡ w → take (w * n) o ++ take w r ++ drop (w * n + w) o ≡ put_at w o n r
+  put_part o n r fits e =
+      let room : w * n + w ≤ length o = omega (arith, (le-div_iff_mul-le some).0 fits, mul_comm (suc n) w) in
+      rw (take_all w r (omega (arith, e))) (sym (put_fits o n r room e))
+
   pub put_all_lem : (o : List ℕ) (n : ℕ) (rs : List (List ℕ)) → w * n + w * length rs ≤ length o → Wide w rs
       → put_all w o n rs ≡ take (w * n) o ++ (flat rs ++ drop (w * n + w * length rs) o)
   unfolding put_all
@@ -308,26 +314,3 @@ module _ (w : ℕ) (some : 0 < w) where
   -- from the front of the memory
   pub put_first : (o : List ℕ) (rs : List (List ℕ)) → w * length rs ≤ length o → Wide w rs → put_all w o 0 rs ≡ flat rs ++ drop (w * length rs) o
   put_first o rs h v = put_all_lem o 0 rs (omega arith) v ∙ rw (mul-zero, zero-add)
-
--- the eight words of a row, one store each
-pub put_eight : (o : List ℕ) (i a b c d e f g h : ℕ)
-    → put_words o i (a ∷ b ∷ c ∷ d ∷ e ∷ f ∷ g ∷ h ∷ []) ≡ set (set (set (set (set (set (set (set o i a) (i + 1) b) (i + 2) c) (i + 3) d) (i + 4) e) (i + 5) f) (i + 6) g) (i + 7) h
-unfolding put_words
-put_eight o i a b c d e f g h =
-    let i₂ : i + 1 + 1 ≡ i + 2 = omega arith in
-    let i₃ : i + 2 + 1 ≡ i + 3 = omega arith in
-    let i₄ : i + 3 + 1 ≡ i + 4 = omega arith in
-    let i₅ : i + 4 + 1 ≡ i + 5 = omega arith in
-    let i₆ : i + 5 + 1 ≡ i + 6 = omega arith in
-    let i₇ : i + 6 + 1 ≡ i + 7 = omega arith in
-    rw (i₂, i₃, i₄, i₅, i₆, i₇)
-
--- the five words of an entry
-pub put_five : (o : List ℕ) (i a b c d e : ℕ)
-    → put_words o i (a ∷ b ∷ c ∷ d ∷ e ∷ []) ≡ set (set (set (set (set o i a) (i + 1) b) (i + 2) c) (i + 3) d) (i + 4) e
-unfolding put_words
-put_five o i a b c d e =
-    let i₂ : i + 1 + 1 ≡ i + 2 = omega arith in
-    let i₃ : i + 2 + 1 ≡ i + 3 = omega arith in
-    let i₄ : i + 3 + 1 ≡ i + 4 = omega arith in
-    rw (i₂, i₃, i₄)

@@ -23,6 +23,7 @@ pub struct Place {
 
 // The part that a record names, asked for its first name, or a Spot's second; where there is none, the empty part at the
 // script's start. The record is the first words of its slice, and its places count from its statement's start.
+#[tactic(auto, using(crate::proofs::PartLaws::ends_in_script, crate::proofs::PartLaws::ends_in_list))]
 pub fn part<'a>(
     script: &'a [u8],
     currencies: &'a [u8],

@@ -1,6 +1,6 @@
 // Records in lent memory.
 ghost use Rattle.std.specs.Prelude.{◌≡◌, ◌≤◌};
-ghost use Rattle.reading.specs.Rows.{kind_number, node_row, put_row, entry_row, put_entry};
+ghost use Rattle.reading.specs.Rows.{kind_number, node_row, put_at, put_row, entry_row, put_entry};
 ghost use Rattle.reading.specs.Joins.{Joins};
 
 // The kinds of records, each with its number. Where a sign joins two records, its kind's number is its token's.
@@ -123,22 +123,29 @@ pub fn leaf(kind: Kind, f1: u32, f2: u32, f3: u32, f4: u32, place: u16) -> Node
     }
 }
 
+// Writes the words that are the n-th of their width, where they fit whole.
+fn put_at<const W: usize>(out: &mut [u32], n: u32, words: [u32; W])
+    requires { 1 ≤ W }
+    ensures { out.new ≡ put_at W out.old n words.entry }
+{
+    let k = n as usize;
+    if k < out.len() / W {
+        let at = W * k;
+        out[at..at + W].copy_from_slice(&words);
+    }
+}
+
 // Writes the record n, where it fits whole.
 pub fn put(out: &mut [u32], n: u32, node: Node)
     ensures { out.new ≡ put_row out.old n (node_row node) }
 {
-    let k = n as usize;
-    if k < out.len() / Node::WIDTH {
-        let at = Node::WIDTH * k;
-        out[at] = node.kind;
-        out[at + 1] = node.nodes;
-        out[at + 2] = node.parts;
-        out[at + 3] = node.f1;
-        out[at + 4] = node.f2;
-        out[at + 5] = node.f3;
-        out[at + 6] = node.f4;
-        out[at + 7] = node.place;
-    }
+    put_at(
+        out,
+        n,
+        [
+            node.kind, node.nodes, node.parts, node.f1, node.f2, node.f3, node.f4, node.place,
+        ],
+    );
 }
 
 // How many records there are behind an operand, and where its string stands.
@@ -187,13 +194,15 @@ impl Entry {
 pub fn put_entry(directory: &mut [u32], k: u32, entry: Entry)
     ensures { directory.new ≡ put_entry directory.old k (entry_row entry) }
 {
-    let i = k as usize;
-    if i < directory.len() / Entry::WIDTH {
-        let at = Entry::WIDTH * i;
-        directory[at] = entry.start;
-        directory[at + 1] = entry.end;
-        directory[at + 2] = entry.records;
-        directory[at + 3] = entry.tokens;
-        directory[at + 4] = entry.latest;
-    }
+    put_at(
+        directory,
+        k,
+        [
+            entry.start,
+            entry.end,
+            entry.records,
+            entry.tokens,
+            entry.latest,
+        ],
+    );
 }
