@@ -1,24 +1,9 @@
--- What the lines of a case lend, and when a call gave and left what is stored.
-use Rattle.std.specs.Prelude.{Bool, true, false, ◌&&◌, List, [], ◌∷◌, ℕ, suc, ◌%◌, ◌^◌, eqb, leb, length, get_or, take, drop}
+-- When a call gave and left what is stored.
+use Rattle.std.specs.Prelude.{Bool, true, false, ◌&&◌, List, [], ◌∷◌, ℕ, suc, eqb, leb, length, get_or, take, drop}
 use Rattle.std.specs.Bool.{beq}
-use Rattle.tokens.specs.Text.{same, within}
+use Rattle.tokens.specs.Text.{same}
 use Rattle.reading.specs.declared.reading.Answer.{Answer}
 use Rattle.reading.specs.declared.parts.Place.{Place}
-use Rattle.amending.specs.declared.held.Held.{Held}
-
--- ---- lines
-
--- the kinds that say what a call must have left: script, records, directory, same
-abbrev pub left_kind : ℕ → Bool
-left_kind k = within 4 7 k
-
--- a number as a word
-abbrev pub word : ℕ → ℕ
-word n = n % 2 ^ 32
-
--- the counts, the latest date and the edition that are lent to the next call stand at 6 to 11 of what is known of a case
-abbrev pub held_in : List ℕ → Held
-held_in l = record { bytes = get_or l 6 0; statements = get_or l 7 0; records = get_or l 8 0; tokens = get_or l 9 0; latest = get_or l 10 0; edition = word (get_or l 11 0) }
 
 -- ---- answers: the ten stored numbers are l
 
