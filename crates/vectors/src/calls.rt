@@ -1,10 +1,33 @@
 // Reads and amends, run on the memory of a case.
-use crate::case::Case;
+ghost use Rattle.std.specs.Prelude.{◌≡◌, not, Some};
+ghost use Rattle.vectors.specs.Comparing.{slices_same};
+
+use crate::case::{Case, Slices};
 use amending::amending::amend;
+use amending::held::Held;
 use reading::reading::{Answer, read};
 
 impl<'a> Case<'a> {
-    pub fn read(&mut self) -> Answer {
+    // What a call changed is known to the lines that follow, and its counts, latest date and edition are those that an amend
+    // behind it is lent.
+    fn note(&mut self, before: &Slices, given: Answer)
+        ensures noted { self.new.changed ≡ Some (not (slices_same self.old.slices before.now)) }
+        ensures kept { self.new.slices ≡ self.old.slices }
+    {
+        self.changed = Some(!self.slices.are_same(before));
+        self.held = Held {
+            bytes: given.bytes,
+            statements: given.statements,
+            records: given.records,
+            tokens: given.tokens,
+            latest: given.latest,
+            edition: given.edition,
+        };
+    }
+
+    pub fn read(&mut self) -> Answer
+        ensures { self.new.changed ≡ Some (not (slices_same self.new.slices self.old.slices)) }
+    {
         let before = self.slices;
         let lists = self.names.lent();
         let given = read(
@@ -16,11 +39,13 @@ impl<'a> Case<'a> {
             self.slices.records.lent_mut(),
             self.slices.directory.lent_mut(),
         );
-        self.changed = Some(!self.slices.are_same(&before));
+        self.note(&before, given);
         given
     }
 
-    pub fn amend(&mut self, statement: usize, text: &[u8]) -> Answer {
+    pub fn amend(&mut self, statement: usize, text: &[u8]) -> Answer
+        ensures { self.new.changed ≡ Some (not (slices_same self.new.slices self.old.slices)) }
+    {
         let before = self.slices;
         let lists = self.names.lent();
         let given = amend(
@@ -34,7 +59,7 @@ impl<'a> Case<'a> {
             self.slices.records.lent_mut(),
             self.slices.directory.lent_mut(),
         );
-        self.changed = Some(!self.slices.are_same(&before));
+        self.note(&before, given);
         given
     }
 }

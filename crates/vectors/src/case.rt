@@ -1,4 +1,7 @@
 // What is known of a case between its lines.
+ghost use Rattle.std.specs.Prelude.{◌≡◌};
+ghost use Rattle.vectors.specs.Comparing.{slices_same};
+
 use crate::memory::Memory;
 use amending::held::Held;
 use tokens::lists::Lists;
@@ -13,7 +16,10 @@ pub struct Slices {
 
 impl Slices {
     // Whether each lent byte and word is as it was.
-    pub fn are_same(&self, before: &Slices) -> bool {
+    #[tactic(auto, using(crate::proofs::ComparingLaws::pointwise_same))]
+    pub fn are_same(&self, before: &Slices) -> bool
+        ensures { result ≡ slices_same self.now before.now }
+    {
         self.script.lent() == before.script.lent()
             && self.records.lent() == before.records.lent()
             && self.directory.lent() == before.directory.lent()

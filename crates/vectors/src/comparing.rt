@@ -14,16 +14,28 @@ use std::io::Stdout;
 pub fn agrees(stored: &[u32; 10], a: Answer) -> bool
     ensures { result ≡ answer_stored stored.now a }
 {
-    a.number == stored[0]
-        && a.byte == stored[1] as usize
-        && a.line == stored[2] as usize
-        && a.column == stored[3] as usize
-        && a.bytes == stored[4] as usize
-        && a.statements == stored[5] as usize
-        && a.records == stored[6] as usize
-        && a.tokens == stored[7] as usize
-        && a.latest == stored[8] as usize
-        && a.edition == stored[9]
+    let [
+        number,
+        byte,
+        line,
+        column,
+        bytes,
+        statements,
+        records,
+        tokens,
+        latest,
+        edition,
+    ] = *stored;
+    a.number == number
+        && a.byte == byte as usize
+        && a.line == line as usize
+        && a.column == column as usize
+        && a.bytes == bytes as usize
+        && a.statements == statements as usize
+        && a.records == records as usize
+        && a.tokens == tokens as usize
+        && a.latest == latest as usize
+        && a.edition == edition
 }
 
 // How many words at the start of two slices are equal: the place of the first that differ.
@@ -57,7 +69,12 @@ fn compare<T: Copy + PartialEq, F: FnOnce(&[T], &[T])>(
     Err(Trouble::Differs)
 }
 
-pub fn compare_script(out: Stdout, file: &[u8], field: &[u8], left: &Memory<u8>) -> Result<(), Trouble> {
+pub fn compare_script(
+    out: Stdout,
+    file: &[u8],
+    field: &[u8],
+    left: &Memory<u8>,
+) -> Result<(), Trouble> {
     let mut stored = Memory::new(0);
     stored.load_bytes(file, field)?;
     compare(&stored, left, |_, left| say_left(out, left))

@@ -19,7 +19,10 @@ pub fn number(field: &[u8], radix: u32) -> Option<u32>
     requires { (2 ≤ radix) × (radix ≤ 36) }
 {
     // The library reads a sign and capitals too, which the format does not have.
-    if !field.iter().all(|b| matches!(*b, b'0'..=b'9' | b'a'..=b'f')) {
+    if !field
+        .iter()
+        .all(|b| matches!(*b, b'0'..=b'9' | b'a'..=b'f'))
+    {
         return None;
     }
     u32::from_str_radix(str::from_utf8(field).ok()?, radix).ok()

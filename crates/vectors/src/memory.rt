@@ -1,5 +1,6 @@
 // The memory of a case, filled from the fields of a text.
-ghost use Rattle.std.specs.Prelude.{◌≡◌, ◌≤◌, take};
+ghost use Rattle.std.specs.Prelude.{◌≡◌, take};
+ghost use Rattle.vectors.specs.Comparing.{size_of, lent_of};
 
 use crate::fields::{number, split_once};
 use crate::trouble::Trouble;
@@ -32,13 +33,15 @@ impl<T: Copy> Memory<T> {
     }
 
     fn lent_size(&self) -> usize
-        ensures { result ≤ 32768 }
+        ensures { result ≡ size_of self.now.size }
     {
         self.size.unwrap_or(ROOM).min(ROOM)
     }
 
     // What a call is lent.
-    pub fn lent(&self) -> &[T] {
+    pub fn lent(&self) -> &[T]
+        ensures { result.now ≡ lent_of self.now }
+    {
         &self.room[..self.lent_size()]
     }
 

@@ -23,8 +23,9 @@ impl<'a> Case<'a> {
     }
 
     fn take_counts(&mut self, fields: &[u8]) -> Result<(), Trouble> {
-        let [bytes, statements, records, tokens, latest, edition] =
-            numbers::<6>(fields).ok_or(Trouble::Malformed)?;
+        let [bytes, statements, records, tokens, latest, edition] = numbers::<6>(fields).ok_or(
+            Trouble::Malformed,
+        )?;
         self.held = Held {
             bytes: bytes as usize,
             statements: statements as usize,
@@ -70,33 +71,15 @@ impl<'a> Case<'a> {
         }
     }
 
-    // The counts, the latest date and the edition of an answer are those of the calls that follow.
-    fn keep(&mut self, given: Answer) {
-        self.held = Held {
-            bytes: given.bytes,
-            statements: given.statements,
-            records: given.records,
-            tokens: given.tokens,
-            latest: given.latest,
-            edition: given.edition,
-        };
-    }
-
     // Runs an amend with the statement and the text of a line. Where they are not in the format, it is run all the same, with a
     // statement that no script has or the whole room; but its answer is not compared.
-    fn take_amend(
-        &mut self,
-        out: Stdout,
-        fields: &[u8],
-        tally: &mut Tally,
-    ) -> Result<(), Trouble> {
+    fn take_amend(&mut self, out: Stdout, fields: &[u8], tally: &mut Tally) -> Result<(), Trouble> {
         let (statement, fields) = first_field(fields);
         let (text, answer) = first_field(fields);
         let statement = number(statement, 10);
         let mut lent = Memory::new(0);
         let loaded = lent.load_bytes(self.file, text);
         let given = self.amend(statement.map_or(usize::MAX, |n| n as usize), lent.lent());
-        self.keep(given);
         statement.ok_or(Trouble::Malformed)?;
         loaded?;
         compare_answer(out, answer, given, tally)
@@ -129,7 +112,6 @@ impl<'a> Case<'a> {
             Kind::Read => {
                 count(&mut tally.reads);
                 let given = self.read();
-                self.keep(given);
                 compare_answer(out, fields, given, tally)?;
             }
             Kind::Amend => {

@@ -11,8 +11,19 @@ pub fn say(out: Stdout, text: &[u8]) {
 
 // What a call gave that differs. `say_trouble` goes on with the file, the case and the line, which has the stored answer.
 pub fn say_answer(out: Stdout, a: Answer) {
-    let _ = print!(out; "given {} {} {} {} bytes {} statements {} records {} tokens {} latest {} edition {} for ",
-        a.number, a.byte, a.line, a.column, a.bytes, a.statements, a.records, a.tokens, a.latest, a.edition);
+    let _ = print!(out;
+        "given {} {} {} {} bytes {} statements {} records {} tokens {} latest {} edition {} for ",
+        a.number,
+        a.byte,
+        a.line,
+        a.column,
+        a.bytes,
+        a.statements,
+        a.records,
+        a.tokens,
+        a.latest,
+        a.edition
+    );
 }
 
 fn say_bytes(out: Stdout, bytes: &[u8]) {
