@@ -1,6 +1,6 @@
 // Whether a call answered and left what is stored.
 ghost use Rattle.std.specs.Prelude.{◌≡◌};
-ghost use Rattle.vectors.specs.Comparing.{answer_stored, common};
+ghost use Rattle.vectors.specs.Comparing.{ground_stored, counts_stored, answer_stored, common};
 
 use crate::case::Slices;
 use crate::memory::Memory;
@@ -9,33 +9,35 @@ use crate::trouble::Trouble;
 use reading::reading::Answer;
 use std::io::Stdout;
 
+// The ten numbers of an answer, as a line stores them.
+pub type Numbers = [u32; 10];
+
+#[tactic(auto, unfolding(crate::specs::Comparing::ground_stored))]
+fn has_ground(stored: &Numbers, a: Answer) -> bool
+    ensures { result ≡ ground_stored stored.now a }
+{
+    a.number == stored[0]
+        && a.byte == stored[1] as usize
+        && a.line == stored[2] as usize
+        && a.column == stored[3] as usize
+}
+
+#[tactic(auto, unfolding(crate::specs::Comparing::counts_stored))]
+fn has_counts(stored: &Numbers, a: Answer) -> bool
+    ensures { result ≡ counts_stored stored.now a }
+{
+    a.bytes == stored[4] as usize
+        && a.statements == stored[5] as usize
+        && a.records == stored[6] as usize
+        && a.tokens == stored[7] as usize
+        && a.latest == stored[8] as usize
+}
+
 // Whether an answer is the stored one, in all its ten numbers.
-#[tactic(auto, unfolding(crate::specs::Comparing::ground_stored, crate::specs::Comparing::counts_stored))]
-pub fn agrees(stored: &[u32; 10], a: Answer) -> bool
+pub fn agrees(stored: &Numbers, a: Answer) -> bool
     ensures { result ≡ answer_stored stored.now a }
 {
-    let [
-        number,
-        byte,
-        line,
-        column,
-        bytes,
-        statements,
-        records,
-        tokens,
-        latest,
-        edition,
-    ] = *stored;
-    a.number == number
-        && a.byte == byte as usize
-        && a.line == line as usize
-        && a.column == column as usize
-        && a.bytes == bytes as usize
-        && a.statements == statements as usize
-        && a.records == records as usize
-        && a.tokens == tokens as usize
-        && a.latest == latest as usize
-        && a.edition == edition
+    has_ground(stored, a) && has_counts(stored, a) && a.edition == stored[9]
 }
 
 // How many words at the start of two slices are equal: the place of the first that differ.
