@@ -11,15 +11,6 @@ use Rattle.grammar.specs.Sizes.{record_width}
 
 -- ---- the digits of a word
 
--- the digits before the last were put, and then the last too
-pub digits_on : (t t₁ t₂ : List ℕ) (k n d : ℕ) → 0 < k → t₁ ≡ t ++ last_digits 16 (k - 1) (n / 16) → d ≡ hex_digit_ascii (n % 16) → t₂ ≡ t₁ ++ (d ∷ [])
-    → t₂ ≡ t ++ last_digits 16 k n
-digits_on t t₁ t₂ zero n d h e p q = absurd (omega arith)
-digits_on t t₁ t₂ (suc k) n d h e p q =
-    let one : suc k - 1 ≡ k = omega arith in
-    q ∙ ap (λ (u : List ℕ). u ++ (d ∷ [])) e ∙ append_assoc t (last_digits 16 (suc k - 1) (n / 16)) (d ∷ [])
-    ∙ ap (λ (j : ℕ). t ++ (last_digits 16 j (n / 16) ++ (d ∷ []))) one ∙ ap (λ (b : ℕ). t ++ (last_digits 16 k (n / 16) ++ (b ∷ []))) p
-
 pow_above : (k : ℕ) → 0 < 16 ^ k
 pow_above zero = omega arith
 pow_above (suc k) = rw (pow-suc 16 k) (omega (arith, pow_above k))
@@ -41,17 +32,17 @@ word_low n = low_digits 8 n
 
 -- ---- lines
 
-pub gap_more : (n : ℕ) → (n ≡ 0 → ⊥) → 32 ≡ gap_of n
+pub gap_more : (n : ℕ) → (n ≡ 0 → ⊥) → 32 ∷ [] ≡ gap_of n ∷ []
 gap_more zero h = absurd (h refl)
 gap_more (suc n) h = refl
 
 -- a word and what stands behind it were put
-pub line_on : (t t₁ t₂ rest behind whole : List ℕ) (w b : ℕ) → t ++ line rest ≡ whole → rest ≡ w ∷ behind → t₁ ≡ t ++ word w → b ≡ gap_of (length behind)
-    → t₂ ≡ t₁ ++ (b ∷ []) → t₂ ++ line behind ≡ whole
+pub line_on : (t t₁ t₂ rest behind whole : List ℕ) (w : ℕ) (gap : List ℕ) → t ++ line rest ≡ whole → rest ≡ w ∷ behind → t₁ ≡ t ++ word w → gap ≡ gap_of (length behind) ∷ []
+    → t₂ ≡ t₁ ++ gap → t₂ ++ line behind ≡ whole
 unfolding line
-line_on t t₁ t₂ rest behind whole w b g e p q r =
-    ap (λ (u : List ℕ). u ++ line behind) r ∙ append_assoc t₁ (b ∷ []) (line behind) ∙ ap (λ (u : List ℕ). u ++ (b ∷ line behind)) p
-    ∙ append_assoc t (word w) (b ∷ line behind) ∙ ap (λ (c : ℕ). t ++ (word w ++ (c ∷ line behind))) q ∙ ap (λ (u : List ℕ). t ++ line u) (sym e) ∙ g
+line_on t t₁ t₂ rest behind whole w gap g e p q r =
+    ap (λ (u : List ℕ). u ++ line behind) r ∙ append_assoc t₁ gap (line behind) ∙ ap (λ (u : List ℕ). u ++ (gap ++ line behind)) p
+    ∙ append_assoc t (word w) (gap ++ line behind) ∙ ap (λ (u : List ℕ). t ++ (word w ++ (u ++ line behind))) q ∙ ap (λ (u : List ℕ). t ++ line u) (sym e) ∙ g
 
 pub line_done : (t rest whole : List ℕ) → t ++ line rest ≡ whole → length rest ≡ 0 → t ≡ whole
 unfolding line

@@ -1,5 +1,5 @@
 -- Words as text, a line at a time.
-use Rattle.std.specs.Prelude.{List, [], ◌∷◌, ◌++◌, ℕ, zero, suc, ◌+◌, ◌*◌, ◌/◌, ◌%◌, cond, nat_lt, length, take, drop}
+use Rattle.std.specs.Prelude.{List, [], ◌∷◌, ◌++◌, ℕ, zero, suc, ◌+◌, ◌/◌, ◌%◌, cond, nat_lt, length, take, drop}
 use Rattle.grammar.specs.Sizes.{record_width}
 
 -- the byte of a digit below 16: `0` to `9`, then `a` to `f`
@@ -14,14 +14,6 @@ last_digits b (suc k) n = last_digits b k (n / b) ++ (hex_digit_ascii (n % b) �
 -- eight hexadecimal digits, lowercase, the most significant first
 unfoldable pub word : ℕ → List ℕ
 word w = last_digits 16 8 w
-
--- a word has nine bytes of its line, with what stands behind it
-abbrev pub word_bytes : ℕ
-word_bytes = 9
-
--- the line of a record
-abbrev pub record_bytes : ℕ
-record_bytes = word_bytes * record_width
 
 -- behind a word: a line feed if no word follows on its line, else a space
 abbrev pub gap_of : ℕ → ℕ

@@ -1,5 +1,5 @@
 // The listing of a script, with lists of its own.
-ghost use Rattle.std.specs.Prelude.{◌≡◌, ◌++◌, ◌%◌, ◌^◌, ◌*◌, ◌≤◌, length, OnOk, IfOk};
+ghost use Rattle.std.specs.Prelude.{◌≡◌, ◌++◌, ◌%◌, ◌^◌, ◌*◌, ◌≤◌, length, string_bytes, OnOk, IfOk};
 ghost use Rattle.grammar.specs.Sizes.{record_width};
 ghost use Rattle.listing.specs.Listing.{accepted_lines, refused_line, answer_lines, listing};
 
@@ -20,8 +20,8 @@ fn low_word(n: usize) -> u32
     (n % 0x1_0000_0000) as u32
 }
 
-fn put_refusal(text: &mut Vec<u8>, a: Answer) -> Result<(), AllocError>
-    ensures { OnOk result (text.new.items ≡ text.old.items ++ refused_line a) }
+fn put_refusal(text: &mut String, a: Answer) -> Result<(), AllocError>
+    ensures { OnOk result (string_bytes text.new ≡ string_bytes text.old ++ refused_line a) }
 {
     let words = [
         a.number,
@@ -32,9 +32,9 @@ fn put_refusal(text: &mut Vec<u8>, a: Answer) -> Result<(), AllocError>
     put_line(text, &words)
 }
 
-fn put_acceptance(text: &mut Vec<u8>, a: Answer, records: &[u32]) -> Result<(), AllocError>
+fn put_acceptance(text: &mut String, a: Answer, records: &[u32]) -> Result<(), AllocError>
     requires { record_width * a.records ≤ length records.now }
-    ensures { OnOk result (text.new.items ≡ text.old.items ++ accepted_lines a records.now) }
+    ensures { OnOk result (string_bytes text.new ≡ string_bytes text.old ++ accepted_lines a records.now) }
 {
     let words = [
         low_word(a.statements),
@@ -45,9 +45,9 @@ fn put_acceptance(text: &mut Vec<u8>, a: Answer, records: &[u32]) -> Result<(), 
     put_records(text, records, a.records)
 }
 
-fn put_answer(text: &mut Vec<u8>, a: Answer, records: &[u32]) -> Result<(), AllocError>
+fn put_answer(text: &mut String, a: Answer, records: &[u32]) -> Result<(), AllocError>
     requires { record_width * a.records ≤ length records.now }
-    ensures { OnOk result (text.new.items ≡ text.old.items ++ answer_lines a records.now) }
+    ensures { OnOk result (string_bytes text.new ≡ string_bytes text.old ++ answer_lines a records.now) }
 {
     if a.number == 0 {
         put_acceptance(text, a, records)
@@ -57,10 +57,10 @@ fn put_answer(text: &mut Vec<u8>, a: Answer, records: &[u32]) -> Result<(), Allo
 }
 
 // The listing of a script.
-pub fn list(alloc: Global, script: &[u8]) -> Result<Vec<u8>, AllocError>
-    ensures { IfOk result (λ text. text.items ≡ listing script.now) }
+pub fn list(alloc: Global, script: &[u8]) -> Result<String, AllocError>
+    ensures { IfOk result (λ text. string_bytes text ≡ listing script.now) }
 {
-    let mut text = Vec::new(alloc);
+    let mut text = String::new(alloc);
     let mut records = [0u32; RECORD_WORDS];
     let mut directory = [0u32; DIRECTORY_WORDS];
     let a = read(

@@ -5,7 +5,7 @@
 mod lines;
 mod listing;
 
-ghost use Rattle.std.specs.Prelude.{◌≡◌, length, IfOk, IfSome, OnOk};
+ghost use Rattle.std.specs.Prelude.{◌≡◌, length, string_bytes, IfOk, IfSome, OnOk};
 ghost use Rattle.std.specs.Io.{StartsWith};
 ghost use Rattle.std.specs.Io.KnownBytes.{Appends};
 ghost use Rattle.listing.specs.Listing.{listing};
@@ -18,7 +18,6 @@ use std::fmt::{Display, InlineText};
 use std::fs::File;
 use std::io::{Read, Write};
 use std::{io, str};
-use tokens::text::equal;
 
 // One byte more than a script may have: enough to tell that it is too long.
 const SCRIPT_ROOM: usize = 16385;
@@ -33,7 +32,7 @@ const REASON_ROOM: usize = 512;
 #[derive(Drop)]
 struct Listed {
     came: usize,
-    lines: Vec<u8>,
+    lines: String,
 }
 
 // Fills `out` from its start, up to the end of the input. A read may bring less than there is. It is a loop of reads, since
@@ -57,7 +56,7 @@ fn take_input<R: Read>(input: &mut R, out: &mut [u8]) -> io::Result<usize>
 fn list_input<R: Read>(alloc: Global, input: &mut R, script: &mut [u8]) -> io::Result<Listed>
     requires { length script.old ≡ 16385 }
     ensures lists { ListsInput result script.new }
-    ensures known { IfOk result (λ l. IfSome (R.remaining input.old) (λ bs. l.lines.items ≡ listing bs)) }
+    ensures known { IfOk result (λ l. IfSome (R.remaining input.old) (λ bs. string_bytes l.lines ≡ listing bs)) }
 {
     let came = take_input(input, script)?;
     let lines = list(alloc, &script[..came])?;
@@ -82,7 +81,7 @@ fn write_listing<R: Read, W: Write>(
     let mut script = [0u8; SCRIPT_ROOM];
     let listed = list_input(alloc, input, &mut script).map_err(Failed::Read)?;
     output
-        .write_all(listed.lines.as_slice())
+        .write_all(listed.lines.as_bytes())
         .map_err(Failed::Write)
 }
 
@@ -118,7 +117,7 @@ fn list_standard_input(rt: &HostRuntime) {
 }
 
 fn list_file(rt: &HostRuntime, path: &[u8]) {
-    if equal(path, b"-") {
+    if path == b"-".as_slice() {
         list_standard_input(rt);
         return;
     }

@@ -1,6 +1,7 @@
 -- What came stands at the start of memory, and its listing is that of every input that begins so.
 use Rattle.std.proofs.Common.{◌≡◌, ℕ, List, length, take, sym, ap, ◌∙◌, rules, le_refl}
 use lib.Seq.{take-length}
+use Rattle.std.specs.String.{string_bytes}
 use Rattle.listing.specs.Listing.{listing}
 use Rattle.listing.specs.Inputs.{IsPrefixLen, Lists}
 use Rattle.listing.proofs.CutLaws.{listing_cut}
@@ -18,10 +19,10 @@ lists n s t h x = record {
 }
 
 pub returns-clause-lists : goal.returns-clause-lists
-returns-clause-lists g c = lists c.in_ok-came.came c.take_input.new.out c.in_ok-lines.lines.items c.in_ok-came.ensures.within c.in_ok-lines.ensures
+returns-clause-lists g c = lists c.in_ok-came.came c.take_input.new.out (string_bytes c.in_ok-lines.lines) c.in_ok-came.ensures.within c.in_ok-lines.ensures
 
 pub returns-clause-known : goal.returns-clause-known
 returns-clause-known g c =
-    let t = c.in_ok-lines.lines.items in
+    let t = string_bytes c.in_ok-lines.lines in
     told _ _ c.in_ok-came.came c.take_input.new.out (λ input. t ≡ listing input) (search rules) c.in_ok-came.ensures.within.0 c.in_ok-came.ensures.taken
     (begun c.in_ok-came.came c.take_input.new.out t c.in_ok-lines.ensures)

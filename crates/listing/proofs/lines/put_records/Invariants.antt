@@ -1,4 +1,5 @@
 -- What was put and the lines of the records that are left make all the lines.
+use Rattle.std.specs.String.{string_bytes}
 use mathlib.Core.Path.{◌≡◌}
 use mathlib.Core.List.{◌++◌}
 use Prim.Native.Nat.{◌*◌, ◌-◌, ◌≤◌}
@@ -8,4 +9,4 @@ use Rattle.listing.specs.Lines.{record_lines}
 use Rattle.listing.proofs.lines.put_records.Given as goal
 
 abbrev pub invariant-loop-i : goal.invariant-loop-i
-invariant-loop-i l = (record_width * (l.count - l.i) ≤ length l.rest) × (l.text.items ++ record_lines (l.count - l.i) l.rest ≡ l.initial.text.items ++ record_lines l.count l.records)
+invariant-loop-i l = (record_width * (l.count - l.i) ≤ length l.rest) × (string_bytes l.text ++ record_lines (l.count - l.i) l.rest ≡ string_bytes l.initial.text ++ record_lines l.count l.records)

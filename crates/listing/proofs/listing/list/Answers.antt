@@ -18,5 +18,5 @@ put_answer-requires c = omega (arith, records_few _ _ _ _ _ _ records_lent direc
 
 pub returns : goal.returns
 returns c =
-    let put = rw c.new-text.ensures.items at c.in_ok-put_answer.ensures in
+    let put = rw c.new-text.ensures.bytes at c.in_ok-put_answer.ensures in
     put ∙ listed _ _ _ _ _ _ records_lent directory_lent c.read-a.ensures
