@@ -4,6 +4,7 @@ ghost use Rattle.vectors.specs.Comparing.{slices_same};
 
 use crate::memory::Memory;
 use amending::held::Held;
+use std::io::Stdout;
 use tokens::lists::Lists;
 
 // The three slices that a call is lent to be changed.
@@ -46,6 +47,8 @@ impl Names {
 
 #[derive(Clone, Copy)]
 pub struct Case<'a> {
+    // Where what differs is told.
+    pub out: Stdout,
     // The text of the file, which defines names, and of the case.
     pub file: &'a [u8],
     pub text: &'a [u8],
@@ -70,9 +73,10 @@ const NOTHING_HELD: Held = Held {
 
 impl<'a> Case<'a> {
     // Before the first case of a file, which is told of as its first line.
-    pub fn new(file: &'a [u8]) -> Case<'a> {
+    pub fn new(out: Stdout, file: &'a [u8]) -> Case<'a> {
         let text = file.split(|b| *b == b'\n').next().unwrap_or(file);
         Case {
+            out,
             file,
             text,
             edition: 0,

@@ -40,7 +40,8 @@ pub fn agrees(stored: &Numbers, a: Answer) -> bool
     has_ground(stored, a) && has_counts(stored, a) && a.edition == stored[9]
 }
 
-// How many words at the start of two slices are equal: the place of the first that differ.
+// How many words at the start of two slices are equal: the place of the first that differ. It is a loop over their places,
+// since what `zip`, `take_while` and `count` make of them does not prove.
 fn common(a: &[u32], b: &[u32]) -> usize
     ensures { result ≡ common a.now b.now }
 {

@@ -14,6 +14,7 @@ use std::io::Stdout;
 // What a lookup is asked: a name of a record, first or second, in a script and a list of currencies.
 #[derive(Clone, Copy)]
 struct Asked<'a> {
+    out: Stdout,
     script: &'a [u8],
     currencies: &'a [u8],
     record: &'a [u32],
@@ -59,7 +60,7 @@ fn is_list(field: &[u8]) -> Result<bool, Trouble> {
 
 impl<'a> Asked<'a> {
     // Runs the lookup by numbers, and compares.
-    fn is_found(&self, out: Stdout, stored: Place) -> bool {
+    fn is_found(&self, stored: Place) -> bool {
         let found = place_of(
             self.script,
             self.currencies,
@@ -69,14 +70,14 @@ impl<'a> Asked<'a> {
         );
         let same = is_placed(found, stored);
         if !same {
-            say_place(out, found);
+            say_place(self.out, found);
         }
         same
     }
 
     // Runs the lookup that hands back a slice, and compares the bytes. Where they begin no run can tell, since the language
     // compares no addresses: the contract of `part` ties that to the lookup by numbers.
-    fn is_handed_back(&self, out: Stdout, stored: Place) -> bool {
+    fn is_handed_back(&self, stored: Place) -> bool {
         let given = part(
             self.script,
             self.currencies,
@@ -91,7 +92,7 @@ impl<'a> Asked<'a> {
         };
         let same = is_part(given, source, stored);
         if !same {
-            say_part(out, given);
+            say_part(self.out, given);
         }
         same
     }
@@ -99,7 +100,7 @@ impl<'a> Asked<'a> {
 
 // Takes a line that asks for a part: the words of a record, its statement's start, which name, and the part that is expected.
 // Runs both lookups, and each tells of what differs.
-pub fn take_part(out: Stdout, case: &Case, fields: &[u8]) -> Result<(), Trouble> {
+pub fn take_part(case: &Case, fields: &[u8]) -> Result<(), Trouble> {
     let (words, fields) = first_field(fields);
     let (start, fields) = first_field(fields);
     let (which, fields) = first_field(fields);
@@ -110,6 +111,7 @@ pub fn take_part(out: Stdout, case: &Case, fields: &[u8]) -> Result<(), Trouble>
     }
     let [from, size] = numbers::<2>(fields).ok_or(Trouble::Malformed)?;
     let asked = Asked {
+        out: case.out,
         script: front(case.slices.script.lent(), case.held.bytes),
         currencies: case.names.currencies.lent(),
         record: record.lent(),
@@ -121,8 +123,8 @@ pub fn take_part(out: Stdout, case: &Case, fields: &[u8]) -> Result<(), Trouble>
         from: from as usize,
         size: size as usize,
     };
-    let found = asked.is_found(out, stored);
-    let same = asked.is_handed_back(out, stored);
+    let found = asked.is_found(stored);
+    let same = asked.is_handed_back(stored);
     if found && same {
         Ok(())
     } else {

@@ -63,7 +63,7 @@ fn replay_file(rt: &HostRuntime, path: &[u8], tally: &mut Tally) {
     replay(out, path, text.as_slice(), tally);
 }
 
-// An argument, if there is one. One that is too long for a path is none of a file that can be opened.
+// An argument, if there is one. Each is asked for by its place, since `env::args` has none where one is not UTF-8. One that is too long for a path is none of a file that can be opened.
 fn argument<'a>(rt: &HostRuntime, i: usize, path: &'a mut [u8]) -> Option<&'a [u8]> {
     match rt.arg(i, path) {
         Ok(n) => Some(&path[..n]),

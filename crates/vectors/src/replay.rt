@@ -55,25 +55,40 @@ impl<'a> Case<'a> {
     }
 
     // Compares memory with what a line says that the call before must have left. `changed` is whether that changed any.
-    fn compare_left(
-        &self,
-        out: Stdout,
-        what: Left,
-        field: &[u8],
-        changed: bool,
-    ) -> Result<(), Trouble> {
+    fn compare_left(&self, what: Left, field: &[u8], changed: bool) -> Result<(), Trouble> {
         match what {
-            Left::Script => compare_script(out, self.file, field, &self.slices.script),
-            Left::Records => compare_words(out, field, &self.slices.records),
-            Left::Directory => compare_words(out, field, &self.slices.directory),
+            Left::Script => compare_script(self.out, self.file, field, &self.slices.script),
+            Left::Records => compare_words(self.out, field, &self.slices.records),
+            Left::Directory => compare_words(self.out, field, &self.slices.directory),
             Left::Same if changed => Err(Trouble::Differs),
             Left::Same => Ok(()),
         }
     }
 
+    // Compares what a call gave with the stored answer.
+    fn compare_answer(
+        &self,
+        stored: &[u8],
+        given: Answer,
+        tally: &mut Tally,
+    ) -> Result<(), Trouble> {
+        let stored = numbers(stored).ok_or(Trouble::Malformed)?;
+        let answered = tally
+            .grounds
+            .get_mut(stored[0] as usize)
+            .ok_or(Trouble::Malformed)?;
+        count(&mut answered.ran);
+        if agrees(&stored, given) {
+            return Ok(());
+        }
+        count(&mut answered.differ);
+        say_answer(self.out, given);
+        Err(Trouble::Differs)
+    }
+
     // Runs an amend with the statement and the text of a line. Where they are not in the format, it is run all the same, with a
     // statement that no script has or the whole room; but its answer is not compared.
-    fn take_amend(&mut self, out: Stdout, fields: &[u8], tally: &mut Tally) -> Result<(), Trouble> {
+    fn take_amend(&mut self, fields: &[u8], tally: &mut Tally) -> Result<(), Trouble> {
         let (statement, fields) = first_field(fields);
         let (text, answer) = first_field(fields);
         let statement = number(statement, 10);
@@ -82,17 +97,11 @@ impl<'a> Case<'a> {
         let given = self.amend(statement.map_or(usize::MAX, |n| n as usize), lent.lent());
         statement.ok_or(Trouble::Malformed)?;
         loaded?;
-        compare_answer(out, answer, given, tally)
+        self.compare_answer(answer, given, tally)
     }
 
     // Takes the fields of a line.
-    fn take(
-        &mut self,
-        out: Stdout,
-        kind: Kind,
-        fields: &'a [u8],
-        tally: &mut Tally,
-    ) -> Result<(), Trouble> {
+    fn take(&mut self, kind: Kind, fields: &'a [u8], tally: &mut Tally) -> Result<(), Trouble> {
         match kind {
             Kind::Nothing => {}
             Kind::Case => {
@@ -104,7 +113,7 @@ impl<'a> Case<'a> {
                 None => self.take_memory(what, fields)?,
                 Some(changed) => {
                     count(&mut tally.compared);
-                    self.compare_left(out, what, fields, changed)?;
+                    self.compare_left(what, fields, changed)?;
                 }
             },
             Kind::Counts => self.take_counts(fields)?,
@@ -112,56 +121,35 @@ impl<'a> Case<'a> {
             Kind::Read => {
                 count(&mut tally.reads);
                 let given = self.read();
-                compare_answer(out, fields, given, tally)?;
+                self.compare_answer(fields, given, tally)?;
             }
             Kind::Amend => {
                 count(&mut tally.amends);
-                self.take_amend(out, fields, tally)?;
+                self.take_amend(fields, tally)?;
             }
             Kind::Part => {
                 count(&mut tally.parts);
-                take_part(out, self, fields)?;
+                take_part(self, fields)?;
             }
         }
         Ok(())
     }
 
     // Takes a line. An empty one and a comment mean nothing.
-    fn take_line(&mut self, out: Stdout, line: &'a [u8], tally: &mut Tally) -> Result<(), Trouble> {
+    fn take_line(&mut self, line: &'a [u8], tally: &mut Tally) -> Result<(), Trouble> {
         if line.is_empty() || line.starts_with(b"#") {
             return Ok(());
         }
         let (word, fields) = first_field(line);
-        self.take(out, Kind::try_from(word)?, fields, tally)
+        self.take(Kind::try_from(word)?, fields, tally)
     }
-}
-
-// Compares what a call gave with the stored answer.
-fn compare_answer(
-    out: Stdout,
-    stored: &[u8],
-    given: Answer,
-    tally: &mut Tally,
-) -> Result<(), Trouble> {
-    let stored = numbers(stored).ok_or(Trouble::Malformed)?;
-    let answered = tally
-        .grounds
-        .get_mut(stored[0] as usize)
-        .ok_or(Trouble::Malformed)?;
-    count(&mut answered.ran);
-    if agrees(&stored, given) {
-        return Ok(());
-    }
-    count(&mut answered.differ);
-    say_answer(out, given);
-    Err(Trouble::Differs)
 }
 
 // Replays the lines of a file, and tells of each that differs or was not taken, so that nothing is passed over.
 pub fn replay(out: Stdout, path: &[u8], file: &[u8], tally: &mut Tally) {
-    let mut case = Case::new(file);
+    let mut case = Case::new(out, file);
     for line in file.split(|b| *b == b'\n') {
-        if let Err(trouble) = case.take_line(out, line, tally) {
+        if let Err(trouble) = case.take_line(line, tally) {
             tally.count_trouble(trouble);
             say_trouble(out, path, case.text, line, trouble);
         }
