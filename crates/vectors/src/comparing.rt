@@ -42,6 +42,7 @@ pub fn agrees(stored: &Numbers, a: Answer) -> bool
 
 // How many words at the start of two slices are equal: the place of the first that differ. It is a loop over their places,
 // since what `zip`, `take_while` and `count` make of them does not prove.
+#[tactic(auto, using(crate::proofs::ComparingLaws::common_on, crate::proofs::ComparingLaws::common_stop, crate::proofs::ComparingLaws::common_over))]
 fn common(a: &[u32], b: &[u32]) -> usize
     ensures { result ≡ common a.now b.now }
 {

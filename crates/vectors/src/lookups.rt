@@ -31,7 +31,7 @@ fn is_placed(found: Place, stored: Place) -> bool
 }
 
 // Whether a part has the length and the bytes of the stored one of its source.
-#[tactic(auto, unfolding(crate::specs::Comparing::part_stored))]
+#[tactic(auto, using(crate::proofs::ComparingLaws::pointwise_same, crate::proofs::ComparingLaws::part_bytes), unfolding(crate::specs::Comparing::part_stored))]
 fn is_part(given: &[u8], source: &[u8], stored: Place) -> bool
     ensures { result ≡ part_stored given.now source.now stored.from stored.size }
 {
