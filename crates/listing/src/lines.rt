@@ -8,6 +8,7 @@ use std::alloc::AllocError;
 use std::fmt::Write;
 
 // Eight hexadecimal digits.
+#[tactic(auto, using(crate::proofs::HexLaws::hex_word))]
 fn put_word(text: &mut String, w: u32) -> Result<(), AllocError>
     ensures { OnOk result (string_bytes text.new ≡ string_bytes text.old ++ word w) }
 {

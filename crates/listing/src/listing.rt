@@ -20,6 +20,7 @@ fn low_word(n: usize) -> u32
     (n % 0x1_0000_0000) as u32
 }
 
+#[tactic(auto, using(crate::proofs::ListingLaws::refusal_low))]
 fn put_refusal(text: &mut String, a: Answer) -> Result<(), AllocError>
     ensures { OnOk result (string_bytes text.new ≡ string_bytes text.old ++ refused_line a) }
 {
@@ -32,6 +33,7 @@ fn put_refusal(text: &mut String, a: Answer) -> Result<(), AllocError>
     put_line(text, &words)
 }
 
+#[tactic(auto, using(crate::proofs::ListingLaws::acceptance_low))]
 fn put_acceptance(text: &mut String, a: Answer, records: &[u32]) -> Result<(), AllocError>
     requires { record_width * a.records ≤ length records.now }
     ensures { OnOk result (string_bytes text.new ≡ string_bytes text.old ++ accepted_lines a records.now) }
