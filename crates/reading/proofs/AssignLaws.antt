@@ -1,27 +1,32 @@
 -- Statements of one expression, and the head of a loop: what each step of the code comes to in the definition.
 use Rattle.std.specs.Prelude.{if◌then◌else◌}
 use mathlib.Core.Path.{◌≡◌, refl, sym, ap, ◌∙◌}
-use mathlib.Core.Bool.{Bool, true, false, ◌&&◌, not}
+use mathlib.Core.Bool.{Bool, true, false, ◌&&◌, not, true≢false}
 use mathlib.Core.List.{List, []}
 use mathlib.Core.Option.{Option}
-use Prim.Native.Nat.{ℕ, ◌+◌, ◌-◌, ◌≤◌}
+use Prim.Native.Nat.{ℕ, zero, suc, ◌+◌, ◌-◌, ◌≤◌}
 use native.Mathlib.Omega.{arith}
 use lib.Dec.{leb}
 use borrow.Author.Tests.{ne_eqb, le-leb, leb-true}
 use lib.ListN.{length, drop, length-take, length-drop}
-use Rattle.tokens.specs.Names.{place, member}
+use Rattle.tokens.specs.Names.{place, index_of, member}
 use Rattle.tokens.specs.Tokens.{Token, code}
 use Rattle.tokens.specs.declared.cursor.Cursor.{Cursor}
 use Rattle.grammar.specs.Trees.{Tree, place_of, fields, none as unused, size, row}
 use Rattle.grammar.specs.Readers.{Out, ok, refused, Reader, bind, ◌>>=◌, ◌>>◌, is, give, fail_at, the}
-use Rattle.grammar.specs.Grammar.{Language, binary, variable, optional, expression, pays, ended, named, paid, target, assign, compound, assign_paid, name_first, next_kind}
+use Rattle.grammar.specs.Grammar.{Language, binary, variable, optional, expression, pays, ended, named, paid, target, assign, compound, assign_paid, name_first, next_kind, primary}
 use Rattle.reading.specs.Rows.{rows, put_row, put_rows, node_row}
-use Rattle.reading.specs.Meets.{language_in, toks_at, token_at, Holds, Ready, Follows, Takes, Reads, Meets}
-use Rattle.reading.specs.Bodies.{sign_behind, ReadsTwice, MeetsTwice, loop_head}
+use Rattle.reading.specs.Meets.{words_in, language_in, language_of, toks_at, token_at, Holds, Ready, Follows, Takes, Reads, Meets}
+use Rattle.std.specs.Prelude.{Result, Ok, Err}
+use Rattle.std.specs.Option.{is_some}
+use Rattle.std.specs.Result.{IsErrAnd}
+use Rattle.reading.specs.Faults.{refused_by}
+use Rattle.reading.specs.Turns.{inner}
+use Rattle.reading.specs.Bodies.{begun_at, sign_behind, ReadsTwice, loop_head, MeetsHead}
 use Rattle.reading.specs.declared.records.Node.{Node}
+use Rattle.reading.specs.declared.answers.Fault.{Fault}
 use Rattle.reading.specs.declared.answers.Read.{Read}
-use Rattle.reading.specs.declared.answers.Read.TheVariants.{Done, Refused}
-use Rattle.reading.specs.declared.answers.Took.TheVariants as took
+use Rattle.reading.specs.declared.language.Language.{Language as Lent}
 use Rattle.grammar.proofs.SizeLaws.{Sized, EachSized, ended_size, paid_size}
 use Rattle.reading.proofs.HoldLaws.{start_in, end_in, second_is, ask_yes, ask_no, the_then, the_next, the_then_not, read_then, read_next}
 use Rattle.reading.proofs.RowLaws.{size_leaf, size_two, after_leaf, after_two, put_rows_same}
@@ -30,34 +35,49 @@ use Rattle.reading.proofs.AtomLaws.{named_not}
 use Rattle.reading.proofs.SignLaws.{is_it, is_other}
 use Rattle.reading.proofs.StepLaws.{bind_refused}
 
+-- ---- the error that a `?` passes on
+
+pub meets_err : (t : List ℕ) (R : Out Tree) (n : ℕ) (o : List ℕ) (r : Result Read Fault) (o' : List ℕ) (e : Fault) → IsErrAnd r (λ y. y ≡ e) → R ≡ refused_by e → Meets t R n o r o'
+meets_err t R n o (Ok x) o' e h g = absurd h
+meets_err t R n o (Err y) o' e h g = rw h g
+
 -- ---- the head of a loop
 
-module _ (W : Language) (t : List ℕ) (c : Cursor) (h : Holds t c) where
-  pub head_not : (c.code ≡ 1 → ⊥) → loop_head W (toks_at t c.start) ≡ refused 8 c.start
-  unfolding code
-  head_not z = the_then_not h "name" (λ e. z (sym e)) _
+-- a name without index is not in the list
+unplaced : (p : ℕ) → is_some (index_of p) ≡ false → p ≡ 0
+unplaced zero e = refl
+unplaced (suc k) e = absurd (cc)
 
-  module _ (d : Cursor) (w : Follows t c d) (name : c.code ≡ 1) where
+module _ (W : Language) (t : List ℕ) (c : Cursor) (h : Holds t c) where
+  pub head_not : (a : Fault) → Takes t 1 c (Err a) → loop_head W (toks_at t c.start) ≡ refused_by a
+  unfolding code ◌>>=◌ the
+  head_not a g = rw g
+
+  module _ (d : Cursor) (g : Takes t 1 c (Ok d)) where
+    name : c.code ≡ 1
+    name = g.1
+
+    w : Follows t c d
+    w = g.0
+
     head_named : loop_head W (toks_at t c.start) ≡ (named W (token_at t c) >> (the "in" >> give (token_at t c))) (toks_at t d.start)
     unfolding code
     head_named = the_then h w (λ z. omega (arith, z, name)) "name" (sym name) _
 
-    pub head_reserved : (place W.reserved (token_at t c).text ≡ 0 → ⊥) → loop_head W (toks_at t c.start) ≡ refused 9 c.start
+    pub head_reserved : is_some (index_of (place W.reserved (token_at t c).text)) ≡ true → loop_head W (toks_at t c.start) ≡ refused 9 c.start
     unfolding ◌>>◌ ◌>>=◌
-    head_reserved z = head_named ∙ ap (bind (λ x. the "in" >> give (token_at t c))) (named_not W h z (toks_at t d.start))
+    head_reserved z = head_named ∙ ap (bind (λ x. the "in" >> give (token_at t c))) (named_not W h refl z (toks_at t d.start))
 
-    module _ (free : place W.reserved (token_at t c).text ≡ 0) where
+    module _ (free : is_some (index_of (place W.reserved (token_at t c).text)) ≡ false) where
       head_in : loop_head W (toks_at t c.start) ≡ (the "in" >> give (token_at t c)) (toks_at t d.start)
       unfolding named give ◌>>◌ ◌>>=◌
-      head_in = head_named ∙ (rw free)
+      head_in = head_named ∙ (rw (unplaced (place W.reserved (token_at t c).text) free))
 
-      pub head_open : (b : ℕ) → Takes t 51 d (took.Not b) → loop_head W (toks_at t c.start) ≡ refused 8 b
-      unfolding code ◌>>◌ ◌>>=◌ the
-      head_open b g = head_in ∙ (rw g)
-
-      pub head_is : (f : Cursor) → Takes t 51 d (took.Next f) → Holds t f × (c.code ≡ 1) × (loop_head W (toks_at t c.start) ≡ ok (token_at t c) (toks_at t f.start))
-      unfolding code give
-      head_is f g = (g.0.holds, name, head_in ∙ the_next w.holds g.0 (λ z. omega (arith, z, g.1)) "in" (sym g.1) (give (token_at t c)))
+      -- what is taken behind the variable is what is answered
+      pub head_meets : (r : Result Cursor Fault) → Takes t 51 d r → MeetsHead t (loop_head W (toks_at t c.start)) c r
+      unfolding code give ◌>>◌ ◌>>=◌ the
+      head_meets (Ok f) g = (g.0.holds, name, head_in ∙ the_next w.holds g.0 (λ z. omega (arith, z, g.1)) "in" (sym g.1) (give (token_at t c)))
+      head_meets (Err e) g = head_in ∙ (rw g)
 
 -- ---- `e;`
 
@@ -71,11 +91,11 @@ module _ (W : Language) (p : Reader Tree) (t : List ℕ) (c : Cursor) (n : ℕ) 
     unfolding ended ◌>>=◌
     ending = rw r.is
 
-    pub ended_open : (b : ℕ) → Takes t 48 d (took.Not b) → ended W p (toks_at t c.start) ≡ refused 8 b
+    pub ended_open : (a : Fault) → Takes t 48 d (Err a) → ended W p (toks_at t c.start) ≡ refused_by a
     unfolding code ◌>>◌ ◌>>=◌ the
-    ended_open b g = ending ∙ (rw g)
+    ended_open a g = ending ∙ (rw g)
 
-    pub ended_closed : (e : Cursor) → Takes t 48 d (took.Next e) → Reads t (ended W p (toks_at t c.start)) n o e m q o'
+    pub ended_closed : (e : Cursor) → Takes t 48 d (Ok e) → Reads t (ended W p (toks_at t c.start)) n o e m q o'
     unfolding give code
     ended_closed e g =
         record {
@@ -143,17 +163,6 @@ named_one W u ts x us e = ap size (sym (named_is W u ts x us e).0) ∙ size_leaf
 
 -- ---- a variable that is written twice
 
-module _ (t : List ℕ) (R : Out Tree) (n : ℕ) (o : List ℕ) (r : Read) (o₁ : List ℕ) where
-  pub twice_refused : (o₂ : List ℕ) (k b : ℕ) → r ≡ Refused k b → Meets t R n o r o₁ → MeetsTwice t R n o r o₂
-  twice_refused o₂ k b e h = rw e (rw e at h)
-
-  pub twice_done : (c : Cursor) (m q : ℕ) → r ≡ Done c m q → MeetsTwice t R n o r o₁ → ReadsTwice t R n o c m o₁
-  twice_done c m q e h = rw e at h
-
-  pub twice_refused_on : (R' : Out Tree) (n' : ℕ) (o₂ o₃ : List ℕ) (k b : ℕ) → r ≡ Refused k b → MeetsTwice t R n o r o₁ → (R ≡ refused k b → R' ≡ refused k b)
-      → Meets t R' n' o₂ r o₃
-  twice_refused_on R' n' o₂ o₃ k b e h f = rw e (f (rw e at h))
-
 token_length : {t : List ℕ} {c : Cursor} → Holds t c → length (token_at t c).text ≡ c.end - c.start
 token_length {t} {c} h = omega (arith, length-take (c.end - c.start) (drop c.start t), length-drop c.start t, start_in h, end_in h)
 
@@ -201,11 +210,20 @@ twice_assigned t R n o k l x e g m m₂ o₁ o₂ o₃ o₄ one p q p₂ q₂ q�
 
 -- ---- assignments
 
--- L has the reserved names of W, and maybe not its other lists
-module _ (L W : Language) (same : (u : Token) → named L u ≡ named W u) (t : List ℕ) (c d : Cursor) (n : ℕ) (o : List ℕ) (ready : Ready t c n) (w : Follows t c d)
-    (name : c.code ≡ 1) where
+-- of a name the reserved names alone decide
+module _ (lent : Lent) (t : List ℕ) (c d : Cursor) (n : ℕ) (o : List ℕ) (ready : Ready t c n) (w : Follows t c d) (name : c.code ≡ 1) where
+  abbrev W : Language
+  W = language_of lent
+
+  abbrev L : Language
+  L = words_in lent.lists.reserved.now [] []
+
   abbrev N : Out Tree
   N = named L (token_at t c) (toks_at t d.start)
+
+  same : (u : Token) → named L u ≡ named W u
+  unfolding named
+  same u = refl
 
   some_name : c.code ≡ 0 → ⊥
   some_name z = omega (arith, z, name)
@@ -328,42 +346,46 @@ module _ (L W : Language) (same : (u : Token) → named L u ≡ named W u) (t : 
 -- ---- what a name begins, by what stands behind it
 
 -- what stands behind a token, by the cursor behind it: a line break matters in the first edition alone
-pub sign_is : (second : Bool) (r x y t : List ℕ) (c d : Cursor) → Follows t c d → (c.code ≡ 0 → ⊥) → next_kind (language_in second r x y) (toks_at t c.start) ≡ sign_behind second d
+sign_is : (second : Bool) (r x y t : List ℕ) (c d : Cursor) → Follows t c d → (c.code ≡ 0 → ⊥) → next_kind (language_in second r x y) (toks_at t c.start) ≡ sign_behind second d
 sign_is false r x y t c d w z = w.next_is z
 sign_is true r x y t c d w z = second_is w z
 
-module _ (second : Bool) (r x y : List ℕ) (p : Reader Tree) (i : Option (Reader Tree)) (t : List ℕ) (c d : Cursor) (w : Follows t c d) (name : c.code ≡ 1) where
-  abbrev W : Language
-  W = language_in second r x y
+module _ (lent : Lent) (depth : ℕ) (t : List ℕ) (c d : Cursor) (w : Follows t c d) (name : c.code ≡ 1) where
+  abbrev G : Language
+  G = language_of lent
+
+  abbrev p : Reader Tree
+  p = primary G depth
 
   abbrev F : ℕ → Out Tree
-  F k = name_first W p i k (toks_at t c.start)
+  F k = name_first G p (inner G depth) k (toks_at t c.start)
 
-  module _ (k : ℕ) (b : k ≡ sign_behind second d) where
-    by_sign : F (next_kind W (toks_at t c.start)) ≡ F k
-    by_sign = ap F (sign_is second r x y t c d w (λ z. omega (arith, z, name)) ∙ sym b)
+  module _ (k : ℕ) (b : k ≡ sign_behind lent.two d) where
+    by_sign : F (next_kind G (toks_at t c.start)) ≡ F k
+    by_sign =
+        ap F (sign_is lent.two lent.lists.reserved.now lent.lists.currencies.now lent.lists.counters.now t c d w (λ z. omega (arith, z, name)) ∙ sym b)
 
     -- a sign that decides stands at d
     pub sign_at : (k ≡ 55 → ⊥) → d.code ≡ k
-    sign_at z = go (not second && d.broken) b
+    sign_at z = go (not lent.two && d.broken) b
       where
         go : (e : Bool) → k ≡ (if e then 55 else d.code) → d.code ≡ k
         go true e = absurd (z e)
         go false e = sym e
 
-    pub first_assign : k ≡ 37 → F (next_kind W (toks_at t c.start)) ≡ assign W p (toks_at t c.start)
+    pub first_assign : k ≡ 37 → begun_at G depth (toks_at t c.start) ≡ assign G p (toks_at t c.start)
     unfolding name_first code
     first_assign e = by_sign ∙ ap F e
 
-    pub first_compound : 28 ≤ k → k ≤ 31 → F (next_kind W (toks_at t c.start)) ≡ compound W p (toks_at t c.start)
+    pub first_compound : 28 ≤ k → k ≤ 31 → begun_at G depth (toks_at t c.start) ≡ compound G p (toks_at t c.start)
     unfolding name_first code
     first_compound l h = by_sign ∙ (rw (ne_eqb k 37 (λ z. omega (arith, z, h)), le-leb 28 k l, le-leb k 31 h))
 
-    pub first_paid : k ≡ 36 → F (next_kind W (toks_at t c.start)) ≡ assign_paid W i (toks_at t c.start)
+    pub first_paid : k ≡ 36 → begun_at G depth (toks_at t c.start) ≡ assign_paid G (inner G depth) (toks_at t c.start)
     unfolding name_first code
     first_paid e = by_sign ∙ ap F e
 
-    pub first_ended : (k ≡ 37 → ⊥) → (28 ≤ k → k ≤ 31 → ⊥) → (k ≡ 36 → ⊥) → F (next_kind W (toks_at t c.start)) ≡ ended W p (toks_at t c.start)
+    pub first_ended : (k ≡ 37 → ⊥) → (28 ≤ k → k ≤ 31 → ⊥) → (k ≡ 36 → ⊥) → begun_at G depth (toks_at t c.start) ≡ ended G p (toks_at t c.start)
     unfolding name_first code
     first_ended u v z = by_sign ∙ (rw (ne_eqb k 37 u, out (leb 28 k) (leb k 31) refl refl, ne_eqb k 36 z))
       where

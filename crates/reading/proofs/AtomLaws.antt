@@ -1,9 +1,9 @@
 -- The tokens that are primaries of their own: what the bytes of a number and of a string are, and what the readers make of them.
-use Rattle.std.specs.Prelude.{if◌then◌else◌}
+use Rattle.std.specs.Prelude.{Option, is_some, if◌then◌else◌}
 use mathlib.Core.Path.{◌≡◌, refl, sym, ap, ◌∙◌, subst}
 use mathlib.Core.Bool.{Bool, true, false, ◌||◌, not, true≢false}
 use mathlib.Core.List.{List, [], ◌∷◌}
-use Prim.Native.Nat.{ℕ, suc, ◌+◌, ◌-◌, ◌≤◌, ◌<◌}
+use Prim.Native.Nat.{ℕ, zero, suc, ◌+◌, ◌-◌, ◌≤◌, ◌<◌}
 use Prim.Native.String.{String}
 use native.Mathlib.Numerals.{add-one}
 use native.Mathlib.Omega.{arith}
@@ -13,7 +13,8 @@ use lib.Seq.{take-take}
 use borrow.Author.Tests.{ltb-true, eqb-true, eqb-false, ne_eqb, eq-eqb, le-leb}
 use Rattle.tokens.specs.Text.{bytes, same, begins, every, leading, letter, digit, name_byte, number_byte, blank, other}
 use Rattle.tokens.specs.Numbers.{number_fault, value, value_of, signed, bits_of}
-use Rattle.tokens.specs.Names.{place}
+use Rattle.tokens.specs.Names.{place, index_of}
+use Rattle.tokens.specs.Dates.{unless_0}
 use Rattle.tokens.specs.Tokens.{Token, Lexeme, gap, piece, fault, word, numeral, quoted, sign, signs, keywords, entry, code, lexeme, final}
 use Rattle.tokens.specs.declared.cursor.Cursor.{Cursor}
 use Rattle.tokens.specs.declared.numbers.Bits.{Bits}
@@ -29,6 +30,24 @@ use Rattle.reading.specs.Rows.{put_row}
 use Rattle.reading.specs.Meets.{toks_at, token_at, Holds, Follows, Quoted, Reads}
 use Rattle.reading.proofs.HoldLaws.{mark_in, mark_is, toks_are, start_in, end_in, peek_is, fail_is, the_next}
 use Rattle.reading.proofs.RowLaws.{after_leaf, size_leaf}
+
+-- ---- a date and a place, as the code has them
+
+pub date_none : (n : ℕ) → is_some (unless_0 n) ≡ false → n ≡ 0
+date_none zero e = refl
+date_none (suc n) e = absurd (true≢false e)
+
+pub date_some : (n : ℕ) → is_some (unless_0 n) ≡ true → n ≡ 0 → ⊥
+date_some zero e z = true≢false (sym e)
+date_some (suc n) e z = omega (arith, z)
+
+pub place_none : (n : ℕ) → is_some (index_of n) ≡ false → n ≡ 0
+place_none zero e = refl
+place_none (suc n) e = absurd (true≢false e)
+
+pub place_some : (n : ℕ) → is_some (index_of n) ≡ true → n ≡ 0 → ⊥
+place_some zero e z = true≢false (sym e)
+place_some (suc n) e z = omega (arith, z)
 
 -- ---- what the bytes of a number and of a string are
 
@@ -253,30 +272,32 @@ module _ {t : List ℕ} {c d : Cursor} (h : Holds t c) (w : Follows t c d) where
   }
 
   -- a truth value and its record
-  pub truth_reads : 3 ≤ c.code → c.code ≤ 4 → {n : ℕ} {o o' : List ℕ} → o' ≡ put_row o n (row c.code 1 0 none c.start)
-      → Reads t (atom (toks_at t c.start)) n o d (n + 1) 0 o'
+  pub true_reads : c.code ≡ 3 → {n : ℕ} {o o' : List ℕ} → o' ≡ put_row o n (row 3 1 0 none c.start) → Reads t (atom (toks_at t c.start)) n o d (n + 1) 0 o'
   unfolding code entry give
-  truth_reads l m q = leaf_reads c.code c.start [] none (λ z. omega arith) w.holds (atom_peek h ∙ go (eqb 3 c.code) refl) q
-    where
-      go : (b : Bool) → eqb 3 c.code ≡ b → atom_by (token_at t c) (toks_at t c.start) ≡ ok (leaf c.code c.start none) (toks_at t d.start)
-      go true e =
-          let k : 3 ≡ c.code = eqb-true 3 c.code e in
-          rw (ne_eqb 2 c.code (λ z. omega arith), e)
-          (the_next h w (λ z. omega arith) "true" k (give (leaf 3 c.start none)) ∙ ap (λ x. ok (leaf x c.start none) (toks_at t d.start)) k)
-      go false e =
-          let k : 4 ≡ c.code = omega (arith, eqb-false 3 c.code e) in
-          rw (ne_eqb 2 c.code (λ z. omega arith), e, eq-eqb 4 c.code k)
-          (the_next h w (λ z. omega arith) "false" k (give (leaf 4 c.start none)) ∙ ap (λ x. ok (leaf x c.start none) (toks_at t d.start)) k)
+  true_reads k q =
+      leaf_reads 3 c.start [] none (λ z. omega arith) w.holds
+      (atom_peek h
+      ∙ (rw (ne_eqb 2 c.code (λ e. omega arith), eq-eqb 3 c.code (sym k)) (the_next h w (λ z. omega arith) "true" (sym k) (give (leaf 3 c.start none))))) q
+
+  pub false_reads : c.code ≡ 4 → {n : ℕ} {o o' : List ℕ} → o' ≡ put_row o n (row 4 1 0 none c.start) → Reads t (atom (toks_at t c.start)) n o d (n + 1) 0 o'
+  unfolding code entry give
+  false_reads k q =
+      leaf_reads 4 c.start [] none (λ z. omega arith) w.holds
+      (atom_peek h
+      ∙ (rw (ne_eqb 2 c.code (λ e. omega arith), ne_eqb 3 c.code (λ e. omega arith), eq-eqb 4 c.code (sym k))
+      (the_next h w (λ z. omega arith) "false" (sym k) (give (leaf 4 c.start none))))) q
 
 -- ---- names
 
 module _ (W : Language) {t : List ℕ} {c : Cursor} (h : Holds t c) where
-  pub named_not : (place W.reserved (token_at t c).text ≡ 0 → ⊥) → (ts : List Token) → named W (token_at t c) ts ≡ refused 9 c.start
+  pub named_not : {r : Option ℕ} → r ≡ index_of (place W.reserved (token_at t c).text) → is_some r ≡ true → (ts : List Token) → named W (token_at t c) ts ≡ refused 9 c.start
   unfolding named fail_at
-  named_not z ts = rw (le-leb 1 (place W.reserved (token_at t c).text) (omega (arith, z)))
+  named_not e z ts = rw (le-leb 1 (place W.reserved (token_at t c).text) (omega (arith, place_some (place W.reserved (token_at t c).text) (rw e at z))))
 
   -- a variable and its record
-  pub variable_reads : {d : Cursor} → Follows t c d → place W.reserved (token_at t c).text ≡ 0 → {n : ℕ} {o o' : List ℕ}
+  pub variable_reads : {d : Cursor} → Follows t c d → {r : Option ℕ} → r ≡ index_of (place W.reserved (token_at t c).text) → is_some r ≡ false → {n : ℕ} {o o' : List ℕ}
       → o' ≡ put_row o n (row 1 1 0 (fields c.start (c.end - c.start) 0 0) c.start) → Reads t (named W (token_at t c) (toks_at t d.start)) n o d (n + 1) 0 o'
   unfolding named give
-  variable_reads w z q = leaf_reads 1 c.start (token_at t c).text (fields c.start (c.end - c.start) 0 0) (λ e. omega arith) w.holds (rw (z, text_length h)) q
+  variable_reads w e z q =
+      leaf_reads 1 c.start (token_at t c).text (fields c.start (c.end - c.start) 0 0) (λ e. omega arith) w.holds
+      (rw (place_none (place W.reserved (token_at t c).text) (rw e at z), text_length h)) q

@@ -15,17 +15,15 @@ use Rattle.grammar.specs.Trees.{Tree, Trees, node, nil, ◌▹◌, fields, none 
 use Rattle.grammar.specs.Readers.{Out, ok, refused, Reader, bind, ◌>>=◌, ◌>>◌, again, follow, loop, is, give, fail_at, ask, read, the}
 use Rattle.grammar.specs.Grammar.{Language, Inner, deep, deeper, expression, primary, next_kind, named, name_first, plain, paid, ended, statement_over, statement, block, block_turn, if_over, for_over}
 use Rattle.reading.specs.Rows.{rows, rows_of, put_row, put_rows}
-use Rattle.reading.specs.Meets.{words_in, language_in, toks_at, token_at, Holds, Room, Ready, Follows, Takes, Reads, Meets, Before}
+use Rattle.std.specs.Prelude.{Result, Ok, Err}
+use Rattle.std.specs.Result.{IsErrAnd}
+use Rattle.reading.specs.Meets.{words_in, language_of, toks_at, token_at, Holds, Room, Ready, Follows, Takes, Reads, Before}
 use Rattle.reading.specs.Turns.{inner}
-use Rattle.reading.specs.Bodies.{bodies, conditional_in, repetition_in, loop_head, MeetsHead, number_refusal, ReadsBlock, MeetsBlock, block_refusal, block_refused}
-use Rattle.reading.specs.declared.answers.Read.{Read}
-use Rattle.reading.specs.declared.answers.Read.TheVariants as answer
-use Rattle.reading.specs.declared.answers.Took.{Took}
-use Rattle.reading.specs.declared.answers.Took.TheVariants as took
-use Rattle.reading.specs.declared.answers.Number.{Number}
-use Rattle.reading.specs.declared.answers.Number.TheVariants as number
+use Rattle.reading.specs.Faults.{refused_by}
+use Rattle.reading.specs.Bodies.{bodies, conditional_in, repetition_in, loop_head, ReadsBlock, MeetsBlock}
+use Rattle.reading.specs.declared.language.Language.{Language as Lent}
+use Rattle.reading.specs.declared.answers.Fault.{Fault}
 use Rattle.reading.specs.declared.answers.Block.{Block}
-use Rattle.reading.specs.declared.answers.Block.TheVariants as blocks
 use Rattle.grammar.proofs.Laws.{loop_eq}
 use Rattle.grammar.proofs.GrammarLaws.{Moves, move_then, stay_next, the_moves, the_stays, give_stays, named_law, block_turn_law}
 use Rattle.grammar.proofs.StatementLaws.{near_tail, statement_tail}
@@ -35,31 +33,13 @@ use Rattle.grammar.proofs.TreeLaws.{sizes_join, parts_snoc, parts_join}
 use Rattle.reading.proofs.RowLaws.{size_node, size_some, sizes_front, parts_few, put_rows_same, put_front, put_join, before_none, before_more, before_node}
 use Rattle.reading.proofs.ChainLaws.{reads_within}
 use Rattle.reading.proofs.StepLaws.{bind_refused}
-use Rattle.reading.proofs.PostfixLaws.{took_not, took_next}
 
--- ---- answers of calls, as the code takes them apart
+-- ---- the error that a `?` passes on
 
-module _ (t : List ℕ) (R : Out Trees) (n : ℕ) (o : List ℕ) (r : Block) (o' : List ℕ) where
-  pub done_block : (c : Cursor) (m k : ℕ) → r ≡ blocks.Done c m k → MeetsBlock t R n o r o' → ReadsBlock t R n o c m k o'
-  done_block c m k e h = rw e at h
-
-  -- as a refusal of a tree
-  pub block_refusal_on : (x : Read) (R' : Out Tree) (n' : ℕ) (o₁ o₂ : List ℕ) (k b : ℕ) → r ≡ blocks.Refused k b → MeetsBlock t R n o r o' → x ≡ block_refusal r
-      → (R ≡ refused k b → R' ≡ refused k b) → Meets t R' n' o₁ x o₂
-  block_refusal_on x R' n' o₁ o₂ k b e h q f = let z : x ≡ answer.Refused k b = q ∙ ap block_refusal e in rw z (f (rw e at h))
-
--- a refusal of a tree as one of a block
-pub tree_refusal_on : (t : List ℕ) (R : Out Tree) (n : ℕ) (o : List ℕ) (r : Read) (o' : List ℕ) (x : Block) (R' : Out Trees) (n' : ℕ) (o₁ o₂ : List ℕ) (k b : ℕ)
-    → r ≡ answer.Refused k b → Meets t R n o r o' → x ≡ block_refused r → (R ≡ refused k b → R' ≡ refused k b) → MeetsBlock t R' n' o₁ x o₂
-tree_refusal_on t R n o r o' x R' n' o₁ o₂ k b e h q f = let z : x ≡ blocks.Refused k b = q ∙ ap block_refused e in rw z (f (rw e at h))
-
-module _ (t : List ℕ) (R : Out Token) (c : Cursor) (r : Number) where
-  pub head_is : (d : Cursor) (v : ℕ) → r ≡ number.Is d v → MeetsHead t R c r → Holds t d × (c.code ≡ 1) × (R ≡ ok (token_at t c) (toks_at t d.start))
-  head_is d v e h = rw e at h
-
-  pub head_refusal_on : (x : Read) (R' : Out Tree) (n' : ℕ) (o₁ o₂ : List ℕ) (k b : ℕ) → r ≡ number.Refused k b → MeetsHead t R c r → x ≡ number_refusal r
-      → (R ≡ refused k b → R' ≡ refused k b) → Meets t R' n' o₁ x o₂
-  head_refusal_on x R' n' o₁ o₂ k b e h q f = let z : x ≡ answer.Refused k b = q ∙ ap number_refusal e in rw z (f (rw e at h))
+pub block_err : (t : List ℕ) (R : Out Trees) (n : ℕ) (o : List ℕ) (r : Result Block Fault) (o' : List ℕ) (e : Fault) → IsErrAnd r (λ y. y ≡ e) → R ≡ refused_by e
+    → MeetsBlock t R n o r o'
+block_err t R n o (Ok x) o' e h g = absurd h
+block_err t R n o (Err y) o' e h g = rw h g
 
 -- ---- depth
 
@@ -169,24 +149,22 @@ ends ss = the "}" >> give ss
 
 module _ (p : Reader Tree) (moves : Moves p) (short : Sized p) (t : List ℕ) where
   -- no `{`
-  pub block_unopened : (c : Cursor) → Holds t c → (a : Took) (b : ℕ) → a ≡ took.Not b → Takes t 42 c a → block p (toks_at t c.start) ≡ refused 8 c.start
-  unfolding block code
-  block_unopened c h a b e w = the_next_not h "{" (λ y. took_not t c h 42 a b e w (sym y)) _
+  pub block_unopened : (c : Cursor) (a : Fault) → Takes t 42 c (Err a) → block p (toks_at t c.start) ≡ refused_by a
+  unfolding block code ◌>>◌ ◌>>=◌ the
+  block_unopened c a g = rw g
 
-  module _ (c : Cursor) (h : Holds t c) (a : Took) (d : Cursor) (w : a ≡ took.Next d) (g : Takes t 42 c a) where
-    opened : Follows t c d × (c.code ≡ 42)
-    opened = took_next t 42 c a d w g
-
+  module _ (c : Cursor) (h : Holds t c) (d : Cursor) (g : Takes t 42 c (Ok d)) where
     some_open : c.code ≡ 0 → ⊥
-    some_open z = omega (arith, z, opened.1)
+    some_open z = omega (arith, z, g.1)
 
-    pub block_opened : block p (toks_at t c.start) ≡ (loop (block_turn p) nil >>= ends) (toks_at t d.start)
-    unfolding block code
-    block_opened = the_next h opened.0 some_open "{" (sym opened.1) _
+    -- the block is what the loop gives, and its closing sign
+    pub block_opened : block p (toks_at t c.start) ≡ bind ends (loop (block_turn p) nil (toks_at t d.start))
+    unfolding block code ◌>>=◌
+    block_opened = the_next h g.0 some_open "{" (sym g.1) _
 
     pub block_start : (n : ℕ) (o : List ℕ) → Room t c n → BlockChain p t (loop (block_turn p) nil (toks_at t d.start)) n o d n 0 o
     block_start n o room =
-        record { trees = nil; is = refl; before = before_none n o; many = refl; room = omega (arith, room, opened.0.fewer some_open); holds = opened.0.holds }
+        record { trees = nil; is = refl; before = before_none n o; many = refl; room = omega (arith, room, g.0.fewer some_open); holds = g.0.holds }
 
   module _ (R : Out Trees) (n : ℕ) (o : List ℕ) (c : Cursor) (m count : ℕ) (o' : List ℕ) (ch : BlockChain p t R n o c m count o') where
     turn : R ≡ follow (loop (block_turn p)) (block_turn p ch.trees (toks_at t c.start))
@@ -217,9 +195,9 @@ module _ (p : Reader Tree) (moves : Moves p) (short : Sized p) (t : List ℕ) wh
       unfolding block_turn code
       turn_is = ask_no ch.holds (is "}") _ _ (ne_eqb 43 c.code (λ e. z (sym e)))
 
-      pub block_refused_lem : (j b : ℕ) → (B : Out Trees) → B ≡ bind ends R → p (toks_at t c.start) ≡ refused j b → B ≡ refused j b
+      pub block_wrong : (j b : ℕ) → (B : Out Trees) → B ≡ bind ends R → p (toks_at t c.start) ≡ refused j b → B ≡ refused j b
       unfolding ◌>>=◌
-      block_refused_lem j b B q e = let g : R ≡ refused j b = turn ∙ (rw (turn_is, e)) in q ∙ ap (bind ends) g
+      block_wrong j b B q e = let g : R ≡ refused j b = turn ∙ (rw (turn_is, e)) in q ∙ ap (bind ends) g
 
       module _ (d : Cursor) (m₁ q : ℕ) (o₁ : List ℕ) (r : Reads t (p (toks_at t c.start)) m o' d m₁ q o₁) where
         within : m₁ + 3 * length (toks_at t d.start) ≤ m + 3 * length (toks_at t c.start)
@@ -243,11 +221,6 @@ module _ (p : Reader Tree) (moves : Moves p) (short : Sized p) (t : List ℕ) wh
               room = omega (arith, within, ch.room);
               holds = r.holds;
             }
-
--- a bind is that of what comes first
-pub bind_is : (p : Reader Tree) (ts : List Token) (B : Out Trees) → B ≡ (loop (block_turn p) nil >>= ends) ts → B ≡ bind ends (loop (block_turn p) nil ts)
-unfolding ◌>>=◌
-bind_is p ts B e = e
 
 -- what was read as a block, with what is left, is no more than there was
 pub block_within : (t : List ℕ) (p : Reader Tree) → Sized p → (c : Cursor) (n : ℕ) (o : List ℕ) (d : Cursor) (m k : ℕ) (o' : List ℕ)
@@ -391,27 +364,30 @@ module _ (W : Language) (F : Token → Reader Tree) where
   behind_name (ok v ts) = behind_named v (named W v ts)
   behind_name (refused k b) = refl
 
-  pub head_first : (ts : List Token) → (the "name" >>= λ v. named W v >> (the "in" >> F v)) ts ≡ (loop_head W >>= F) ts
+  head_first : (ts : List Token) → (the "name" >>= λ v. named W v >> (the "in" >> F v)) ts ≡ (loop_head W >>= F) ts
   unfolding ◌>>=◌
   head_first ts = behind_name (the "name" ts)
 
 -- of the language, the reserved names alone matter in a head
-pub head_words : (s : Bool) (r c d : List ℕ) → loop_head (language_in s r c d) ≡ loop_head (words_in r [] [])
+head_words : (lent : Lent) → loop_head (language_of lent) ≡ loop_head (words_in lent.lists.reserved.now [] [])
 unfolding named
-head_words s r c d = refl
+head_words lent = refl
 
-pub head_law : (W : Language) → Moves (loop_head W)
+head_law : (W : Language) → Moves (loop_head W)
 head_law W = move_then (the_moves "name") λ v. stay_next (named_law W v) (stay_next (the_stays "in") (give_stays v))
 
-module _ (s₂ : Bool) (a b y : List ℕ) (depth : ℕ) (t : List ℕ) (c d : Cursor) (w : Follows t c d) (e : c.code ≡ 39) where
+module _ (lent : Lent) (depth : ℕ) (t : List ℕ) (c d : Cursor) (w : Follows t c d) (e : c.code ≡ 39) where
   abbrev W : Language
-  W = language_in s₂ a b y
+  W = language_of lent
+
+  abbrev L₁ : Language
+  L₁ = words_in lent.lists.reserved.now [] []
 
   abbrev L : Out Tree
   L = repetition_in W depth (token_at t c) (toks_at t c.start)
 
   abbrev H : Out Token
-  H = loop_head (words_in a [] []) (toks_at t d.start)
+  H = loop_head L₁ (toks_at t d.start)
 
   pub for_0 : depth ≡ 0 → L ≡ refused 15 c.start
   for_0 z = body_none (token_at t c) W depth (for_over W) (toks_at t c.start) z
@@ -432,19 +408,19 @@ module _ (s₂ : Bool) (a b y : List ℕ) (depth : ℕ) (t : List ℕ) (c d : Cu
     abbrev rest : Token → Reader Tree
     rest v = expression W Pr >>= λ x. Bl >>= λ ss. give (loop_node v x ss)
 
-    headed : L ≡ (loop_head (words_in a [] []) >>= rest) (toks_at t d.start)
+    headed : L ≡ (loop_head L₁ >>= rest) (toks_at t d.start)
     unfolding for_over
     headed =
         body_some (token_at t c) W depth (for_over W) (toks_at t c.start) left
         ∙ (read_then w some_for _
-        ∙ (head_first W rest (toks_at t d.start) ∙ ap (λ (x : Reader Token). (x >>= rest) (toks_at t d.start)) (head_words s₂ a b y)))
+        ∙ (head_first W rest (toks_at t d.start) ∙ ap (λ (x : Reader Token). (x >>= rest) (toks_at t d.start)) (head_words lent)))
 
     pub for_head_refused : (k j : ℕ) → H ≡ refused k j → L ≡ refused k j
-    for_head_refused k j q = headed ∙ bind_refused (loop_head (words_in a [] [])) _ (toks_at t d.start) k j q
+    for_head_refused k j q = headed ∙ bind_refused (loop_head L₁) _ (toks_at t d.start) k j q
 
     module _ (f : Cursor) (h : Holds t f × (d.code ≡ 1) × (H ≡ ok (token_at t d) (toks_at t f.start))) where
       shorter : length (toks_at t f.start) < length (toks_at t d.start)
-      shorter = moves_less (head_law (words_in a [] [])) (toks_at t d.start) (token_at t d) (toks_at t f.start) h.2
+      shorter = moves_less (head_law L₁) (toks_at t d.start) (token_at t d) (toks_at t f.start) h.2
 
       behind : L ≡ rest (token_at t d) (toks_at t f.start)
       unfolding ◌>>=◌

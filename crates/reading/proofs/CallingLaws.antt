@@ -1,5 +1,5 @@
 -- What stands round the parts of a call, a list and a pays: the strings of a cvg, leaves, and what follows a part.
-use Rattle.std.specs.Prelude.{if◌then◌else◌}
+use Rattle.std.specs.Prelude.{Ok, Option, is_some, if◌then◌else◌}
 use mathlib.Core.Path.{◌≡◌, refl, sym, ap, ◌∙◌}
 use mathlib.Core.Bool.{Bool, true, false, ◌||◌}
 use mathlib.Core.List.{List, []}
@@ -9,8 +9,8 @@ use lib.Dec.{eqb, leb}
 use lib.ListN.{length, take, drop, length-drop}
 use borrow.Author.Tests.{eqb-true, ne_eqb, eq-eqb, le-leb}
 use Rattle.tokens.specs.Text.{leading, other}
-use Rattle.tokens.specs.Names.{place}
-use Rattle.tokens.specs.Dates.{date}
+use Rattle.tokens.specs.Names.{place, index_of}
+use Rattle.tokens.specs.Dates.{date, unless_0}
 use Rattle.tokens.specs.Tokens.{Token, code, entry}
 use Rattle.tokens.specs.declared.cursor.Cursor.{Cursor}
 use Rattle.tokens.proofs.Shapes.{leading_le}
@@ -23,10 +23,10 @@ use Rattle.reading.specs.Meets.{words_in, language_in, toks_at, token_at, Holds,
 use Rattle.reading.specs.Turns.{item_end, Shown, content_at, cvg_fault, call_fault}
 use Rattle.reading.specs.declared.answers.Texts.{Texts}
 use Rattle.reading.specs.declared.records.Node.{Node}
-use Rattle.reading.specs.declared.answers.Leaf.TheVariants as leaf
+use Rattle.reading.specs.declared.answers.Leaf.{Leaf}
 use Rattle.reading.proofs.HoldLaws.{peek_is, fail_is, the_next}
 use Rattle.reading.proofs.RowLaws.{before_node, size_node}
-use Rattle.reading.proofs.AtomLaws.{leaf_reads}
+use Rattle.reading.proofs.AtomLaws.{leaf_reads, date_none, date_some, place_none, place_some}
 
 -- ---- what follows a part
 
@@ -118,24 +118,39 @@ module _ (t : List ℕ) (x : Texts) (C : List (List ℕ)) where
               let D = string_yes t c q₃ (λ w. n₃ (e₃ ∙ w)) in
               rw (A.0, B.0, D.0, A.1, B.1, D.1, e₁, e₂, e₃)
 
-      -- the first date is none
-      pub cvg_date : date (content_at t x.first) ≡ 0 → 11 ≡ cvg_fault C es
-      cvg_date z = rw z at cvg_all
+      abbrev day₁ : ℕ
+      day₁ = date (content_at t x.first)
 
-      pub cvg_date_2 : (date (content_at t x.first) ≡ 0 → ⊥) → date (content_at t x.second) ≡ 0 → 11 ≡ cvg_fault C es
-      cvg_date_2 y z = rw (ne_eqb (date (content_at t x.first)) 0 y, z) at cvg_all
+      abbrev day₂ : ℕ
+      day₂ = date (content_at t x.second)
 
-      module _ (y : date (content_at t x.first) ≡ 0 → ⊥) (z : date (content_at t x.second) ≡ 0 → ⊥) where
-        cvg_dates : (if leb 1 (place C (content_at t x.third)) then 0 else 13) ≡ cvg_fault C es
-        cvg_dates = rw (ne_eqb (date (content_at t x.first)) 0 y, ne_eqb (date (content_at t x.second)) 0 z) at cvg_all
+      abbrev counter : ℕ
+      counter = place C (content_at t x.third)
 
-        -- the day counter is none
-        pub cvg_counter : place C (content_at t x.third) ≡ 0 → 13 ≡ cvg_fault C es
-        cvg_counter e = rw e at cvg_dates
+      module _ {d : Option ℕ} (D : d ≡ unless_0 day₁) where
+        -- the first date is none
+        pub cvg_date : is_some d ≡ false → 11 ≡ cvg_fault C es
+        cvg_date z = rw (date_none day₁ (rw D at z)) at cvg_all
 
-        -- all is well
-        pub cvg_good : (place C (content_at t x.third) ≡ 0 → ⊥) → 0 ≡ cvg_fault C es
-        cvg_good e = rw (le-leb 1 (place C (content_at t x.third)) (omega (arith, e))) at cvg_dates
+        module _ (y : is_some d ≡ true) {e : Option ℕ} (E : e ≡ unless_0 day₂) where
+          some₁ : eqb day₁ 0 ≡ false
+          some₁ = ne_eqb day₁ 0 (date_some day₁ (rw D at y))
+
+          -- the second
+          pub cvg_date_2 : is_some e ≡ false → 11 ≡ cvg_fault C es
+          cvg_date_2 z = rw (some₁, date_none day₂ (rw E at z)) at cvg_all
+
+          module _ (z : is_some e ≡ true) {q : Option ℕ} (Q : q ≡ index_of counter) where
+            cvg_dates : (if leb 1 counter then 0 else 13) ≡ cvg_fault C es
+            cvg_dates = rw (some₁, ne_eqb day₂ 0 (date_some day₂ (rw E at z))) at cvg_all
+
+            -- the day counter is none
+            pub cvg_counter : is_some q ≡ false → 13 ≡ cvg_fault C es
+            cvg_counter e = rw (place_none counter (rw Q at e)) at cvg_dates
+
+            -- all is well
+            pub cvg_good : is_some q ≡ true → 0 ≡ cvg_fault C es
+            cvg_good e = rw (le-leb 1 counter (omega (arith, place_some counter (rw Q at e)))) at cvg_dates
 
 -- ---- the bytes up to the next quote
 
@@ -149,24 +164,19 @@ module _ (t : List ℕ) (p r : ℕ) (l : p ≤ length t) (e : r ≡ p + leading 
 -- ---- what a call is refused for
 
 module _ (C : List (List ℕ)) (k n : ℕ) (es : Trees) (e : n ≡ parts es) where
-  pub call_count : right_count k n ≡ false → 10 ≡ call_fault C k es
-  call_count q = rw (← e, q)
-
-  pub call_other : right_count k n ≡ true → (k ≡ 25 → ⊥) → 0 ≡ call_fault C k es
-  call_other q z = rw (← e, q, ne_eqb k 25 z)
-
-  pub call_cvg : right_count k n ≡ true → k ≡ 25 → {r : ℕ} → (parts es ≡ 3 → r ≡ cvg_fault C es) → r ≡ call_fault C k es
+  pub call_cvg : true ≡ right_count k n → k ≡ 25 → {r : ℕ} → (parts es ≡ 3 → r ≡ cvg_fault C es) → r ≡ call_fault C k es
   unfolding right_count
   call_cvg q z f =
-      let p : parts es ≡ 3 = sym e ∙ eqb-true n 3 (rw z at q) in
-      rw (← e, q, eq-eqb k 25 z) (f p)
+      let p : parts es ≡ 3 = sym e ∙ eqb-true n 3 (sym (rw z at q)) in
+      rw (← e, ← q, eq-eqb k 25 z) (f p)
 
 -- ---- leaves
 
 -- a leaf that is written
-pub leaf_written : {t : List ℕ} {R : Out Tree} {n : ℕ} {o o' : List ℕ} {d : Cursor} (x : Node) → MeetsLeaf t R (leaf.Is d x) → o' ≡ put_row o n (node_row x)
-    → Reads t R n o d (n + 1) 0 o'
-leaf_written x h w =
+pub leaf_written : {t : List ℕ} {R : Out Tree} {n : ℕ} {o o' : List ℕ} (l : Leaf) → MeetsLeaf t R (Ok l) → o' ≡ put_row o n (node_row l.node)
+    → Reads t R n o l.at (n + 1) 0 o'
+leaf_written l h w =
+    let x = l.node in
     leaf_reads x.kind x.place h.4.0 (fields x.f1 x.f2 x.f3 x.f4) h.3 h.0 h.4.1 (w ∙ (rw (h.1, h.2)))
 
 -- ---- the date and the currency of a pays

@@ -26,8 +26,9 @@ use Rattle.tokens.proofs.CursorLaws.{settle_here, settle_line}
 use Rattle.grammar.specs.Readers.{Out, ok, refused, Reader, bind, ◌>>=◌, ◌>>◌, first, next, second, is, skip, fail, ask, peek, read, the}
 use Rattle.grammar.specs.Script.{back}
 use Rattle.reading.specs.Meets.{listed, toks_at, token_at, Holds, Follows, the_by, Takes}
-use Rattle.reading.specs.declared.answers.Took.{Took}
-use Rattle.reading.specs.declared.answers.Took.TheVariants as took
+use Rattle.std.specs.Prelude.{Ok, Err}
+use Rattle.tokens.specs.declared.refusals.Ground.TheVariants as ground
+use Rattle.reading.specs.Faults.{fault_at}
 use Rattle.reading.specs.Scripts.{rebase}
 use Rattle.grammar.proofs.Laws.{Quiet, skip_clear}
 use Rattle.grammar.proofs.ScriptLaws.{quiet_nil, quiet_end, end_append, count_append, forth_back}
@@ -474,21 +475,18 @@ pub second_is : {t : List ℕ} {c d : Cursor} → Follows t c d → (c.code ≡ 
 second_is {t} {c} {d} w some = ap (λ (u : Token). u.kind) (read_second (toks_at t c.start) (token_at t c) (toks_at t d.start) (w.reads some)) ∙ first_kind w.holds
 
 -- there is a token to read
-pub reads_some : (ts : List Token) (u : Token) (b : ℕ) → read (ts ++ (u ∷ [])) ≡ refused 8 b → ⊥
+pub reads_some : (ts : List Token) (u : Token) {k : ℕ} (b : ℕ) → read (ts ++ (u ∷ [])) ≡ refused k b → ⊥
 unfolding read
 reads_some [] u b e = let z : ◌≡◌ {A = ℕ} 0 1 = cc in omega arith
 reads_some (t ∷ ts) u b e = let z : ◌≡◌ {A = ℕ} 0 1 = cc in omega arith
 
 -- ---- the token of a code, taken or not
 
-pub takes_next : {t : List ℕ} {c d : Cursor} → Holds t c → Follows t c d → (k : ℕ) → (k ≡ 0 → ⊥) → c.code ≡ k → Takes t k c (took.Next d)
+pub takes_next : {t : List ℕ} {c d : Cursor} → Holds t c → Follows t c d → (k : ℕ) → (k ≡ 0 → ⊥) → c.code ≡ k → Takes t k c (Ok d)
 takes_next h w k z e = (w, e, by_yes h w (λ p. z (sym e ∙ p)) k e)
 
-pub takes_not : {t : List ℕ} {c : Cursor} → Holds t c → (k : ℕ) → (c.code ≡ k → ⊥) → Takes t k c (took.Not c.start)
+pub takes_not : {t : List ℕ} {c : Cursor} → Holds t c → (k : ℕ) → (c.code ≡ k → ⊥) → Takes t k c (Err (fault_at c ground.Token))
 takes_not h k z = by_no h k z
-
-pub takes_as : (t : List ℕ) (k : ℕ) (c : Cursor) {r r' : Took} → r ≡ r' → Takes t k c r → Takes t k c r'
-takes_as t k c e h = subst (Takes t k c) e h
 
 -- ---- the text from a cursor on, as a text of its own
 

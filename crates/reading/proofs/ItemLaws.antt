@@ -12,23 +12,26 @@ use lib.ListN.{length}
 use Rattle.tokens.specs.Text.{bytes, same, within}
 use Rattle.tokens.specs.Names.{member}
 use Rattle.tokens.specs.Dates.{date}
-use Rattle.tokens.specs.Tokens.{Token, code, entry}
+use Rattle.tokens.specs.Tokens.{Token, code, entry, final}
 use Rattle.tokens.specs.declared.cursor.Cursor.{Cursor}
 use Rattle.grammar.specs.Trees.{Tree, Trees, node, nil, ◌▹◌, fields, none as unused, snoc, parts, row}
 use Rattle.grammar.specs.Readers.{Out, ok, refused, Reader, bind, ◌>>=◌, ◌>>◌, Turn, again, follow, loop, is, give, fail, fail_at, read, the}
 use Rattle.grammar.specs.Grammar as G
 use Rattle.grammar.specs.Grammar.{Language, expression, items, closed, arguments, deeper, primary, calls, call_of, cvg, call, payday, payments, payment, pays, listed, postfixes, currency_of, a_currency}
 use Rattle.reading.specs.Calls.{call_kind, right_count}
-use Rattle.reading.specs.Rows.{put_row}
-use Rattle.reading.specs.Meets.{words_in, language_in, toks_at, token_at, Holds, Room, Ready, Follows, string_at, Quoted, Reads, Meets, Before}
-use Rattle.reading.specs.Turns.{inner, list_postfixed, pays_stop, Closing, item_end, item_turn_by, items_by, FollowsItem, string_of, AllQuoted, Shown, shown_by, ReadsItems, MeetsItems, Closed, refusal_of, items_refusal, call_fault, Tops}
+use Rattle.reading.specs.Rows.{put_row, kind_number}
+use Rattle.reading.specs.declared.records.Kind.{Kind}
+use Rattle.reading.proofs.KindLaws.{kind_some}
+use Rattle.tokens.specs.Refusals.{number_of}
+use Rattle.tokens.specs.declared.refusals.Ground.{Ground}
+use Rattle.tokens.proofs.RefusalLaws.{number_in}
+use Rattle.reading.specs.Meets.{words_in, language_in, toks_at, token_at, Holds, Room, Ready, Follows, Takes, string_at, Quoted, Reads, Meets, Before}
+use Rattle.reading.specs.Turns.{inner, list_postfixed, pays_stop, Closing, item_end, item_turn_by, items_by, FollowsItem, string_of, AllQuoted, Shown, shown_by, ReadsItems, call_fault, Tops}
+use Rattle.std.specs.Prelude.{Result, Ok, Err}
+use Rattle.reading.specs.Faults.{refused_by}
+use Rattle.reading.specs.declared.answers.Fault.{Fault}
 use Rattle.reading.specs.declared.answers.Read.{Read}
-use Rattle.reading.specs.declared.answers.Read.TheVariants as answer
-use Rattle.reading.specs.declared.answers.Took.{Took}
-use Rattle.reading.specs.declared.answers.Took.TheVariants as took
 use Rattle.reading.specs.declared.answers.Texts.{Texts}
-use Rattle.reading.specs.declared.answers.Items.{Items}
-use Rattle.reading.specs.declared.answers.Items.TheVariants as part
 use Rattle.grammar.proofs.Laws.{loop_eq, left_shorter}
 use Rattle.grammar.proofs.GrammarLaws.{Moves, Stays, Steps, laws, expression_law, pay_turn_law, primary_law}
 use Rattle.grammar.proofs.SizeLaws.{Sized, SizedAll, expression_size, items_size, arguments_size, moves_less, primary_size}
@@ -134,59 +137,6 @@ shown_inside t es x s = (
   omega (arith, s.third, strings_inside t es 2 s.quoted),
 )
 
--- ---- answers of calls, as the code takes them apart
-
-module _ (t : List ℕ) (R : Out Trees) (n : ℕ) (o : List ℕ) (r : Items) (o' : List ℕ) where
-  pub done_items : (c : Cursor) (m k : ℕ) (x : Texts) → r ≡ part.Done c m k x → MeetsItems t R n o r o' → ReadsItems t R n o c m k x o'
-  done_items c m k x e h = rw e at h
-
-  pub items_refused_on : (R' : Out Trees) (n' : ℕ) (o₁ o₂ : List ℕ) (k b : ℕ) → r ≡ part.Refused k b → MeetsItems t R n o r o' → (R ≡ refused k b → R' ≡ refused k b)
-      → MeetsItems t R' n' o₁ r o₂
-  items_refused_on R' n' o₁ o₂ k b e h f = rw e (f (rw e at h))
-
-  -- as a refusal of a tree
-  pub refusal_on : (x : Read) (R' : Out Tree) (n' : ℕ) (o₁ o₂ : List ℕ) (k b : ℕ) → r ≡ part.Refused k b → MeetsItems t R n o r o' → x ≡ refusal_of r
-      → (R ≡ refused k b → R' ≡ refused k b) → Meets t R' n' o₁ x o₂
-  refusal_on x R' n' o₁ o₂ k b e h q f = let z : x ≡ answer.Refused k b = q ∙ ap refusal_of e in rw z (f (rw e at h))
-
-pub closed_code : (k : ℕ) (r : Items) (c : Cursor) (m j : ℕ) (x : Texts) → r ≡ part.Done c m j x → Closed k r → c.code ≡ k
-closed_code k r c m j x e h = rw e at h
-
--- a refusal of a tree as one of parts
-pub parts_refusal : (t : List ℕ) (R : Out Tree) (n : ℕ) (o : List ℕ) (r : Read) (o' : List ℕ) (x : Items) (R' : Out Trees) (n' : ℕ) (o₁ o₂ : List ℕ) (close k b : ℕ)
-    → r ≡ answer.Refused k b → Meets t R n o r o' → x ≡ items_refusal r → (R ≡ refused k b → R' ≡ refused k b) → MeetsItems t R' n' o₁ x o₂ × Closed close x
-parts_refusal t R n o r o' x R' n' o₁ o₂ close k b e h q f = let z : x ≡ part.Refused k b = q ∙ ap items_refusal e in rw z (f (rw e at h), tt)
-
--- what follows an item
-pub follows_as : (t : List ℕ) (k : ℕ) (c : Cursor) (r r' : Took) → r ≡ r' → FollowsItem t k c r → FollowsItem t k c r'
-follows_as t k c r r' e h = rw e at h
-
--- the place of the refusal is that of the token
-pub item_wrong : (t : List ℕ) (k : ℕ) (c : Cursor) (b : ℕ) → Holds t c → FollowsItem t k c (took.Not b) → (es : Trees) → item_end k es (toks_at t c.start) ≡ refused 8 c.start
-unfolding the give ◌>>◌ ◌>>=◌
-item_wrong t k c b h w es = go (eqb (code ",") c.code) (eqb k c.code) refl refl
-  where
-    ends : Bool → Bool → Reader (Turn Trees Trees)
-    ends x y = if x then (the "," >> give (again es)) else if y then give (again es) else fail 8
-
-    is_ends : (x y : Bool) → eqb (code ",") c.code ≡ x → eqb k c.code ≡ y → item_end k es (toks_at t c.start) ≡ ends x y (toks_at t c.start)
-    is_ends x y p q = peek_is h _ ∙ (rw (p, q))
-
-    the_comma : eqb (code ",") c.code ≡ true → the "," (toks_at t c.start) ≡ read (toks_at t c.start)
-    the_comma p = peek_is h _ ∙ (rw p)
-
-    more : Token → Reader (Turn Trees Trees)
-    more u = give (again es)
-
-    some_read : (r : Out Token) → read (toks_at t c.start) ≡ r → bind more r ≡ refused 8 b → ⊥
-    some_read (ok u ts) p q = let z : ◌≡◌ {A = ℕ} 0 1 = cc in omega arith
-    some_read (refused j d) p q = let z : ◌≡◌ {A = Out Token} (refused j d) (refused 8 b) = cc in reads_some h.left _ b (sym (ap read (toks_are h)) ∙ (p ∙ z))
-
-    go : (x y : Bool) → eqb (code ",") c.code ≡ x → eqb k c.code ≡ y → item_end k es (toks_at t c.start) ≡ refused 8 c.start
-    go true y p q = absurd (some_read (read (toks_at t c.start)) refl (ap (bind more) (sym (the_comma p)) ∙ (sym (is_ends true y p q) ∙ w es)))
-    go false true p q = absurd (let e : ok (again es) (toks_at t c.start) ≡ refused 8 b = sym (is_ends false true p q) ∙ w es in let z : ◌≡◌ {A = ℕ} 0 1 = cc in omega arith)
-    go false false p q = is_ends false false p q ∙ fail_is h 8
-
 -- ---- the loop of `items`
 
 -- the trees so far, and that the loop from here gives the whole reading R
@@ -248,10 +198,10 @@ module _ (W : Language) (k : ℕ) (p : Reader Tree) (moves : Moves p) (short : S
         on_is = turn_is ∙ (rw r.is)
 
         -- neither a comma nor the closing sign follows
-        pub items_wrong : (b : ℕ) → FollowsItem t k c₁ (took.Not b) → R ≡ refused 8 c₁.start
-        items_wrong b w = turn ∙ (rw (on_is, item_wrong t k c₁ b r.holds w (snoc ch.trees r.tree)))
+        pub items_wrong : (e : Fault) → FollowsItem t k c₁ (Err e) → R ≡ refused_by e
+        items_wrong e w = turn ∙ (rw (on_is, w (snoc ch.trees r.tree)))
 
-        module _ (d : Cursor) (w : FollowsItem t k c₁ (took.Next d)) where
+        module _ (d : Cursor) (w : FollowsItem t k c₁ (Ok d)) where
           no_more : length (toks_at t d.start) ≤ length (toks_at t c₁.start)
           no_more = omega (arith, left_shorter (item_end_stays k nil (toks_at t c₁.start) (again nil) (toks_at t d.start) (w.1 nil)))
 
@@ -282,11 +232,14 @@ items_within t p h c n o d m k x o' r room =
 
 module _ (W : Language) (depth : ℕ) (t : List ℕ) (c : Cursor) (h : Holds t c) where
   -- no `(`
-  pub arguments_no : (c.code ≡ 40 → ⊥) → arguments W (inner W depth) (toks_at t c.start) ≡ refused 8 c.start
-  unfolding arguments
-  arguments_no z =
-      let q : eqb (code "(") c.code ≡ false = rw open_code (ne_eqb 40 c.code (λ e. z (sym e))) in
-      peek_is h _ ∙ ((rw q) ∙ fail_is h 8)
+  pub arguments_no : (e : Fault) → Takes t 40 c (Err e) → arguments W (inner W depth) (toks_at t c.start) ≡ refused_by e
+  unfolding arguments fail give
+  arguments_no e w = peek_is h _ ∙ (rw open_code (go (eqb 40 c.code) (sym (peek_is h _) ∙ w)))
+    where
+      go : (b : Bool) → (if b then read else fail 8) (toks_at t c.start) ≡ refused_by e
+          → (if b then deeper (token_at t c) (inner W depth) (λ p. read >> closed W ")" p) else fail 8) (toks_at t c.start) ≡ refused_by e
+      go true q = absurd (reads_some h.left (final (length t)) _ (ap read (sym (toks_are h)) ∙ q))
+      go false q = ap (bind (λ (u : Token). give nil)) q
 
   arguments_yes : c.code ≡ 40 → arguments W (inner W depth) (toks_at t c.start) ≡ deeper (token_at t c) (inner W depth) (λ p. read >> closed W ")" p) (toks_at t c.start)
   unfolding arguments
@@ -439,7 +392,13 @@ pub arguments_within : (W : Language) (depth : ℕ) (t : List ℕ) (c : Cursor) 
 arguments_within W depth t c n o d m k x o' r room =
     items_within t (arguments W (inner W depth)) (arguments_size W (inner W depth) (inner_sized W depth)) c n o d m k x o' r room
 
-module _ (W : Language) (depth : ℕ) (tok : Token) (k : ℕ) (e : k ≡ call_kind tok.text) (l : 1 ≤ k) (u : k < 32) where
+module _ (W : Language) (depth : ℕ) (tok : Token) (κ : Kind) (e : kind_number κ ≡ call_kind tok.text) (u : kind_number κ < 32) where
+  abbrev k : ℕ
+  k = kind_number κ
+
+  l : 1 ≤ k
+  l = kind_some κ
+
   abbrev Row : ℕ × ℕ × ℕ
   Row = call_of tok.text calls
 
@@ -484,21 +443,22 @@ module _ (W : Language) (depth : ℕ) (tok : Token) (k : ℕ) (e : k ≡ call_ki
     call_refused j b q = rw q
 
     module _ (n : ℕ) (o : List ℕ) (d : Cursor) (m cnt : ℕ) (x : Texts) (o' : List ℕ)
-        (r : ReadsItems t (arguments W (inner W depth) (toks_at t c.start)) n o d m cnt x o') (f : ℕ)
-        (fault : (es : Trees) → Shown t es x → cnt ≡ parts es → f ≡ call_fault W.counters k es) where
-      call_is : call W (inner W depth) tok (call_of tok.text calls) (toks_at t c.start) ≡ judged r.items (toks_at t d.start) f
+        (r : ReadsItems t (arguments W (inner W depth) (toks_at t c.start)) n o d m cnt x o') where
+      call_is : (f : ℕ) → ((es : Trees) → Shown t es x → cnt ≡ parts es → f ≡ call_fault W.counters k es)
+          → call W (inner W depth) tok (call_of tok.text calls) (toks_at t c.start) ≡ judged r.items (toks_at t d.start) f
       unfolding call ◌>>=◌
-      call_is = (rw r.is) ∙ (body_is r.items (toks_at t d.start) ∙ ap (judged r.items (toks_at t d.start)) (sym (fault r.items r.shown r.parts_are)))
+      call_is f fault = (rw r.is) ∙ (body_is r.items (toks_at t d.start) ∙ ap (judged r.items (toks_at t d.start)) (sym (fault r.items r.shown r.parts_are)))
 
-      pub call_faulty : (f ≡ 0 → ⊥) → call W (inner W depth) tok (call_of tok.text calls) (toks_at t c.start) ≡ refused f tok.from
-      call_faulty z = call_is ∙ (rw (ne_eqb f 0 z))
+      pub call_faulty : (g : Ground) → ((es : Trees) → Shown t es x → cnt ≡ parts es → number_of g ≡ call_fault W.counters k es)
+          → call W (inner W depth) tok (call_of tok.text calls) (toks_at t c.start) ≡ refused (number_of g) tok.from
+      call_faulty g fault = call_is (number_of g) fault ∙ (rw (ne_eqb (number_of g) 0 (λ z. omega (arith, z, number_in g))))
 
-      pub call_done : f ≡ 0 → (o₂ : List ℕ) → o₂ ≡ put_row o' m (row k (m - n + 1) cnt unused tok.from)
+      pub call_done : ((es : Trees) → Shown t es x → cnt ≡ parts es → 0 ≡ call_fault W.counters k es) → (o₂ : List ℕ) → o₂ ≡ put_row o' m (row k (m - n + 1) cnt unused tok.from)
           → Reads t (call W (inner W depth) tok (call_of tok.text calls) (toks_at t c.start)) n o d (m + 1) 0 o₂
-      call_done z o₂ v =
+      call_done fault o₂ v =
           record {
             tree = node k tok.from [] unused r.items;
-            is = call_is ∙ (rw (eq-eqb f 0 z));
+            is = call_is 0 fault;
             counts = omega (arith, size_node k tok.from [] unused r.items, r.counts);
             writes = before_node k tok.from [] unused (record { counts = r.counts; writes = r.writes }) (omega (arith, r.counts)) r.parts_are v;
             holds = r.holds;
@@ -605,7 +565,7 @@ module _ (W : Language) (depth : ℕ) (t : List ℕ) (c d : Cursor) (h : Holds t
 pub pays_done : (s₂ : Bool) (a b cu : List ℕ) (depth : ℕ) (t : List ℕ) (c d : Cursor) → Holds t c → Follows t c d → c.code ≡ 36 → (depth ≡ 0 → ⊥)
     → (n : ℕ) (o : List ℕ) (f : Cursor) (m count : ℕ) (o' : List ℕ)
     → PayChain (language_in s₂ a cu b) (primary (language_in s₂ a cu b) (depth - 1)) t (payments (language_in s₂ a cu b) (primary (language_in s₂ a cu b) (depth - 1)) (toks_at t d.start)) n o f m count o'
-    → pays_stop f.code ≡ true → (r : Read) (o₂ : List ℕ)
+    → pays_stop f.code ≡ true → (r : Result Read Fault) (o₂ : List ℕ)
     → ((es : Trees) (x : List ℕ) → Before n x es m o' → count ≡ parts es → Meets t (payday (words_in [] cu []) c.start es (toks_at t f.start)) n x r o₂)
     → Meets t (pays (language_in s₂ a cu b) (inner (language_in s₂ a cu b) depth) (toks_at t c.start)) n o r o₂
 pays_done s₂ a b cu depth t c d h w e z n o f m count o' ch s r o₂ g =

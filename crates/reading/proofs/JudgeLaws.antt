@@ -6,29 +6,26 @@ use mathlib.Core.List.{List, [], ◌∷◌, ◌++◌}
 use Prim.Native.Nat.{ℕ, suc, ◌+◌, ◌-◌, ◌≤◌, ◌<◌}
 use native.Mathlib.Omega.{arith}
 use native.Mathlib.Nat.{zero-add}
-use lib.Dec.{T, ltb}
+use lib.Dec.{T, eqb, ltb}
 use lib.ListN.{length, take, drop}
-use borrow.Author.Tests.{ltb-false}
+use borrow.Author.Tests.{eqb-true, eqb-false, ltb-false}
 use Rattle.tokens.specs.Limits.{most_bytes, most_tokens}
 use Rattle.tokens.specs.Text.{script, leading, every, other, count}
 use Rattle.tokens.specs.Names.{Lists, good_list, good_lists}
 use Rattle.tokens.specs.Tokens.{Token, Lexed, lexed, refused as faulty, scan, final, code, counts, end_of, tokens}
 use Rattle.tokens.specs.Lexing.{script_end, summary, scan_of}
-use Rattle.tokens.specs.declared.text.ScriptEnd.{ScriptEnd}
-use Rattle.tokens.specs.declared.text.ScriptEnd.TheVariants as ends
-use Rattle.tokens.specs.declared.scanning.Scanned.{Scanned}
-use Rattle.tokens.specs.declared.scanning.Scanned.TheVariants as scanned
+use Rattle.tokens.specs.ScriptEnd.{ScriptEnd}
+use Rattle.tokens.specs.ScriptEnd as ends
+use Rattle.tokens.specs.Scanned.{Scanned}
+use Rattle.tokens.specs.Scanned as scanned
 use Rattle.tokens.proofs.Shapes.{leading_le}
 use Rattle.tokens.proofs.TextLaws.{script_length}
 use Rattle.tokens.proofs.NameLaws.{good_few}
 use Rattle.grammar.specs.Grammar.{Edition}
-use Rattle.grammar.specs.Script.{Outcome, refused, no_zero, of_tokens, read_script, statements, from, language, tokens_of}
+use Rattle.grammar.specs.Script.{refused, no_zero, of_tokens, read_script, statements, from, language, tokens_of}
 use Rattle.reading.specs.Meets.{listed, toks_at, Few}
-use Rattle.reading.specs.Scripts.{Clean, ReadsAll, MeetsAll}
-use Rattle.reading.specs.declared.answers.All.{All}
-use Rattle.reading.specs.declared.answers.All.TheVariants as all
-use Rattle.reading.specs.Judging.{judged_of, last_end, judgement, text_judgement}
-use Rattle.reading.specs.declared.judging.Judged.TheVariants as judged
+use Rattle.reading.specs.Scripts.{Clean, ReadsAll}
+use Rattle.reading.specs.Judging.{good, rejected, judged_of, last_end, judgement, text_judgement}
 use Rattle.grammar.proofs.ScriptLaws.{count_append}
 use Rattle.grammar.proofs.AmendBytes.{Text, script_all, text_tokens}
 
@@ -56,19 +53,19 @@ module _ (bs : List ℕ) where
   end_short e = let F = end_found e in (omega (arith, ltb-false most_bytes (length (script bs)) F.1, F.0), omega (arith, F.0, script_in))
 
   module _ (E : Edition) (l : Lists) where
-    pub judge_long : {k p : ℕ} → script_end bs ≡ ends.Refused k p → judgement E l bs ≡ judged.Refused k p
+    pub judge_long : {k p : ℕ} → script_end bs ≡ ends.Refused k p → judgement E l bs ≡ rejected k p
     unfolding script_end judgement read_script
     judge_long {k} {p} e = go (ltb most_bytes (length (script bs))) refl e
       where
         go : (b : Bool) → ltb most_bytes (length (script bs)) ≡ b → ◌≡◌ {A = ScriptEnd} (if b then ends.Refused 1 0 else ends.At (length (script bs))) (ends.Refused k p)
-            → judged_of (length (script bs)) (last_end (script bs)) (read_script E l bs) ≡ judged.Refused k p
+            → judged_of (length (script bs)) (last_end (script bs)) (read_script E l bs) ≡ rejected k p
         go true t q =
             let x : ◌≡◌ {A = ℕ} 1 k = cc in
             let y : ◌≡◌ {A = ℕ} 0 p = cc in
-            rw t (λ i. judged.Refused (x i) (y i))
+            rw t (λ i. rejected (x i) (y i))
         go false t q = absurd (let z : ◌≡◌ {A = ℕ} 0 1 = cc in omega arith)
 
-    pub judge_lists : {n : ℕ} → script_end bs ≡ ends.At n → good_lists l ≡ false → judgement E l bs ≡ judged.Refused 2 0
+    pub judge_lists : {n : ℕ} → script_end bs ≡ ends.At n → good_lists l ≡ false → judgement E l bs ≡ rejected 2 0
     unfolding judgement read_script
     judge_lists e g = rw ((end_found e).1, g)
 
@@ -80,14 +77,6 @@ module _ (bs : List ℕ) where
 
 -- ---- zero bytes
 
--- a zero byte is found before the end, or there is none
-pub clear_not : (n : List ℕ) → 0 + leading (other 0) (drop 0 n) < length n → no_zero n ≡ false
-clear_not n h = go (no_zero n) refl
-  where
-    go : (b : Bool) → no_zero n ≡ b → b ≡ false
-    go true e = absurd (omega (arith, script_length n, ap length (script_all n (subst T (sym e) tt))))
-    go false e = refl
-
 all_clear : (n : List ℕ) → leading (other 0) n ≡ length n → no_zero n ≡ true
 unfolding leading every
 all_clear [] e = refl
@@ -98,8 +87,14 @@ all_clear (b ∷ n) e = step (other 0 b) (all_clear n) e
     step true f e = f (omega arith)
     step false f e = absurd (omega arith)
 
-pub clear_is : (n : List ℕ) → length n ≤ 0 + leading (other 0) (drop 0 n) → no_zero n ≡ true
-clear_is n h = all_clear n (omega (arith, leading_le (other 0) n))
+-- none is found before the end where there is none
+pub clear_is : (n : List ℕ) {k : ℕ} → k ≡ 0 + leading (other 0) (drop 0 n) → eqb k (length n) ≡ no_zero n
+clear_is n {k} q = go (eqb k (length n)) (no_zero n) refl refl
+  where
+    go : (a b : Bool) → eqb k (length n) ≡ a → no_zero n ≡ b → a ≡ b
+    go true b e f = sym (all_clear n (omega (arith, q, eqb-true k (length n) e))) ∙ f
+    go false true e f = absurd (eqb-false k (length n) e (omega (arith, q, script_length n, ap length (script_all n (subst T (sym f) tt)))))
+    go false false e f = refl
 
 -- ---- a text
 
@@ -138,25 +133,25 @@ unfolding count code
 end_counted ts n = omega (arith, count_append ts (final n ∷ []))
 
 module _ (E : Edition) (l : Lists) (s : List ℕ) where
-  pub text_refused : {k p : ℕ} → scan_of s ≡ scanned.Refused k p → text_judgement E l s ≡ judged.Refused k p
+  pub text_refused : {k p : ℕ} → scan_of s ≡ scanned.Refused k p → text_judgement E l s ≡ rejected k p
   unfolding scan_of text_judgement tokens of_tokens
   text_refused {k} {p} h = go (scan 0 0 s) refl h
     where
       go₁ : (ts : List Token) → scan 0 0 s ≡ lexed ts → (b : Bool) → ltb most_tokens (count counts ts) ≡ b
           → ◌≡◌ {A = Scanned} (if b then scanned.Refused 7 (length s) else scanned.Counted (count counts ts) (end_of 0 ts)) (scanned.Refused k p)
-          → judged_of (length s) (last_end s) (of_tokens E l (length s) (tokens s)) ≡ judged.Refused k p
+          → judged_of (length s) (last_end s) (of_tokens E l (length s) (tokens s)) ≡ rejected k p
       go₁ ts q true r h =
           let x : ◌≡◌ {A = ℕ} 7 k = cc in
           let y : length s ≡ p = cc in
-          rw (q, end_counted ts (length s), r) (λ i. judged.Refused (x i) (y i))
+          rw (q, end_counted ts (length s), r) (λ i. rejected (x i) (y i))
       go₁ ts q false r h = absurd (let z : ◌≡◌ {A = ℕ} 0 1 = cc in omega arith)
 
-      go : (x : Lexed) → scan 0 0 s ≡ x → summary 0 0 (length s) x ≡ scanned.Refused k p → judged_of (length s) (last_end s) (of_tokens E l (length s) (tokens s)) ≡ judged.Refused k p
+      go : (x : Lexed) → scan 0 0 s ≡ x → summary 0 0 (length s) x ≡ scanned.Refused k p → judged_of (length s) (last_end s) (of_tokens E l (length s) (tokens s)) ≡ rejected k p
       go (lexed ts) q h = go₁ ts q (ltb most_tokens (count counts ts)) refl (rw zero-add at h)
       go (faulty f b) q h =
           let x : f ≡ k = cc in
           let y : b ≡ p = cc in
-          rw q (λ i. judged.Refused (x i) (y i))
+          rw q (λ i. rejected (x i) (y i))
 
   module _ {c e : ℕ} (P : Passed s c e) where
     pub text_clean : length s ≤ most_bytes → Clean s
@@ -166,28 +161,19 @@ module _ (E : Edition) (l : Lists) (s : List ℕ) where
     unfolding tokens of_tokens
     passed_is = rw (P.scanned, toks_all s P.scanned, end_counted P.toks (length s), P.few)
 
-    pub text_not : {k p : ℕ} → statements (language E l) (toks_at s 0) ≡ refused k p → text_judgement E l s ≡ judged.Refused k p
+    pub text_not : {k p : ℕ} → statements (language E l) (toks_at s 0) ≡ refused k p → text_judgement E l s ≡ rejected k p
     unfolding text_judgement
     text_not h = ap (judged_of (length s) (last_end s)) (passed_is ∙ h)
 
     pub text_good : {o d o' d' : List ℕ} {k n x : ℕ} → ReadsAll (statements (language E l) (toks_at s 0)) o d k n x o' d'
-        → text_judgement E l s ≡ judged.Good (record { bytes = length s; statements = k; records = n; tokens = c; last = e })
+        → text_judgement E l s ≡ good (record { bytes = length s; statements = k; records = n; tokens = c; last = e })
     unfolding text_judgement statements
     text_good {k = k} {n = n} R =
         let X : Text (language E l) s R.entries = record { toks = P.toks; scanned = P.scanned; reads = ap (from (language E l) 0) (sym (toks_all s P.scanned)) ∙ R.is } in
         let v : tokens_of R.entries ≡ c = sym (text_tokens (language E l) X) ∙ sym P.count_is in
         let w : last_end s ≡ e = ap (λ (x : Lexed). end_of 0 (listed x)) P.scanned ∙ sym P.end_is in
         ap (judged_of (length s) (last_end s)) (passed_is ∙ R.is)
-        ∙ (λ i. judged.Good (record { bytes = length s; statements = sym R.statements_are i; records = sym R.records_are i; tokens = v i; last = w i }))
-
--- ---- what the reader of all statements answers
-
-module _ (R : Outcome) (o d : List ℕ) (r : All) (o' d' : List ℕ) where
-  pub all_done : (k n x : ℕ) → r ≡ all.Done k n x → MeetsAll R o d r o' d' → ReadsAll R o d k n x o' d'
-  all_done k n x e h = rw e at h
-
-  pub all_not : (k b : ℕ) → r ≡ all.Refused k b → MeetsAll R o d r o' d' → R ≡ refused k b
-  all_not k b e h = rw e at h
+        ∙ (λ i. good (record { bytes = length s; statements = sym R.statements_are i; records = sym R.records_are i; tokens = v i; last = w i }))
 
 -- ---- good lists
 

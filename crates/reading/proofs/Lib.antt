@@ -1,6 +1,7 @@
 -- Laws of the definitions, for the layer above and for the proofs of this one.
 pub mod HoldLaws
 pub mod SignLaws
+pub mod KindLaws
 pub mod RowLaws
 pub mod ChainLaws
 pub mod RaiseLaws

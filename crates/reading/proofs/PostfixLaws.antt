@@ -4,6 +4,7 @@ use mathlib.Core.Path.{◌≡◌, refl, sym, ap, ◌∙◌, subst}
 use mathlib.Core.Bool.{Bool, true, false, ◌&&◌, ◌||◌, not, true≢false}
 use mathlib.Core.List.{List, []}
 use mathlib.Core.Option.{Option}
+use mathlib.Core.Logic.{◌⊎◌, inl, inr}
 use Prim.Native.Nat.{ℕ, zero, suc, ◌+◌, ◌-◌, ◌*◌, ◌≤◌, ◌<◌}
 use native.Mathlib.Omega.{arith}
 use lib.Dec.{eqb, leb}
@@ -16,18 +17,20 @@ use Rattle.tokens.specs.declared.cursor.Cursor.{Cursor}
 use Rattle.grammar.specs.Trees.{Tree, Trees, node, nil, ◌▹◌, fields, none as unused, parts, row}
 use Rattle.grammar.specs.Readers.{Out, ok, refused, Reader, bind, ◌>>=◌, ◌>>◌, Turn, again, done, follow, loop, give, fail, fail_at, read, the}
 use Rattle.grammar.specs.Grammar.{Language, binary, deeper, expression, arguments, method, method_of, index_of, postfix_turn, postfixes, calls, call_of, call, named, variable, name, spot, df, rate_index, currency_of, a_currency, equity, pair, primary}
-use Rattle.reading.specs.Rows.{put_row}
+use Rattle.reading.specs.Rows.{put_row, kind_number, kind_at}
+use Rattle.reading.specs.declared.records.Kind.{Kind}
+use Rattle.reading.specs.declared.records.Kind.TheVariants as kind
+use Rattle.reading.proofs.KindLaws.{kind_back}
 use Rattle.reading.specs.Calls.{call_kind, method_kind}
 use Rattle.reading.specs.Meets.{words_in, language_in, toks_at, token_at, Holds, Room, Ready, Follows, the_by, Takes, string_at, Quoted, Reads, Meets, Before}
 use Rattle.reading.specs.Signs.{postfix_sign}
-use Rattle.reading.specs.Turns.{inner, ReadsItems, MeetsItems, refusal_of, special_of, Unquoted, Tops, ReadsTurn, MeetsTurn, Onward, MeetsTurns}
+use Rattle.std.specs.Prelude.{Result, Ok, Err, Some}
+use Rattle.tokens.specs.declared.refusals.Ground.TheVariants as ground
+use Rattle.reading.specs.Faults.{fault_at, refused_by}
+use Rattle.reading.specs.Turns.{inner, ReadsItems, special_of, Unquoted, Tops, ReadsTurn, MeetsTurn, MeetsTurns}
+use Rattle.reading.specs.declared.answers.Fault.{Fault}
 use Rattle.reading.specs.declared.answers.Read.{Read}
-use Rattle.reading.specs.declared.answers.Read.TheVariants.{Done, Refused}
-use Rattle.reading.specs.declared.answers.Took.{Took}
-use Rattle.reading.specs.declared.answers.Took.TheVariants as took
 use Rattle.reading.specs.declared.answers.Texts.{Texts}
-use Rattle.reading.specs.declared.answers.Items.{Items}
-use Rattle.reading.specs.declared.answers.Items.TheVariants as part
 use Rattle.grammar.proofs.Laws.{loop_eq}
 use Rattle.grammar.proofs.GrammarLaws.{Each, nothing, just, Moves, expression_law, postfix_turn_law, primary_law}
 use Rattle.grammar.proofs.SizeLaws.{Sized, EachSized, moves_less, expression_size, arguments_spare, named_size}
@@ -38,34 +41,14 @@ use Rattle.reading.proofs.StepLaws.{meets_as, bind_refused, deeper_none, deeper_
 
 -- ---- answers of calls, as the code takes them apart
 
--- a refusal as the answer of a turn
-pub turn_refuses : (t : List ℕ) (R : Tree → Out (Turn Tree Tree)) (n m : ℕ) (o₁ o₂ : List ℕ) (c : Cursor) (r : Read) (k b : ℕ) → r ≡ Refused k b
-    → ((x : Tree) → R x ≡ refused k b) → MeetsTurns t R n m o₁ c r o₂
-turn_refuses t R n m o₁ o₂ c r k b e h = rw e (λ x o q. h x, tt)
-
 -- the answer to one turn is the answer to an equal one, that begins earlier
-pub turns_as : (t : List ℕ) (R R' : Tree → Out (Turn Tree Tree)) (n m : ℕ) (o₁ o₂ : List ℕ) (c d : Cursor) (r : Read) → ((x : Tree) → R x ≡ R' x)
+pub turns_as : (t : List ℕ) (R R' : Tree → Out (Turn Tree Tree)) (n m : ℕ) (o₁ o₂ : List ℕ) (c d : Cursor) (r : Result Read Fault) → ((x : Tree) → R x ≡ R' x)
     → length (toks_at t d.start) ≤ length (toks_at t c.start) → MeetsTurns t R' n m o₁ d r o₂ → MeetsTurns t R n m o₁ c r o₂
-turns_as t R R' n m o₁ o₂ c d (Done f j q) e l h = (
+turns_as t R R' n m o₁ o₂ c d (Ok r) e l h = (
   λ x o g. let z = h.0 x o g in record { tree = z.tree; is = e x ∙ z.is; tops = z.tops; holds = z.holds },
   (h.1.0, h.1.1, omega (arith, l, h.1.2)),
 )
-turns_as t R R' n m o₁ o₂ c d (Refused k b) e l h = (λ x o g. e x ∙ h.0 x o g, tt)
-
-pub onward_done : (t : List ℕ) (c : Cursor) (n : ℕ) (r : Read) (d : Cursor) (m q : ℕ) → r ≡ Done d m q → Onward t c n r
-    → Ready t d m × (n < m) × (length (toks_at t d.start) < length (toks_at t c.start))
-onward_done t c n r d m q e h = rw e at h
-
-pub took_next : (t : List ℕ) (k : ℕ) (c : Cursor) (a : Took) (d : Cursor) → a ≡ took.Next d → Takes t k c a → Follows t c d × (c.code ≡ k)
-took_next t k c a d e h = let g : Takes t k c (took.Next d) = (rw e at h) in (g.0, g.1)
-
--- a token that was not taken is of another kind
-pub took_not : (t : List ℕ) (c : Cursor) → Holds t c → (k : ℕ) (a : Took) (b : ℕ) → a ≡ took.Not b → Takes t k c a → c.code ≡ k → ⊥
-took_not t c h k a b e w q =
-    let g : the_by k (toks_at t c.start) ≡ refused 8 b = (rw e at w) in
-    let f : the_by k (toks_at t c.start) ≡ read (toks_at t c.start)
-    = peek_is h (λ u. if eqb k u.kind then read else fail 8) ∙ ap (λ (x : Bool). (if x then read else fail 8) (toks_at t c.start)) (eq-eqb k c.code (sym q)) in
-    reads_some h.left (final (length t)) b (ap read (sym (toks_are h)) ∙ (sym f ∙ g))
+turns_as t R R' n m o₁ o₂ c d (Err f) e l h = (λ x o g. e x ∙ h.0 x o g, tt)
 
 -- behind a token there is room for what there was room for
 pub ready_behind : (t : List ℕ) (c d : Cursor) (n k : ℕ) → Room t c n → Follows t c d → c.code ≡ suc k → Ready t d n
@@ -81,16 +64,10 @@ each_inner W (suc d) = just (primary_law W d)
 -- ---- an index, behind its `[`
 
 module _ (W : Language) (p : Reader Tree) (moves : Moves p) (short : Sized p) (l : ℕ) (t : List ℕ) (c : Cursor) (n m : ℕ) (o : List ℕ) where
-  index_no : (x : Tree) (k b : ℕ) → expression W p (toks_at t c.start) ≡ refused k b → index_of W p l x (toks_at t c.start) ≡ refused k b
-  unfolding ◌>>=◌
-  index_no x k b e = rw e
-
   -- the expression is refused
-  pub index_refuses : (o₁ : List ℕ) (r : Read) (k b : ℕ) → r ≡ Refused k b → Meets t (expression W p (toks_at t c.start)) m o r o₁
-      → MeetsTurns t (λ x. index_of W p l x (toks_at t c.start)) n m o c r o₁
-  index_refuses o₁ r k b e h =
-      let g : expression W p (toks_at t c.start) ≡ refused k b = (rw e at h) in
-      turn_refuses t (λ x. index_of W p l x (toks_at t c.start)) n m o o₁ c r k b e (λ x. index_no x k b g)
+  pub index_refuses : (e : Fault) → expression W p (toks_at t c.start) ≡ refused_by e → (x : Tree) → index_of W p l x (toks_at t c.start) ≡ refused_by e
+  unfolding ◌>>=◌
+  index_refuses e h x = rw h
 
   module _ (d : Cursor) (k q : ℕ) (o₁ : List ℕ) (r : Reads t (expression W p (toks_at t c.start)) m o d k q o₁) where
     index_at : (x : Tree) → index_of W p l x (toks_at t c.start) ≡ (the "]" >> give (again (binary 28 l x r.tree))) (toks_at t d.start)
@@ -98,16 +75,11 @@ module _ (W : Language) (p : Reader Tree) (moves : Moves p) (short : Sized p) (l
     index_at x = rw r.is
 
     -- no `]`
-    pub index_open : (a : Took) (b : ℕ) → a ≡ took.Not b → Takes t 45 d a → (o₂ : List ℕ)
-        → MeetsTurns t (λ x. index_of W p l x (toks_at t c.start)) n m o c (Refused 8 d.start) o₂
-    unfolding code
-    index_open a b e w o₂ =
-        (λ x z h. index_at x ∙ the_next_not r.holds "]" (λ y. took_not t d r.holds 45 a b e w (sym y)) _, tt)
+    pub index_open : (e : Fault) → Takes t 45 d (Err e) → (x : Tree) → index_of W p l x (toks_at t c.start) ≡ refused_by e
+    unfolding code ◌>>◌ ◌>>=◌ the
+    index_open e w x = index_at x ∙ (rw w)
 
-    module _ (room : Room t c m) (low : n < m) (a : Took) (e : Cursor) (w : a ≡ took.Next e) (g : Takes t 45 d a) where
-      follows : Follows t d e × (d.code ≡ 45)
-      follows = took_next t 45 d a e w g
-
+    module _ (room : Room t c m) (low : n < m) (e : Cursor) (follows : Takes t 45 d (Ok e)) where
       some_left : d.code ≡ 0 → ⊥
       some_left z = omega (arith, z, follows.1)
 
@@ -119,7 +91,7 @@ module _ (W : Language) (p : Reader Tree) (moves : Moves p) (short : Sized p) (l
           omega (arith, within, f, v, room, low, r.counts)
 
       pub index_reads : (o₂ : List ℕ) → o₂ ≡ put_row o₁ k (row 28 (k - n + 1) 2 unused l)
-          → MeetsTurns t (λ x. index_of W p l x (toks_at t c.start)) n m o c (Done e (k + 1) 0) o₂
+          → MeetsTurns t (λ x. index_of W p l x (toks_at t c.start)) n m o c (Ok (record { at = e; records = k + 1; string = 0 })) o₂
       unfolding code give
       index_reads o₂ u = (
         λ x z h.
@@ -166,15 +138,11 @@ module _ (l : ℕ) (x : Tree) (u : Token) (es : Trees) (ts : List Token) where
 
 module _ (W : Language) (I : Option (Reader Tree)) (sizes-in : EachSized I) (l : ℕ) (t : List ℕ) (c : Cursor) (h : Holds t c) (n m : ℕ) (o : List ℕ) where
   -- no name
-  pub method_unnamed : (a : Took) (b : ℕ) → a ≡ took.Not b → Takes t 1 c a → (o₂ : List ℕ)
-      → MeetsTurns t (λ x. method_of W I l x (toks_at t c.start)) n m o c (Refused 8 c.start) o₂
-  unfolding code
-  method_unnamed a b e w o₂ = (λ x z g. the_then_not h "name" (λ y. took_not t c h 1 a b e w (sym y)) _, tt)
+  pub method_unnamed : (e : Fault) → Takes t 1 c (Err e) → (x : Tree) → method_of W I l x (toks_at t c.start) ≡ refused_by e
+  unfolding code ◌>>◌ ◌>>=◌ the
+  method_unnamed e w x = rw w
 
-  module _ (a : Took) (d : Cursor) (w : a ≡ took.Next d) (g : Takes t 1 c a) where
-    named_then : Follows t c d × (c.code ≡ 1)
-    named_then = took_next t 1 c a d w g
-
+  module _ (d : Cursor) (named_then : Takes t 1 c (Ok d)) where
     some_name : c.code ≡ 0 → ⊥
     some_name z = omega (arith, z, named_then.1)
 
@@ -186,16 +154,10 @@ module _ (W : Language) (I : Option (Reader Tree)) (sizes-in : EachSized I) (l :
     unfolding code
     method_at x = the_then h named_then.0 some_name "name" (sym named_then.1) _
 
-    method_no : (x : Tree) (k b : ℕ) → arguments W I (toks_at t d.start) ≡ refused k b → method_of W I l x (toks_at t c.start) ≡ refused k b
-    unfolding ◌>>=◌
-    method_no x k b e = method_at x ∙ (rw e)
-
     -- the arguments are refused
-    pub method_refuses : (o₁ : List ℕ) (i : Items) (r : Read) (k b : ℕ) → i ≡ part.Refused k b → r ≡ refusal_of i → MeetsItems t (arguments W I (toks_at t d.start)) m o i o₁
-        → MeetsTurns t (λ x. method_of W I l x (toks_at t c.start)) n m o c r o₁
-    method_refuses o₁ i r k b e q j =
-        let f : arguments W I (toks_at t d.start) ≡ refused k b = (rw e at j) in
-        turn_refuses t (λ x. method_of W I l x (toks_at t c.start)) n m o o₁ c r k b (q ∙ ap refusal_of e) (λ x. method_no x k b f)
+    pub method_refuses : (e : Fault) → arguments W I (toks_at t d.start) ≡ refused_by e → (x : Tree) → method_of W I l x (toks_at t c.start) ≡ refused_by e
+    unfolding ◌>>=◌
+    method_refuses e h x = method_at x ∙ (rw h)
 
     module _ (e : Cursor) (k count : ℕ) (τ : Texts) (o₁ : List ℕ) (j : ReadsItems t (arguments W I (toks_at t d.start)) m o e k count τ o₁) where
       method_in : (x : Tree) → method_of W I l x (toks_at t c.start) ≡ (method l x (token_at t c) j.items >>= λ y. give (again y)) (toks_at t e.start)
@@ -203,12 +165,12 @@ module _ (W : Language) (I : Option (Reader Tree)) (sizes-in : EachSized I) (l :
       method_in x = method_at x ∙ (rw j.is)
 
       -- no such method
-      pub method_none : (κ : ℕ) → κ ≡ method_kind (token_at t c).text count → κ ≡ 0 → (o₂ : List ℕ)
-          → MeetsTurns t (λ x. method_of W I l x (toks_at t c.start)) n m o c (Refused 10 c.start) o₂
+      pub method_none : 0 ≡ method_kind (token_at t c).text count → (x : Tree) → method_of W I l x (toks_at t c.start) ≡ refused 10 c.start
       unfolding ◌>>=◌
-      method_none κ q z o₂ =
-          let v : method_kind (token_at t c).text (parts j.items) ≡ 0 = ap (method_kind (token_at t c).text) (sym j.parts_are) ∙ (sym q ∙ z) in
-          (λ x s g. let y = (method_yields l x (token_at t c) j.items (toks_at t e.start)).1 v in method_in x ∙ (rw y), tt)
+      method_none q x =
+          let v : method_kind (token_at t c).text (parts j.items) ≡ 0 = ap (method_kind (token_at t c).text) (sym j.parts_are) ∙ sym q in
+          let y = (method_yields l x (token_at t c) j.items (toks_at t e.start)).1 v in
+          method_in x ∙ (rw y)
 
       module _ (room : Room t c m) (low : n < m) where
         pub method_numbers : (n < k) × (k < 50000) × (k + 1 + 3 * length (toks_at t e.start) ≤ 50000) × (length (toks_at t e.start) < length (toks_at t c.start)) × (count < 50000)
@@ -217,7 +179,7 @@ module _ (W : Language) (I : Option (Reader Tree)) (sizes-in : EachSized I) (l :
             omega (arith, spare, named_then.0.fewer some_name, room, low, j.counts, j.parts_are, parts_few j.items)
 
         pub method_reads : (κ : ℕ) → κ ≡ method_kind (token_at t c).text count → (κ ≡ 0 → ⊥) → (o₂ : List ℕ) → o₂ ≡ put_row o₁ k (row κ (k - n + 1) (count + 1) unused l)
-            → MeetsTurns t (λ x. method_of W I l x (toks_at t c.start)) n m o c (Done e (k + 1) 0) o₂
+            → MeetsTurns t (λ x. method_of W I l x (toks_at t c.start)) n m o c (Ok (record { at = e; records = k + 1; string = 0 })) o₂
         unfolding ◌>>=◌ give
         method_reads κ q z o₂ u =
             (λ x s g. turn x s g, ((j.holds, method_numbers.2), omega (arith, method_numbers), method_numbers.3))
@@ -268,8 +230,8 @@ module _ (W : Language) (dep l : ℕ) (t : List ℕ) (c d : Cursor) (h : Holds t
     unfolding postfix_turn code
     postfix_in x = peek_is h _ ∙ (rw (ne_eqb 47 c.code (λ z. other (sym z)), eq-eqb 44 c.code (sym here)))
 
-    pub postfix_low : dep ≡ 0 → (n m : ℕ) (o o₂ : List ℕ) → MeetsTurns t (λ x. postfix_turn W (inner W dep) l x (toks_at t c.start)) n m o c (Refused 15 c.start) o₂
-    postfix_low e n m o o₂ = (λ x z g. postfix_in x ∙ deeper_none (token_at t c) W dep _ _ e, tt)
+    pub postfix_low : dep ≡ 0 → (x : Tree) → postfix_turn W (inner W dep) l x (toks_at t c.start) ≡ refused 15 c.start
+    postfix_low e x = postfix_in x ∙ deeper_none (token_at t c) W dep _ _ e
 
     pub postfix_index : (dep ≡ 0 → ⊥) → (x : Tree) → postfix_turn W (inner W dep) l x (toks_at t c.start) ≡ index_of W (primary W (dep - 1)) l x (toks_at t d.start)
     postfix_index z x = postfix_in x ∙ (deeper_some (token_at t c) W dep _ _ z ∙ read_next w (λ y. omega (arith, y, here)) _)
@@ -329,30 +291,38 @@ module _ (W : Language) (I : Option (Reader Tree)) (each : Each I) (l : ℕ) (t 
         or_right true b e = absurd (true≢false e)
         or_right false b e = e
 
-    module _ (r : Read) (o₂ : List ℕ) (turn : MeetsTurns t (λ x. postfix_turn W I l x (toks_at t c.start)) n m o' c r o₂) where
-      g : MeetsTurn t (postfix_turn W I l ch.tree (toks_at t c.start)) n o r o₂
-      g = turn.0 ch.tree o ch.tops
+    -- a turn is refused
+    pub post_refused : (e : Fault) → ((x : Tree) (s : List ℕ) → Tops n s x m o' → postfix_turn W I l x (toks_at t c.start) ≡ refused_by e) → R ≡ refused_by e
+    post_refused e turn = turn_of ∙ ap (follow (loop (postfix_turn W I l))) (turn ch.tree o ch.tops)
 
-      pub post_refused : (k b : ℕ) → r ≡ Refused k b → Meets t R n o r o₂
-      post_refused k b e = rw e (turn_of ∙ ap (follow (loop (postfix_turn W I l))) f)
-        where
-          f : postfix_turn W I l ch.tree (toks_at t c.start) ≡ refused k b
-          f = rw e at g
-
-      pub post_more : (d : Cursor) (j q : ℕ) → r ≡ Done d j q → PostChain W I l t R n o d j o₂
-      post_more d j q e = record { tree = f.tree; is = turn_of ∙ (rw f.is); tops = f.tops }
-        where
-          f : ReadsTurn t (postfix_turn W I l ch.tree (toks_at t c.start)) n o d j o₂
-          f = rw e at g
+    pub post_more : (r : Read) (o₂ : List ℕ) → MeetsTurns t (λ x. postfix_turn W I l x (toks_at t c.start)) n m o' c (Ok r) o₂ → PostChain W I l t R n o r.at r.records o₂
+    post_more r o₂ turn = let f = turn.0 ch.tree o ch.tops in record { tree = f.tree; is = turn_of ∙ (rw f.is); tops = f.tops }
 
 -- ---- names
 
-pub above : (k : ℕ) → (k ≡ 0 → ⊥) → 1 ≤ k
-above zero z = absurd (z refl)
-above (suc k) z = omega arith
-
 call_low : (w : List ℕ) → (call_of w calls).0 < 32
 call_low w = row_says (λ c. c.0 < 32) w calls (omega arith) (omega arith, (omega arith, (omega arith, (omega arith, (omega arith, (omega arith, (omega arith, (omega arith, tt))))))))
+
+-- the kinds of the calls that are read on their own
+pub call_kind_high : (k : Kind) → (k ≡ kind.Spot) ⊎ ((k ≡ kind.Df) ⊎ (k ≡ kind.RateIndex)) → 32 ≤ kind_number k
+call_kind_high k (inl e) = rw e (omega arith)
+call_kind_high k (inr (inl e)) = rw e (omega arith)
+call_kind_high k (inr (inr e)) = rw e (omega arith)
+
+-- the kind of any other call
+pub call_kind_low : (k : Kind) (w : List ℕ) → kind_number k ≡ call_kind w → (k ≡ kind.Spot → ⊥) → (k ≡ kind.Df → ⊥) → (k ≡ kind.RateIndex → ⊥) → kind_number k < 32
+unfolding call_kind
+call_kind_low k w e s d r = go (leb 1 (call_of w calls).0) (same (bytes "Spot") w) (same (bytes "Df") w) (same (bytes "RateIndex") w) e
+  where
+    is : (j : Kind) → kind_number k ≡ kind_number j → k ≡ j
+    is j q = let p : Some k ≡ Some j = sym (kind_back k) ∙ (ap kind_at q ∙ kind_back j) in cc
+
+    go : (a b x y : Bool) → kind_number k ≡ (if a then (call_of w calls).0 else if b then 32 else if x then 34 else if y then 35 else 0) → kind_number k < 32
+    go true b x y q = omega (arith, q, call_low w)
+    go false true x y q = absurd (s (is kind.Spot q))
+    go false false true y q = absurd (d (is kind.Df q))
+    go false false false true q = absurd (r (is kind.RateIndex q))
+    go false false false false q = omega (arith, q)
 
 module _ (W : Language) (I : Option (Reader Tree)) (u : Token) (ts : List Token) where
   abbrev Named : ℕ → Reader Tree → Type 0
@@ -399,12 +369,12 @@ module _ (s₂ : Bool) (res cur cou : List ℕ) (I : Option (Reader Tree)) (t : 
   Facts = name_by (language_in s₂ res cur cou) I (token_at t c) (toks_at t d.start)
 
   -- a variable's name is refused
-  pub name_refuses : κ ≡ 0 → (o₁ : List ℕ) (r : Read) (k b : ℕ) → r ≡ Refused k b → Meets t (named (words_in res [] []) (token_at t c) (toks_at t d.start)) n o r o₁
-      → Meets t (name (language_in s₂ res cur cou) I (token_at t c) (toks_at t d.start)) n o r o₁
-  name_refuses z o₁ r k b e h =
-      let f : named (words_in res [] []) (token_at t c) (toks_at t d.start) ≡ refused k b = (rw e at h) in
-      let g : named (language_in s₂ res cur cou) (token_at t c) (toks_at t d.start) ≡ refused k b = ap (λ (R : Reader Tree). R (toks_at t d.start)) (sym named_same) ∙ f in
-      rw e (Facts.0 (sym ki ∙ z) ∙ bind_refused (named (language_in s₂ res cur cou) (token_at t c)) (postfixes (language_in s₂ res cur cou) I c.start) (toks_at t d.start) k b g)
+  pub name_refuses : κ ≡ 0 → (e : Fault) → named (words_in res [] []) (token_at t c) (toks_at t d.start) ≡ refused_by e
+      → name (language_in s₂ res cur cou) I (token_at t c) (toks_at t d.start) ≡ refused_by e
+  unfolding ◌>>=◌
+  name_refuses z e h =
+      let g : named (language_in s₂ res cur cou) (token_at t c) (toks_at t d.start) ≡ refused_by e = ap (λ (R : Reader Tree). R (toks_at t d.start)) (sym named_same) ∙ h in
+      Facts.0 (sym ki ∙ z) ∙ (rw g)
 
   module _ (f : Cursor) (m q : ℕ) (o₁ : List ℕ) (r : Reads t (named (words_in res [] []) (token_at t c) (toks_at t d.start)) n o f m q o₁) where
     pub name_numbers : Room t c n → Follows t c d → c.code ≡ 1 → Ready t f m × (n < m)
@@ -414,7 +384,7 @@ module _ (s₂ : Bool) (res cur cou : List ℕ) (I : Option (Reader Tree)) (t : 
         ((r.holds, omega (arith, l, v, room, r.counts)), omega (arith, r.counts, size_some r.tree))
 
     -- a variable with postfixes
-    pub name_reads : κ ≡ 0 → (x : Read) (o₂ : List ℕ) → ((y : Tree) (s : List ℕ) → Tops n s y m o₁ → Meets t (postfixes (language_in s₂ res cur cou) I c.start y (toks_at t f.start)) n s x o₂)
+    pub name_reads : κ ≡ 0 → (x : Result Read Fault) (o₂ : List ℕ) → ((y : Tree) (s : List ℕ) → Tops n s y m o₁ → Meets t (postfixes (language_in s₂ res cur cou) I c.start y (toks_at t f.start)) n s x o₂)
         → Meets t (name (language_in s₂ res cur cou) I (token_at t c) (toks_at t d.start)) n o x o₂
     unfolding ◌>>=◌
     name_reads z x o₂ h =
@@ -428,7 +398,7 @@ module _ (s₂ : Bool) (res cur cou : List ℕ) (I : Option (Reader Tree)) (t : 
         (Facts.0 (sym ki ∙ z) ∙ ap (bind (postfixes (language_in s₂ res cur cou) I c.start)) g) (h r.tree o tops)
 
   -- Spot, Df, RateIndex
-  pub name_special : 32 ≤ κ → (x : Read) (o₂ : List ℕ) → Meets t (special_of (words_in [] cur []) κ c.start (toks_at t d.start)) n o x o₂
+  pub name_special : 32 ≤ κ → (x : Result Read Fault) (o₂ : List ℕ) → Meets t (special_of (words_in [] cur []) κ c.start (toks_at t d.start)) n o x o₂
       → Meets t (name (language_in s₂ res cur cou) I (token_at t c) (toks_at t d.start)) n o x o₂
   name_special l x o₂ h =
       let s : special_of (language_in s₂ res cur cou) κ c.start ≡ special_of (words_in [] cur []) κ c.start
@@ -439,19 +409,9 @@ module _ (s₂ : Bool) (res cur cou : List ℕ) (I : Option (Reader Tree)) (t : 
       (g ∙ ap (λ (p : Reader Tree). p (toks_at t d.start)) s) h
 
   -- an ordinary call
-  pub name_call : (κ ≡ 0 → ⊥) → κ < 32 → (x : Read) (o₂ : List ℕ)
+  pub name_call : 1 ≤ κ → κ < 32 → (x : Result Read Fault) (o₂ : List ℕ)
       → Meets t (call (language_in s₂ res cur cou) I (token_at t c) (call_of (token_at t c).text calls) (toks_at t d.start)) n o x o₂
       → Meets t (name (language_in s₂ res cur cou) I (token_at t c) (toks_at t d.start)) n o x o₂
   name_call z l x o₂ h =
       meets_as t (name (language_in s₂ res cur cou) I (token_at t c) (toks_at t d.start)) (call (language_in s₂ res cur cou) I (token_at t c) (call_of (token_at t c).text calls) (toks_at t d.start)) n o x o₂
-      (Facts.2 (omega (arith, ki, above κ z)) (omega (arith, l, ki))) h
-
--- ---- a test that the code negates
-
-pub sign_no : (b s : Bool) → b ≡ s → not b ≡ true → s ≡ false
-sign_no true s e n = absurd (true≢false (sym n))
-sign_no false s e n = sym e
-
-pub sign_yes : (b s : Bool) → b ≡ s → not b ≡ false → s ≡ true
-sign_yes true s e n = sym e
-sign_yes false s e n = absurd (true≢false n)
+      (Facts.2 (omega (arith, ki, z)) (omega (arith, l, ki))) h

@@ -12,19 +12,16 @@ use Rattle.tokens.specs.Text.{script}
 use Rattle.tokens.specs.Names.{Lists}
 use Rattle.tokens.proofs.Outcomes.{one_outcome}
 use Rattle.grammar.specs.Sizes.{record_width, entry_width, most_records, most_statements, record_room, statement_room}
-use Rattle.grammar.specs.Grammar.{Edition, one, two}
+use Rattle.grammar.specs.Grammar.{Edition}
 use Rattle.grammar.specs.Script.{Entry, Outcome, accepted, refused, fitting, read_script, reading_in, number_of, reading, statements, language, nodes, tokens_of}
 use Rattle.grammar.specs.Words.{words_of, row_of, row_words, directory_of, latest_of}
 use Rattle.reading.specs.Rows.{rows, put_rows, put_entries}
-use Rattle.reading.specs.Meets.{toks_at, Few}
-use Rattle.reading.specs.Scripts.{Clean, rows_in, entries_in, MeetsAll}
-use Rattle.reading.specs.declared.answers.All.{All}
-use Rattle.reading.specs.declared.answers.All.TheVariants as all
+use Rattle.reading.specs.Meets.{edition_by, toks_at, Few}
+use Rattle.reading.specs.Scripts.{Clean, rows_in, entries_in, ReadsAll}
 use Rattle.reading.specs.declared.judging.Counts.{Counts}
-use Rattle.reading.specs.declared.judging.Judged.TheVariants as judged
 use Rattle.reading.specs.declared.reading.Answer.{Answer}
-use Rattle.reading.specs.Judging.{judged_of, last_end, judgement}
-use Rattle.reading.specs.Reading.{accepted_with, refused_at, answer_of, answer_to, latest_read, over, left_by, LeavesBy, LeavesIn, Leaves}
+use Rattle.reading.specs.Judging.{good, rejected, judged_of, last_end, judgement}
+use Rattle.reading.specs.Reading.{accepted_with, refused_at, answer_of, answer_to, over, left_by, LeavesBy, LeavesIn, Leaves}
 use Rattle.grammar.proofs.Refusals.{edition_first}
 use Rattle.grammar.proofs.AmendBytes.{Accepted, read_accepted, script_no_zero, read_script_lem}
 use Rattle.grammar.proofs.WordLaws.{words_length, directory_length}
@@ -88,25 +85,25 @@ room_most most n = go (ltb most n) refl
 
 -- ---- what the reader of all statements wrote, where they can be read
 
-all_wrote : {R : Outcome} (o d : List ℕ) (r : All) {o' d' : List ℕ} (es : List Entry) → R ≡ accepted es → record_width * nodes es ≤ length o → MeetsAll R o d r o' d'
-    → (o' ≡ put_rows o 0 (rows_in es)) × (d' ≡ put_entries d 0 (entries_in es)) × (latest_read r ≡ latest_of (map row_of es))
-all_wrote o d (all.Done k n x) es e h X =
+all_wrote : {R : Outcome} (o d : List ℕ) {k n x : ℕ} {o' d' : List ℕ} (es : List Entry) → R ≡ accepted es → record_width * nodes es ≤ length o → ReadsAll R o d k n x o' d'
+    → (o' ≡ put_rows o 0 (rows_in es)) × (d' ≡ put_entries d 0 (entries_in es)) × (x ≡ latest_of (map row_of es))
+all_wrote o d {n = n} es e h X =
+    let both : accepted X.entries ≡ accepted es = sym X.is ∙ e in
     let same : X.entries ≡ es = cc in
     let fits : record_width * n ≤ length o = omega (arith, X.records_are, ap nodes same) in (
       X.records ∙ ap (λ fs. put_rows o 0 (rows_in fs)) same,
       X.directory fits ∙ ap (λ fs. put_entries d 0 (entries_in fs)) same,
       X.latest fits ∙ ap (λ fs. latest_of (map row_of fs)) same,
     )
-all_wrote o d (all.Refused k b) es e h X = absurd (let z : ◌≡◌ {A = ℕ} 0 1 = cc in omega arith)
 
 module _ (E : Edition) (l : Lists) (bs : List ℕ) where
   -- ---- what a judgement says of the script
 
-  pub judged_not : {k p : ℕ} → judgement E l bs ≡ judged.Refused k p → read_script E l bs ≡ refused k p
+  pub judged_not : {k p : ℕ} → judgement E l bs ≡ rejected k p → read_script E l bs ≡ refused k p
   unfolding judgement
   judged_not {k} {p} h = go (read_script E l bs) refl h
     where
-      go : (x : Outcome) → read_script E l bs ≡ x → judged_of (length (script bs)) (last_end (script bs)) x ≡ judged.Refused k p → read_script E l bs ≡ refused k p
+      go : (x : Outcome) → read_script E l bs ≡ x → judged_of (length (script bs)) (last_end (script bs)) x ≡ rejected k p → read_script E l bs ≡ refused k p
       go (accepted es) e h = absurd (let z : ◌≡◌ {A = ℕ} 0 1 = cc in omega arith)
       go (refused j q) e h =
           let x : j ≡ k = cc in
@@ -116,18 +113,18 @@ module _ (E : Edition) (l : Lists) (bs : List ℕ) where
   pub record Good (c : Counts) : Type 0 where
     pub entries : List Entry
     pub reads : read_script E l bs ≡ accepted entries
-    pub counts_are : judged.Good c ≡ judged_of (length (script bs)) (last_end (script bs)) (accepted entries)
+    pub counts_are : good c ≡ judged_of (length (script bs)) (last_end (script bs)) (accepted entries)
     pub bytes_are : c.bytes ≡ length (script bs)
     pub statements_are : c.statements ≡ length entries
     pub records_are : c.records ≡ nodes entries
     pub tokens_are : c.tokens ≡ tokens_of entries
     pub last_are : c.last ≡ last_end (script bs)
 
-  pub judged_good : {c : Counts} → judgement E l bs ≡ judged.Good c → Good c
+  pub judged_good : {c : Counts} → judgement E l bs ≡ good c → Good c
   unfolding judgement
   judged_good {c} h = go (read_script E l bs) refl h
     where
-      go : (x : Outcome) → read_script E l bs ≡ x → judged_of (length (script bs)) (last_end (script bs)) x ≡ judged.Good c → Good c
+      go : (x : Outcome) → read_script E l bs ≡ x → judged_of (length (script bs)) (last_end (script bs)) x ≡ good c → Good c
       go (accepted es) e h = record { entries = es; reads = e; counts_are = sym h; bytes_are = cc; statements_are = cc; records_are = cc; tokens_are = cc; last_are = cc }
       go (refused j q) e h = absurd (let z : ◌≡◌ {A = ℕ} 0 1 = cc in omega arith)
 
@@ -151,18 +148,22 @@ module _ (E : Edition) (l : Lists) (bs : List ℕ) where
     unfolding statements
     reads_are = ap (λ (s : List ℕ). statements (language E l) (toks_at s 0)) text_is ∙ ap (statements (language E l)) (toks_all (script bs) admits.text.scanned) ∙ admits.text.reads
 
+    -- what was judged good is not refused when it is read again
+    pub never_refused : {k p : ℕ} → statements (language E l) (toks_at (take c.bytes bs) 0) ≡ refused k p → ⊥
+    never_refused {k} {p} h = let z : accepted G.entries ≡ refused k p = sym reads_are ∙ h in cc
+
   module _ (o d : List ℕ) where
-    leaves_refused : {r : Answer} {k p : ℕ} → r ≡ refused_at bs k p → reading_in E l (record_room (length o)) (statement_room (length d)) bs ≡ refused k p → LeavesIn E l bs o d r o d
-    leaves_refused e h = record {
-      answer = e ∙ sym (ap (answer_to (number_of E) bs) h);
+    leaves_refused : {k p : ℕ} → reading_in E l (record_room (length o)) (statement_room (length d)) bs ≡ refused k p → LeavesIn E l bs o d (refused_at bs k p) o d
+    leaves_refused h = record {
+      answer = sym (ap (answer_to (number_of E) bs) h);
       records = sym (ap (left_by words_of o) h);
       directory = sym (ap (left_by directory_of d) h);
     }
 
     -- 1 to 15
-    pub leaves_not : {r : Answer} {k p : ℕ} → r ≡ refused_at bs k p → judgement E l bs ≡ judged.Refused k p → LeavesIn E l bs o d r o d
+    pub leaves_not : {k p : ℕ} → judgement E l bs ≡ rejected k p → LeavesIn E l bs o d (refused_at bs k p) o d
     unfolding reading_in
-    leaves_not e h = leaves_refused e (ap (fitting (length (script bs)) (record_room (length o)) (statement_room (length d))) (judged_not h))
+    leaves_not h = leaves_refused (ap (fitting (length (script bs)) (record_room (length o)) (statement_room (length d))) (judged_not h))
 
     module _ {c : Counts} (G : Good c) where
       into : reading_in E l (record_room (length o)) (statement_room (length d)) bs ≡ fitting c.bytes (record_room (length o)) (statement_room (length d)) (accepted G.entries)
@@ -170,31 +171,31 @@ module _ (E : Edition) (l : Lists) (bs : List ℕ) where
       into = rw (G.reads, G.bytes_are)
 
       -- 16
-      pub leaves_wide : {r : Answer} {m : ℕ} → r ≡ refused_at bs 16 c.bytes → m ≡ record_room (length o) → m < c.records → LeavesIn E l bs o d r o d
-      leaves_wide e p h =
+      pub leaves_wide : {m : ℕ} → m ≡ record_room (length o) → m < c.records → LeavesIn E l bs o d (refused_at bs 16 c.bytes) o d
+      leaves_wide p h =
           let full : ltb (record_room (length o)) (nodes G.entries) ≡ true = lt-ltb (record_room (length o)) (nodes G.entries) (omega (arith, p, h, G.records_are)) in
-          leaves_refused e (into ∙ rw full)
+          leaves_refused (into ∙ rw full)
 
-      pub leaves_many : {r : Answer} {m n : ℕ} → r ≡ refused_at bs 16 c.bytes → m ≡ record_room (length o) → c.records ≤ m → n ≡ statement_room (length d) → n < c.statements
-          → LeavesIn E l bs o d r o d
-      leaves_many e p h q g =
+      pub leaves_many : {m n : ℕ} → m ≡ record_room (length o) → c.records ≤ m → n ≡ statement_room (length d) → n < c.statements
+          → LeavesIn E l bs o d (refused_at bs 16 c.bytes) o d
+      leaves_many p h q g =
           let fits : ltb (record_room (length o)) (nodes G.entries) ≡ false = le-ltb (record_room (length o)) (nodes G.entries) (omega (arith, p, h, G.records_are)) in
           let full : ltb (statement_room (length d)) (length G.entries) ≡ true = lt-ltb (statement_room (length d)) (length G.entries) (omega (arith, q, g, G.statements_are)) in
-          leaves_refused e (into ∙ rw (fits, full))
+          leaves_refused (into ∙ rw (fits, full))
 
       -- accepted
       pub leaves_read : {r : Answer} {m n x : ℕ} → r ≡ accepted_with (number_of E) c x → m ≡ record_room (length o) → c.records ≤ m → n ≡ statement_room (length d) → c.statements ≤ n
-          → (a : All) {o' d' : List ℕ} → x ≡ latest_read a → MeetsAll (statements (language E l) (toks_at (take c.bytes bs) 0)) o d a o' d' → LeavesIn E l bs o d r o' d'
-      leaves_read e p h q g a y M =
+          → {k i : ℕ} {o' d' : List ℕ} → ReadsAll (statements (language E l) (toks_at (take c.bytes bs) 0)) o d k i x o' d' → LeavesIn E l bs o d r o' d'
+      leaves_read e p h q g M =
           let fits : ltb (record_room (length o)) (nodes G.entries) ≡ false = le-ltb (record_room (length o)) (nodes G.entries) (omega (arith, p, h, G.records_are)) in
           let few : ltb (statement_room (length d)) (length G.entries) ≡ false = le-ltb (statement_room (length d)) (length G.entries) (omega (arith, q, g, G.statements_are)) in
           let is : reading_in E l (record_room (length o)) (statement_room (length d)) bs ≡ accepted G.entries = into ∙ rw (fits, few) in
           let record_fits : record_width * nodes G.entries ≤ length o = omega (arith, room_in most_records (length o / record_width), p, h, G.records_are) in
-          let W = all_wrote o d a G.entries (reads_are G) record_fits M in
+          let W = all_wrote o d G.entries (reads_are G) record_fits M in
           let entry_fits : entry_width * length G.entries ≤ length d = omega (arith, room_in most_statements (length d / entry_width), q, g, G.statements_are) in
           record {
             answer =
-                e ∙ ap (accepted_with (number_of E) c) (y ∙ W.2) ∙ ap (answer_of (number_of E) bs (latest_of (map row_of G.entries))) G.counts_are
+                e ∙ ap (accepted_with (number_of E) c) W.2 ∙ ap (answer_of (number_of E) bs (latest_of (map row_of G.entries))) G.counts_are
                 ∙ sym (ap (answer_to (number_of E) bs) is);
             records = W.0 ∙ put_records o G.entries record_fits ∙ sym (ap (left_by words_of o) is);
             directory = W.1 ∙ put_directory d G.entries entry_fits ∙ sym (ap (left_by directory_of d) is);
@@ -203,20 +204,17 @@ module _ (E : Edition) (l : Lists) (bs : List ℕ) where
 -- ---- by the edition's number
 
 module _ (l : Lists) (bs o d : List ℕ) {e : ℕ} {r : Answer} {o' d' : List ℕ} where
-  pub leaves_one : e ≡ 1 → LeavesIn one l bs o d r o' d' → Leaves e l bs o d r o' d'
+  pub leaves_named : (second : Bool) → e ≡ number_of (edition_by second) → LeavesIn (edition_by second) l bs o d r o' d' → Leaves e l bs o d r o' d'
   unfolding reading
-  leaves_one z X = rw z X
-
-  pub leaves_two : e ≡ 2 → LeavesIn two l bs o d r o' d' → Leaves e l bs o d r o' d'
-  unfolding reading
-  leaves_two z X = rw z X
+  leaves_named false z X = rw z X
+  leaves_named true z X = rw z X
 
 -- 26
-pub leaves_other : (l : Lists) (bs o d : List ℕ) {e : ℕ} {r : Answer} → (e ≡ 1 → ⊥) → (e ≡ 2 → ⊥) → r ≡ refused_at bs 26 0 → Leaves e l bs o d r o d
-leaves_other l bs o d {e} {r} x y z =
+pub leaves_other : (l : Lists) (bs o d : List ℕ) {e : ℕ} → (e ≡ 1 → ⊥) → (e ≡ 2 → ⊥) → Leaves e l bs o d (refused_at bs 26 0) o d
+leaves_other l bs o d {e} x y =
     let h = edition_first e l bs (record_room (length o)) (statement_room (length d)) (ne_eqb e 1 x) (ne_eqb e 2 y) in
     record {
-      answer = z ∙ sym (ap (answer_to e bs) h);
+      answer = sym (ap (answer_to e bs) h);
       records = sym (ap (left_by words_of o) h);
       directory = sym (ap (left_by directory_of d) h);
     }

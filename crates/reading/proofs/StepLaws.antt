@@ -17,8 +17,8 @@ use Rattle.tokens.specs.Names.{names}
 use Rattle.tokens.specs.Lexing.{advanced}
 use Rattle.tokens.specs.Tokens.{Token, code}
 use Rattle.tokens.specs.declared.cursor.Cursor.{Cursor}
-use Rattle.grammar.specs.Trees.{Tree, node, nil, ◌▹◌, fields, none as unused, row}
-use Rattle.grammar.specs.Readers.{Out, ok, refused, Reader, bind, ◌>>=◌, ◌>>◌, second as second_of, give, fail_at, ask, look, peek, read, the}
+use Rattle.grammar.specs.Trees.{Tree, Trees, node, nil, ◌▹◌, fields, none as unused, row}
+use Rattle.grammar.specs.Readers.{Out, ok, refused, Reader, bind, ◌>>=◌, ◌>>◌, second as second_of, Turn, give, fail_at, ask, look, peek, read, the}
 use Rattle.grammar.specs.Grammar.{call_of, Language, binary, chain, deeper, comparison, expression, in_edition, lone, power, signed, minus, negative, parenthesis, pays, name, primary_over, primary}
 use Rattle.reading.specs.Rows.{put_row, node_row}
 use Rattle.reading.specs.Joins.{Joins}
@@ -27,35 +27,43 @@ use Rattle.reading.specs.declared.records.Joined.{Joined}
 use Rattle.reading.specs.Atoms.{literal, atom}
 use Rattle.reading.specs.Meets.{edition_by, language_in, toks_at, token_at, Holds, Room, Ready, Follows, Takes, Lone, Reads, Meets}
 use Rattle.reading.specs.Signs.{comparator, taken_in, raisable}
-use Rattle.reading.specs.Turns.{inner, power_at, sum_or, comparison_or, parenthesised, list_postfixed, negated_by, Behind}
+use Rattle.reading.specs.Turns.{inner, power_at, sum_or, comparison_or, parenthesised, list_postfixed, negated_by, MeetsItems, Closed, MeetsTurns}
+use Rattle.std.specs.Prelude.{Result, Ok, Err, Some, None}
+use Rattle.reading.specs.Faults.{refused_by}
+use Rattle.reading.specs.declared.answers.Fault.{Fault}
 use Rattle.reading.specs.declared.answers.Read.{Read}
-use Rattle.reading.specs.declared.answers.Read.TheVariants.{Done, Refused}
-use Rattle.reading.specs.declared.answers.Took.{Took}
-use Rattle.reading.specs.declared.answers.Took.TheVariants as took
+use Rattle.reading.specs.declared.answers.Items.{Items}
+use Rattle.std.specs.Result.{IsErrAnd}
+use Rattle.std.proofs.lemmas.Result.{err_from_is_err_and}
 use Rattle.grammar.proofs.SignedLaws.{Bare, raised_alone, signed_stops, minus_stops}
 use Rattle.grammar.proofs.SizeLaws.{Sized, EachSized, nothing, just, primary_size}
 use Rattle.reading.proofs.HoldLaws.{first_kind, second_is, next_follows, ask_yes, ask_no, peek_is, read_then, read_next, the_then, the_next}
 use Rattle.reading.proofs.RowLaws.{size_some, size_one, size_two, after_one, after_two}
 use Rattle.reading.proofs.ChainLaws.{reads_within, binary_plain, by_sign}
 
--- ---- answers of calls, as the code takes them apart
-
-module _ (t : List ℕ) (R : Out Tree) (n : ℕ) (o : List ℕ) (r : Read) (o' : List ℕ) where
-  -- the answer is a `Done`
-  pub done_reads : (c : Cursor) (m q : ℕ) → r ≡ Done c m q → Meets t R n o r o' → Reads t R n o c m q o'
-  done_reads c m q e h = rw e at h
-
-  -- the answer is a refusal, and is handed on as the answer to another reading
-  pub refused_on : (R' : Out Tree) (n' : ℕ) (o₁ o₂ : List ℕ) (k b : ℕ) → r ≡ Refused k b → Meets t R n o r o' → (R ≡ refused k b → R' ≡ refused k b)
-      → Meets t R' n' o₁ r o₂
-  refused_on R' n' o₁ o₂ k b e h f = rw e (f (rw e at h))
+-- ---- answers of calls
 
 -- the answer to one reading is the answer to an equal one
-pub meets_as : (t : List ℕ) (R R' : Out Tree) (n : ℕ) (o : List ℕ) (r : Read) (o' : List ℕ) → R ≡ R' → Meets t R' n o r o' → Meets t R n o r o'
+pub meets_as : (t : List ℕ) (R R' : Out Tree) (n : ℕ) (o : List ℕ) (r : Result Read Fault) (o' : List ℕ) → R ≡ R' → Meets t R' n o r o' → Meets t R n o r o'
 meets_as t R R' n o r o' e h = rw e h
 
 pub reads_as : (t : List ℕ) (R R' : Out Tree) (n : ℕ) (o : List ℕ) (c : Cursor) (m q : ℕ) (o' : List ℕ) → R ≡ R' → Reads t R' n o c m q o' → Reads t R n o c m q o'
 reads_as t R R' n o c m q o' e h = rw e h
+
+-- what `?` hands on
+module _ (t : List ℕ) (n : ℕ) (e : Fault) where
+  pub meets_err : (R : Out Tree) (o : List ℕ) (r : Result Read Fault) (o' : List ℕ) → IsErrAnd r (λ x. x ≡ e) → R ≡ refused_by e → Meets t R n o r o'
+  meets_err R o r o' h q = let p = err_from_is_err_and r h in rw (p.1, p.2) q
+
+  pub items_err : (R : Out Trees) (o : List ℕ) (r : Result Items Fault) (o' : List ℕ) → IsErrAnd r (λ x. x ≡ e) → R ≡ refused_by e → MeetsItems t R n o r o'
+  items_err R o r o' h q = let p = err_from_is_err_and r h in rw (p.1, p.2) q
+
+  pub closed_err : (k : ℕ) (R : Out Trees) (o : List ℕ) (r : Result Items Fault) (o' : List ℕ) → IsErrAnd r (λ x. x ≡ e) → R ≡ refused_by e → MeetsItems t R n o r o' × Closed k r
+  closed_err k R o r o' h q = let p = err_from_is_err_and r h in rw (p.1, p.2) (q, tt)
+
+  pub turns_err : (R : Tree → Out (Turn Tree Tree)) (m : ℕ) (o : List ℕ) (c : Cursor) (r : Result Read Fault) (o' : List ℕ) → IsErrAnd r (λ x. x ≡ e) → ((x : Tree) → R x ≡ refused_by e)
+      → MeetsTurns t R n m o c r o'
+  turns_err R m o c r o' h q = let p = err_from_is_err_and r h in rw (p.1, p.2) (λ x o₁ g. q x, tt)
 
 module _ {A B : Type 0} where
   -- a refusal goes through what would read on
@@ -250,7 +258,10 @@ module _ (alone : Bool) (p : Reader Tree) (short : Sized p) (t : List ℕ) (c : 
 
 -- ---- parentheses
 
-module _ (W : Language) (t : List ℕ) (c d : Cursor) (n : ℕ) (o : List ℕ) (depth : ℕ) (w : Follows t c d) (some_open : c.code ≡ 0 → ⊥) where
+module _ (W : Language) (t : List ℕ) (c d : Cursor) (n : ℕ) (o : List ℕ) (depth : ℕ) (w : Follows t c d) (is_open : c.code ≡ 40) where
+  some_open : c.code ≡ 0 → ⊥
+  some_open z = omega (arith, z, is_open)
+
   pub parenthesis_deep : depth ≡ 0 → parenthesised W depth (token_at t c) (toks_at t c.start) ≡ refused 15 c.start
   parenthesis_deep e = deeper_none (token_at t c) W depth (λ p. read >> parenthesis W p) (toks_at t c.start) e
 
@@ -267,11 +278,11 @@ module _ (W : Language) (t : List ℕ) (c d : Cursor) (n : ℕ) (o : List ℕ) (
       unfolding ◌>>=◌
       closing = inside ∙ (rw r.is)
 
-      pub parenthesis_open : (b : ℕ) → Takes t 41 e (took.Not b) → parenthesised W depth (token_at t c) (toks_at t c.start) ≡ refused 8 b
+      pub parenthesis_open : (a : Fault) → Takes t 41 e (Err a) → parenthesised W depth (token_at t c) (toks_at t c.start) ≡ refused_by a
       unfolding code ◌>>◌ ◌>>=◌ the
-      parenthesis_open b g = closing ∙ (rw g)
+      parenthesis_open a g = closing ∙ (rw g)
 
-      pub parenthesis_closed : (f : Cursor) → Takes t 41 e (took.Next f) → Reads t (parenthesised W depth (token_at t c) (toks_at t c.start)) n o f m q o'
+      pub parenthesis_closed : (f : Cursor) → Takes t 41 e (Ok f) → Reads t (parenthesised W depth (token_at t c) (toks_at t c.start)) n o f m q o'
       unfolding give code
       parenthesis_closed f g =
           record {
@@ -434,22 +445,10 @@ pub lone_not : (W : Language) (t : List ℕ) (c : Cursor) → Holds t c → (c.c
 unfolding code
 lone_not W t c h z = rw (first_kind h, ne_eqb 2 c.code (λ e. z (sym e)))
 
--- the lists do not matter to it
-pub lone_no : (t : List ℕ) (second : Bool) (x y z : List ℕ) (c : Cursor) (r : Took) (b : ℕ) → r ≡ took.Not b → Lone t (language_in second [] [] []) c r
-    → lone (language_in second x y z) (toks_at t c.start) ≡ false
-lone_no t second x y z c r b e h = rw e at h
-
-pub lone_yes : (t : List ℕ) (second : Bool) (x y z : List ℕ) (c : Cursor) (r : Took) (d : Cursor) → r ≡ took.Next d → Lone t (language_in second [] [] []) c r
-    → Follows t c d × (c.code ≡ 2) × (lone (language_in second x y z) (toks_at t c.start) ≡ true)
-lone_yes t second x y z c r d e h = rw e at h
-
 -- behind what a sign takes in there is room for its record
-pub behind_read : (t : List ℕ) (p : Reader Tree) → Sized p → (c : Cursor) (n : ℕ) (o : List ℕ) (r : Read) (o' : List ℕ) → Room t c (n + 3) → Meets t (p (toks_at t c.start)) n o r o' → Behind n r
-behind_read t p h c n o (Done d m q) o' room r = omega (arith, reads_within t p h c n o d m q o' r (omega (arith, room)), room, r.counts)
-behind_read t p h c n o (Refused k b) o' room r = tt
-
-pub behind_done : (n : ℕ) (r : Read) (c : Cursor) (m p : ℕ) → r ≡ Done c m p → Behind n r → (n ≤ m) × (m < 50000)
-behind_done n r c m p e h = subst (Behind n) e h
+pub behind_read : (t : List ℕ) (p : Reader Tree) → Sized p → (c : Cursor) (n : ℕ) (o : List ℕ) (d : Cursor) (m q : ℕ) (o' : List ℕ) → Room t c (n + 3) → Reads t (p (toks_at t c.start)) n o d m q o'
+    → (n ≤ m) × (m < 50000)
+behind_read t p h c n o d m q o' room r = omega (arith, reads_within t p h c n o d m q o' r (omega (arith, room)), room, r.counts)
 
 module _ (W : Language) (t : List ℕ) (c d : Cursor) (depth : ℕ) where
   abbrev M : Out Tree
@@ -473,6 +472,9 @@ module _ (W : Language) (t : List ℕ) (c d : Cursor) (depth : ℕ) where
         go : (R : Out Tree) → bind (λ x. give (node 7 c.start [] unused (x ▹ nil))) R ≡ negated_by c.start R
         go (ok x r) = refl
         go (refused k b) = refl
+
+    pub minus_refused : (depth ≡ 0 → ⊥) → (e : Fault) → signed W (primary W (depth - 1)) (toks_at t d.start) ≡ refused_by e → M ≡ refused_by e
+    minus_refused z e h = minus_deep z ∙ ap (negated_by c.start) h
 
 -- a negation: what was read, and the record behind it
 pub negate_reads : (y : ℕ) (t : List ℕ) (R : Out Tree) (n : ℕ) (o : List ℕ) (e : Cursor) (m q : ℕ) (o₁ o₂ : List ℕ) → Reads t R n o e m q o₁

@@ -23,11 +23,10 @@ use Rattle.grammar.specs.Latest.{latest_in}
 use Rattle.grammar.specs.Words.{row_of, row_words, latest_of}
 use Rattle.reading.specs.Rows.{rows, put_all, put_rows, put_entry, put_entries, latest_between}
 use Rattle.reading.specs.Meets.{listed, toks_at, Holds, Room, Ready, Reads, Meets}
-use Rattle.reading.specs.Scripts.{Clean, rebase, refused_at, rows_in, entries_in, ReadsAll, MeetsAll}
+use Rattle.reading.specs.Scripts.{Clean, rebase, rows_in, entries_in, ReadsAll}
+use Rattle.std.specs.Prelude.{Result}
+use Rattle.reading.specs.declared.answers.Fault.{Fault}
 use Rattle.reading.specs.declared.answers.Read.{Read}
-use Rattle.reading.specs.declared.answers.Read.TheVariants as answer
-use Rattle.reading.specs.declared.answers.All.{All}
-use Rattle.reading.specs.declared.answers.All.TheVariants as all
 use Rattle.grammar.proofs.Laws.{skip_clear}
 use Rattle.grammar.proofs.ScriptLaws.{prepend, prepend_accepted, from_eq}
 use Rattle.grammar.proofs.SizeLaws.{statement_size, statement_less}
@@ -160,7 +159,7 @@ module _ (W : Language) (t o d : List ℕ) where
     pub ready_at : {r : Cursor} → r ≡ rebase c → Ready S r n
     ready_at {r} e = subst (λ (x : List ℕ). Ready x r n) (sym all_is) (subst (λ (x : Cursor). Ready P x n) (sym e) part_ready)
 
-    pub meets_at : {r : Cursor} → r ≡ rebase c → (x : Read) (o₂ : List ℕ) → Meets S (statement W most_depth (toks_at S r.start)) n o₁ x o₂
+    pub meets_at : {r : Cursor} → r ≡ rebase c → (x : Result Read Fault) (o₂ : List ℕ) → Meets S (statement W most_depth (toks_at S r.start)) n o₁ x o₂
         → Meets P (statement W most_depth (toks_at P 0)) n o₁ x o₂
     meets_at e x o₂ h =
         subst (λ (s : List ℕ). Meets s (statement W most_depth (toks_at s 0)) n o₁ x o₂) all_is
@@ -175,12 +174,6 @@ module _ (W : Language) (t o d : List ℕ) where
     unfolding onward
     chain_refused z {j} {p} e =
         onward_is z ∙ ap (λ (x : Out Tree). prepend C.entries (onward (from W) (b + c.start) (toks_at P 0) x)) e ∙ prepend_refused C.entries j (b + c.start + p)
-
-    pub all_refused : (c.code ≡ 0 → ⊥) → (x : Read) (y : All) (o₂ o₃ d₃ : List ℕ) (j p : ℕ) → x ≡ answer.Refused j p
-        → Meets P (statement W most_depth (toks_at P 0)) n o₁ x o₂ → y ≡ refused_at x (b + c.start) → MeetsAll (statements W (toks_at t 0)) o d y o₃ d₃
-    all_refused z x y o₂ o₃ d₃ j p e h q =
-        let w : y ≡ all.Refused j (b + c.start + p) = q ∙ ap (λ (r : Read). refused_at r (b + c.start)) e in
-        rw w (chain_refused z (rw e at h))
 
     module _ (z : c.code ≡ 0 → ⊥) {e : Cursor} {m p : ℕ} {o₂ : List ℕ} (R : Reads P (statement W most_depth (toks_at P 0)) n o₁ e m p o₂) where
       -- the tokens that the statement has

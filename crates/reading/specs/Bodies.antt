@@ -1,5 +1,5 @@
 -- The readers of the code inside a statement: doubled variables, heads of loops, blocks.
-use Rattle.std.specs.Prelude.{◌≡◌, Bool, ◌&&◌, not, List, ℕ, zero, suc, ◌+◌, if◌then◌else◌}
+use Rattle.std.specs.Prelude.{◌≡◌, Bool, ◌&&◌, not, Result, Ok, Err, List, ℕ, zero, suc, ◌+◌, if◌then◌else◌}
 use Rattle.std.proofs.Math.Option.{Option, none, some}
 use Rattle.tokens.specs.Tokens.{Token}
 use Rattle.tokens.specs.declared.cursor.Cursor.{Cursor}
@@ -9,12 +9,10 @@ use Rattle.grammar.specs.Grammar.{Language, Inner, deeper, if_over, ended, named
 use Rattle.reading.specs.Rows.{rows, rows_of, put_rows}
 use Rattle.reading.specs.Meets.{toks_at, token_at, Holds}
 use Rattle.reading.specs.Turns.{inner}
+use Rattle.reading.specs.Faults.{refused_by}
+use Rattle.reading.specs.declared.answers.Fault.{Fault}
 use Rattle.reading.specs.declared.answers.Read.{Read}
-use Rattle.reading.specs.declared.answers.Read.TheVariants as answer
-use Rattle.reading.specs.declared.answers.Number.{Number}
-use Rattle.reading.specs.declared.answers.Number.TheVariants as number
 use Rattle.reading.specs.declared.answers.Block.{Block}
-use Rattle.reading.specs.declared.answers.Block.TheVariants as block
 
 -- what can be read one deeper in an `if` or a `for`, with d left
 unfoldable pub bodies : Language → ℕ → Option Inner
@@ -63,22 +61,18 @@ pub record ReadsTwice (t : List ℕ) (R : Out Tree) (n : ℕ) (o : List ℕ) (c 
   pub writes : o' ≡ put_rows (put_rows o n (rows tree)) (n + 1) (rows tree)
   pub holds : Holds t c
 
-abbrev pub MeetsTwice : List ℕ → Out Tree → ℕ → List ℕ → Read → List ℕ → Type 0
-MeetsTwice t R n o (answer.Done c m p) o' = ReadsTwice t R n o c m o'
-MeetsTwice t R n o (answer.Refused k b) o' = R ≡ refused k b
+abbrev pub MeetsTwice : List ℕ → Out Tree → ℕ → List ℕ → Result Read Fault → List ℕ → Type 0
+MeetsTwice t R n o (Ok r) o' = ReadsTwice t R n o r.at r.records o'
+MeetsTwice t R n o (Err e) o' = R ≡ refused_by e
 
 -- ---- the head of a loop: its variable, which may not be reserved, and `in`
 
 abbrev pub loop_head : Language → Reader Token
 loop_head W = do v ← the "name"; named W v; the "in"; give v
 
-abbrev pub MeetsHead : List ℕ → Out Token → Cursor → Number → Type 0
-MeetsHead t R c (number.Is d x) = Holds t d × (c.code ≡ 1) × (R ≡ ok (token_at t c) (toks_at t d.start))
-MeetsHead t R c (number.Refused k b) = R ≡ refused k b
-
-abbrev pub number_refusal : Number → Read
-number_refusal (number.Is d x) = answer.Refused 8 0
-number_refusal (number.Refused k b) = answer.Refused k b
+abbrev pub MeetsHead : List ℕ → Out Token → Cursor → Result Cursor Fault → Type 0
+MeetsHead t R c (Ok d) = Holds t d × (c.code ≡ 1) × (R ≡ ok (token_at t c) (toks_at t d.start))
+MeetsHead t R c (Err e) = R ≡ refused_by e
 
 -- ---- blocks
 
@@ -90,14 +84,6 @@ pub record ReadsBlock (t : List ℕ) (R : Out Trees) (n : ℕ) (o : List ℕ) (c
   pub writes : o' ≡ put_rows o n (rows_of items)
   pub holds : Holds t c
 
-abbrev pub MeetsBlock : List ℕ → Out Trees → ℕ → List ℕ → Block → List ℕ → Type 0
-MeetsBlock t R n o (block.Done c m k) o' = ReadsBlock t R n o c m k o'
-MeetsBlock t R n o (block.Refused k b) o' = R ≡ refused k b
-
-abbrev pub block_refusal : Block → Read
-block_refusal (block.Done c m k) = answer.Refused 8 0
-block_refusal (block.Refused k b) = answer.Refused k b
-
-abbrev pub block_refused : Read → Block
-block_refused (answer.Done c m p) = block.Refused 8 0
-block_refused (answer.Refused k b) = block.Refused k b
+abbrev pub MeetsBlock : List ℕ → Out Trees → ℕ → List ℕ → Result Block Fault → List ℕ → Type 0
+MeetsBlock t R n o (Ok r) o' = ReadsBlock t R n o r.at r.records r.count o'
+MeetsBlock t R n o (Err e) o' = R ≡ refused_by e

@@ -1,5 +1,5 @@
 -- Calls and methods by numbers, as the code tells them.
-use Rattle.std.specs.Prelude.{Bool, false, ◌&&◌, List, [], ◌∷◌, ℕ, leb, eqb, if◌then◌else◌}
+use Rattle.std.specs.Prelude.{Bool, false, ◌&&◌, Option, Some, None, List, [], ◌∷◌, ℕ, leb, eqb, if◌then◌else◌}
 use Prim.Native.String.{String}
 use Rattle.tokens.specs.Text.{bytes, same, within}
 use Rattle.tokens.specs.Dates.{date}
@@ -8,7 +8,9 @@ use Rattle.tokens.specs.Keys.{pack, lookup, keyed}
 use Rattle.grammar.specs.Trees.{Tree}
 use Rattle.grammar.specs.Readers.{Reader, ◌>>◌, ask, give, the}
 use Rattle.grammar.specs.Grammar.{calls, call_of, content}
+use Rattle.reading.specs.Rows.{kind_number}
 use Rattle.reading.specs.Meets.{the_by}
+use Rattle.reading.specs.declared.records.Kind.{Kind}
 
 -- the kind of record that a call of this name makes, 0 where the name is no call's
 unfoldable pub call_kind : List ℕ → ℕ
@@ -25,6 +27,11 @@ abbrev pub short_calls : List (String × ℕ)
 short_calls =
     ("ln", 21) ∷ ("exp", 22) ∷ ("pow", 12) ∷ ("min", 23) ∷ ("max", 24) ∷ ("cvg", 25) ∷ ("fif", 26) ∷ ("range", 27)
     ∷ ("Spot", 32) ∷ ("Df", 34) ∷ []
+
+-- the number of a kind, 0 where there is none
+abbrev pub kind_or_none : Option Kind → ℕ
+kind_or_none None = 0
+kind_or_none (Some k) = kind_number k
 
 unfoldable pub call_by : ℕ → ℕ
 call_by k = lookup 0 k (keyed pack short_calls)

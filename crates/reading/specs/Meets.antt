@@ -1,5 +1,5 @@
 -- What the readers of the code answer, in terms of the definition's readers.
-use Rattle.std.specs.Prelude.{◌≡◌, Bool, true, false, List, [], ◌∷◌, ◌++◌, ℕ, suc, ◌+◌, ◌-◌, ◌*◌, ◌≤◌, eqb, length, take, drop, if◌then◌else◌}
+use Rattle.std.specs.Prelude.{◌≡◌, Bool, true, false, Option, Some, None, Result, Ok, Err, List, [], ◌∷◌, ◌++◌, ℕ, suc, ◌+◌, ◌-◌, ◌*◌, ◌≤◌, eqb, length, take, drop, if◌then◌else◌}
 use Rattle.tokens.specs.Limits.{most_bytes}
 use Rattle.tokens.specs.Text.{leading, other, count}
 use Rattle.tokens.specs.Names.{names}
@@ -10,14 +10,12 @@ use Rattle.grammar.specs.Trees.{Tree, Trees, node, nil, fields, size, sizes}
 use Rattle.grammar.specs.Readers.{Out, ok, refused, Reader, ◌>>=◌, ◌>>◌, next, fail, peek, read}
 use Rattle.grammar.specs.Grammar.{Edition, one, two, Language, lone}
 use Rattle.reading.specs.Rows.{rows, rows_of, put_rows}
+use Rattle.reading.specs.Faults.{refused_by}
+use Rattle.reading.specs.declared.language.Language.{Language as Lent}
+use Rattle.reading.specs.declared.answers.Fault.{Fault}
 use Rattle.reading.specs.declared.answers.Read.{Read}
-use Rattle.reading.specs.declared.answers.Read.TheVariants.{Done, Refused}
-use Rattle.reading.specs.declared.answers.Took.{Took}
-use Rattle.reading.specs.declared.answers.Took.TheVariants as took
 use Rattle.reading.specs.declared.answers.Leaf.{Leaf}
-use Rattle.reading.specs.declared.answers.Leaf.TheVariants as leaf
 use Rattle.reading.specs.declared.answers.Number.{Number}
-use Rattle.reading.specs.declared.answers.Number.TheVariants as number
 
 -- the edition, by whether it is the second
 abbrev pub edition_by : Bool → Edition
@@ -28,6 +26,10 @@ edition_by true = two
 abbrev pub language_in : Bool → List ℕ → List ℕ → List ℕ → Language
 language_in second reserved currencies counters =
     record { edition = edition_by second; reserved = names reserved; currencies = names currencies; counters = names counters }
+
+-- the language that the code is lent
+abbrev pub language_of : Lent → Language
+language_of l = language_in l.two l.lists.reserved.now l.lists.currencies.now l.lists.counters.now
 
 -- for what is the same in both editions: the lists alone
 abbrev pub words_in : List ℕ → List ℕ → List ℕ → Language
@@ -81,14 +83,14 @@ pub record Follows (t : List ℕ) (c d : Cursor) : Type 0 where
 abbrev pub the_by : ℕ → Reader Token
 the_by k = peek >>= λ t. if eqb k t.kind then read else fail 8
 
-abbrev pub Takes : List ℕ → ℕ → Cursor → Took → Type 0
-Takes t k c (took.Next d) = Follows t c d × (c.code ≡ k) × (the_by k (toks_at t c.start) ≡ ok (token_at t c) (toks_at t d.start))
-Takes t k c (took.Not b) = the_by k (toks_at t c.start) ≡ refused 8 b
+abbrev pub Takes : List ℕ → ℕ → Cursor → Result Cursor Fault → Type 0
+Takes t k c (Ok d) = Follows t c d × (c.code ≡ k) × (the_by k (toks_at t c.start) ≡ ok (token_at t c) (toks_at t d.start))
+Takes t k c (Err e) = the_by k (toks_at t c.start) ≡ refused_by e
 
 -- a number that is all that a minus before it takes in, and the cursor behind it
-abbrev pub Lone : List ℕ → Language → Cursor → Took → Type 0
-Lone t W c (took.Next d) = Follows t c d × (c.code ≡ 2) × (lone W (toks_at t c.start) ≡ true)
-Lone t W c (took.Not b) = lone W (toks_at t c.start) ≡ false
+abbrev pub Lone : List ℕ → Language → Cursor → Option Cursor → Type 0
+Lone t W c (Some d) = Follows t c d × (c.code ≡ 2) × (lone W (toks_at t c.start) ≡ true)
+Lone t W c None = lone W (toks_at t c.start) ≡ false
 
 -- ---- what was read
 
@@ -111,32 +113,28 @@ pub record Reads (t : List ℕ) (R : Out Tree) (n : ℕ) (o : List ℕ) (c : Cur
   pub string : p ≡ string_at tree
   pub quoted : Quoted t tree
 
-abbrev pub Meets : List ℕ → Out Tree → ℕ → List ℕ → Read → List ℕ → Type 0
-Meets t R n o (Done c m p) o' = Reads t R n o c m p o'
-Meets t R n o (Refused k b) o' = R ≡ refused k b
+abbrev pub Meets : List ℕ → Out Tree → ℕ → List ℕ → Result Read Fault → List ℕ → Type 0
+Meets t R n o (Ok r) o' = Reads t R n o r.at r.records r.string o'
+Meets t R n o (Err e) o' = R ≡ refused_by e
 
 -- a number, as a date or a currency
-abbrev pub MeetsNumber : List ℕ → Out ℕ → Number → Type 0
-MeetsNumber t R (number.Is d x) = Holds t d × (R ≡ ok x (toks_at t d.start))
-MeetsNumber t R (number.Refused k b) = R ≡ refused k b
+abbrev pub MeetsNumber : List ℕ → Out ℕ → Result Number Fault → Type 0
+MeetsNumber t R (Ok x) = Holds t x.at × (R ≡ ok x.value (toks_at t x.at.start))
+MeetsNumber t R (Err e) = R ≡ refused_by e
 
 -- a node without parts, which the code has not written yet, whatever bytes it names
-abbrev pub MeetsLeaf : List ℕ → Out Tree → Leaf → Type 0
-MeetsLeaf t R (leaf.Is d x) =
-    Holds t d × (x.nodes ≡ 1) × (x.parts ≡ 0) × (x.kind ≡ 5 → ⊥)
-    × ((s : List ℕ) × (R ≡ ok (node x.kind x.place s (fields x.f1 x.f2 x.f3 x.f4) nil) (toks_at t d.start)))
-MeetsLeaf t R (leaf.Refused k b) = R ≡ refused k b
-
-abbrev pub LeafHolds : List ℕ → Leaf → Type 0
-LeafHolds t (leaf.Is d x) = Holds t d
-LeafHolds t (leaf.Refused k b) = Unit {0}
+abbrev pub MeetsLeaf : List ℕ → Out Tree → Result Leaf Fault → Type 0
+MeetsLeaf t R (Ok l) =
+    Holds t l.at × (l.node.nodes ≡ 1) × (l.node.parts ≡ 0) × (l.node.kind ≡ 5 → ⊥)
+    × ((s : List ℕ) × (R ≡ ok (node l.node.kind l.node.place s (fields l.node.f1 l.node.f2 l.node.f3 l.node.f4) nil) (toks_at t l.at.start)))
+MeetsLeaf t R (Err e) = R ≡ refused_by e
 
 -- the token of a kind k, and a string token behind it, at which the answer stands
-abbrev pub Leads : List ℕ → ℕ → Cursor → Took → Type 0
-Leads t k c (took.Next d) =
+abbrev pub Leads : List ℕ → ℕ → Cursor → Result Cursor Fault → Type 0
+Leads t k c (Ok d) =
     Holds t d × (d.code ≡ 5)
     × ((f : Token → Reader Tree) → (the_by k >> (the_by 5 >>= f)) (toks_at t c.start) ≡ (the_by 5 >>= f) (toks_at t d.start))
-Leads t k c (took.Not b) = (f : Token → Reader Tree) → (the_by k >> (the_by 5 >>= f)) (toks_at t c.start) ≡ refused 8 b
+Leads t k c (Err e) = (f : Token → Reader Tree) → (the_by k >> (the_by 5 >>= f)) (toks_at t c.start) ≡ refused_by e
 
 -- currencies have few names, so that a place fits a word
 abbrev pub Few : List ℕ → Type 0

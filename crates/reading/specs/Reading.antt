@@ -1,5 +1,5 @@
 -- What reading a script into lent memory answers, and what it leaves there.
-use Rattle.std.specs.Prelude.{◌≡◌, List, ◌++◌, map, ℕ, length, drop}
+use Rattle.std.specs.Prelude.{◌≡◌, Result, Ok, Err, List, ◌++◌, map, ℕ, length, drop}
 use Rattle.tokens.specs.Text.{script}
 use Rattle.tokens.specs.Names.{Lists}
 use Rattle.tokens.specs.Places.{line, column}
@@ -7,12 +7,10 @@ use Rattle.grammar.specs.Sizes.{record_room, statement_room}
 use Rattle.grammar.specs.Grammar.{Edition}
 use Rattle.grammar.specs.Script.{Entry, Outcome, accepted, refused, reading_in, number_of, reading}
 use Rattle.grammar.specs.Words.{words_of, row_of, directory_of, latest_of}
-use Rattle.reading.specs.Judging.{judged_of, last_end}
-use Rattle.reading.specs.declared.answers.All.{All}
-use Rattle.reading.specs.declared.answers.All.TheVariants as all
+use Rattle.reading.specs.Judging.{Judged, good, rejected, judged_of, last_end}
+use Rattle.tokens.specs.Refusals.{number_of as ground_number}
+use Rattle.tokens.specs.declared.refusals.Refusal.{Refusal}
 use Rattle.reading.specs.declared.judging.Counts.{Counts}
-use Rattle.reading.specs.declared.judging.Judged.{Judged}
-use Rattle.reading.specs.declared.judging.Judged.TheVariants as judged
 use Rattle.reading.specs.declared.reading.Answer.{Answer}
 
 -- Accepted: 0, 0, 1, 1, the counts, the script's latest date, and the number of its edition
@@ -47,8 +45,8 @@ refused_at bs k p = record {
 
 -- the numbers of a judgement, the latest date, and the edition
 abbrev pub answer_of : ℕ → List ℕ → ℕ → Judged → Answer
-answer_of e bs x (judged.Good c) = accepted_with e c x
-answer_of e bs x (judged.Refused k p) = refused_at bs k p
+answer_of e bs x (good c) = accepted_with e c x
+answer_of e bs x (rejected k p) = refused_at bs k p
 
 -- the latest date of what is read: the greatest of the entries'
 abbrev pub latest_by : Outcome → ℕ
@@ -59,10 +57,10 @@ latest_by (refused k p) = 0
 abbrev pub answer_to : ℕ → List ℕ → Outcome → Answer
 answer_to e bs x = answer_of e bs (latest_by x) (judged_of (length (script bs)) (last_end (script bs)) x)
 
--- the latest date that the reader of all statements answers
-abbrev pub latest_read : All → ℕ
-latest_read (all.Done k n x) = x
-latest_read (all.Refused k b) = 0
+-- what the code answers of a script that it accepts or refuses
+abbrev pub answered : List ℕ → Result Answer Refusal → Answer
+answered bs (Ok a) = a
+answered bs (Err e) = refused_at bs (ground_number e.cause) e.byte
 
 -- words at the front of lent memory: those past them are unchanged
 abbrev pub over : List ℕ → List ℕ → List ℕ

@@ -1,16 +1,15 @@
 -- What the reader of a whole script answers, in terms of the definition.
-use Rattle.std.specs.Prelude.{◌≡◌, false, List, [], ◌∷◌, ◌++◌, map, ℕ, ◌+◌, ◌-◌, ◌*◌, ◌≤◌, length}
+use Rattle.std.specs.Prelude.{◌≡◌, false, Result, Ok, Err, List, [], ◌∷◌, ◌++◌, map, ℕ, ◌+◌, ◌-◌, ◌*◌, ◌≤◌, length}
 use Rattle.tokens.specs.Limits.{most_bytes}
 use Rattle.tokens.specs.Tokens.{Token, lexed, scan}
+use Rattle.tokens.specs.Refusals.{number_of}
 use Rattle.tokens.specs.declared.cursor.Cursor.{Cursor}
+use Rattle.tokens.specs.declared.refusals.Refusal.{Refusal}
 use Rattle.grammar.specs.Sizes.{record_width}
 use Rattle.grammar.specs.Script.{Entry, Outcome, accepted, refused, nodes}
 use Rattle.grammar.specs.Words.{row_of, row_words, latest_of}
 use Rattle.reading.specs.Rows.{rows, put_rows, put_entries}
-use Rattle.reading.specs.declared.answers.Read.{Read}
-use Rattle.reading.specs.declared.answers.Read.TheVariants as answer
 use Rattle.reading.specs.declared.answers.All.{All}
-use Rattle.reading.specs.declared.answers.All.TheVariants as all
 
 -- a text that is no longer than a script and has no fault
 pub record Clean (t : List ℕ) : Type 0 where
@@ -21,10 +20,6 @@ pub record Clean (t : List ℕ) : Type 0 where
 -- the same token, with places from its own first byte
 abbrev pub rebase : Cursor → Cursor
 rebase c = record { start = 0; end = c.end - c.start; taken = 0; last = 0; code = c.code; broken = false }
-
-abbrev pub refused_at : Read → ℕ → All
-refused_at (answer.Done c m p) b = all.Refused 8 0
-refused_at (answer.Refused k p) b = all.Refused k (b + p)
 
 -- the records of all statements, and the words of their entries
 abbrev pub rows_in : List Entry → List (List ℕ)
@@ -45,6 +40,6 @@ pub record ReadsAll (R : Outcome) (o d : List ℕ) (k n x : ℕ) (o' d' : List �
   pub directory : record_width * n ≤ length o → d' ≡ put_entries d 0 (entries_in entries)
   pub latest : record_width * n ≤ length o → x ≡ latest_of (map row_of entries)
 
-abbrev pub MeetsAll : Outcome → List ℕ → List ℕ → All → List ℕ → List ℕ → Type 0
-MeetsAll R o d (all.Done k n x) o' d' = ReadsAll R o d k n x o' d'
-MeetsAll R o d (all.Refused j b) o' d' = R ≡ refused j b
+abbrev pub MeetsAll : Outcome → List ℕ → List ℕ → Result All Refusal → List ℕ → List ℕ → Type 0
+MeetsAll R o d (Ok a) o' d' = ReadsAll R o d a.statements a.records a.latest o' d'
+MeetsAll R o d (Err e) o' d' = R ≡ refused (number_of e.cause) e.byte

@@ -1,24 +1,24 @@
 -- The readers of the code inside an expression: what is one deeper, parts of a list, postfixes.
-use Rattle.std.specs.Prelude.{◌≡◌, Bool, ◌||◌, not, List, [], ◌⊎◌, ℕ, zero, suc, ◌+◌, ◌≤◌, ◌<◌, eqb, length, take, drop, if◌then◌else◌}
+use Rattle.std.specs.Prelude.{◌≡◌, Bool, ◌||◌, not, Result, Ok, Err, List, [], ◌⊎◌, ℕ, zero, suc, ◌+◌, ◌≤◌, ◌<◌, eqb, length, take, drop, if◌then◌else◌}
 use Rattle.std.proofs.Math.Option.{Option, none, some}
 use Rattle.tokens.specs.Text.{leading, other}
 use Rattle.tokens.specs.Names.{member}
 use Rattle.tokens.specs.Dates.{date}
 use Rattle.tokens.specs.Tokens.{Token}
+use Rattle.tokens.specs.Refusals.{number_of}
 use Rattle.tokens.specs.declared.cursor.Cursor.{Cursor}
+use Rattle.tokens.specs.declared.refusals.Ground.{Ground}
 use Rattle.grammar.specs.Trees.{Tree, Trees, node, nil, ◌▹◌, none as unused, snoc, size, sizes, parts}
 use Rattle.grammar.specs.Readers.{Out, ok, refused, Reader, ◌>>=◌, ◌>>◌, Turn, again, done, loop, is, give, fail, ask, peek, read, the}
 use Rattle.grammar.specs.Grammar.{Language, power, signed, product, sum, comparison, expression, arguments, method_of, index_of, postfix_turn, postfixes, strings, text, spot, df, rate_index, deeper, call, name, pays, minus, parenthesis, listed, primary}
 use Rattle.reading.specs.Rows.{rows, rows_of, put_rows}
 use Rattle.reading.specs.Calls.{right_count}
 use Rattle.reading.specs.Meets.{toks_at, Holds, Ready, string_at, Quoted}
+use Rattle.reading.specs.Faults.{refused_by}
+use Rattle.reading.specs.declared.answers.Fault.{Fault}
 use Rattle.reading.specs.declared.answers.Read.{Read}
-use Rattle.reading.specs.declared.answers.Read.TheVariants as answer
-use Rattle.reading.specs.declared.answers.Took.{Took}
-use Rattle.reading.specs.declared.answers.Took.TheVariants as took
 use Rattle.reading.specs.declared.answers.Texts.{Texts}
 use Rattle.reading.specs.declared.answers.Items.{Items}
-use Rattle.reading.specs.declared.answers.Items.TheVariants as part
 
 -- what can be read one deeper, with d left
 unfoldable pub inner : Language → ℕ → Option (Reader Tree)
@@ -90,11 +90,6 @@ abbrev pub negated_by : ℕ → Out Tree → Out Tree
 negated_by b (ok x r) = ok (node 7 b [] unused (x ▹ nil)) r
 negated_by b (refused k p) = refused k p
 
--- what was read stands in the records from n on, and there is room behind it
-abbrev pub Behind : ℕ → Read → Type 0
-Behind n (answer.Done c m p) = (n ≤ m) × (m < 50000)
-Behind n (answer.Refused k b) = Unit {0}
-
 -- ---- what ends a pays
 
 -- `;`, `)`, `on`, `in`, the end
@@ -124,9 +119,9 @@ items_by W k p = loop (item_turn_by W k p) nil
 abbrev pub items_at : Language → ℕ → ℕ → Reader Trees
 items_at W k d = items_by W k (primary W d)
 
-abbrev pub FollowsItem : List ℕ → ℕ → Cursor → Took → Type 0
-FollowsItem t k c (took.Next d) = Holds t d × ((es : Trees) → item_end k es (toks_at t c.start) ≡ ok (again es) (toks_at t d.start))
-FollowsItem t k c (took.Not b) = (es : Trees) → item_end k es (toks_at t c.start) ≡ refused 8 b
+abbrev pub FollowsItem : List ℕ → ℕ → Cursor → Result Cursor Fault → Type 0
+FollowsItem t k c (Ok d) = Holds t d × ((es : Trees) → item_end k es (toks_at t c.start) ≡ ok (again es) (toks_at t d.start))
+FollowsItem t k c (Err e) = (es : Trees) → item_end k es (toks_at t c.start) ≡ refused_by e
 
 -- where the string of the i-th part stands
 abbrev pub string_of : Trees → ℕ → ℕ
@@ -171,23 +166,14 @@ pub record ReadsItems (t : List ℕ) (R : Out Trees) (n : ℕ) (o : List ℕ) (c
   pub holds : Holds t c
   pub shown : Shown t items x
 
-abbrev pub MeetsItems : List ℕ → Out Trees → ℕ → List ℕ → Items → List ℕ → Type 0
-MeetsItems t R n o (part.Done c m k x) o' = ReadsItems t R n o c m k x o'
-MeetsItems t R n o (part.Refused k b) o' = R ≡ refused k b
+abbrev pub MeetsItems : List ℕ → Out Trees → ℕ → List ℕ → Result Items Fault → List ℕ → Type 0
+MeetsItems t R n o (Ok r) o' = ReadsItems t R n o r.at r.records r.count r.texts o'
+MeetsItems t R n o (Err e) o' = R ≡ refused_by e
 
 -- the closing sign stands behind the parts
-abbrev pub Closed : ℕ → Items → Type 0
-Closed close (part.Done c m k x) = c.code ≡ close
-Closed close (part.Refused k b) = Unit {0}
-
--- a refusal of one kind as one of the other
-abbrev pub refusal_of : Items → Read
-refusal_of (part.Done c m k x) = answer.Refused 8 0
-refusal_of (part.Refused k b) = answer.Refused k b
-
-abbrev pub items_refusal : Read → Items
-items_refusal (answer.Done c m p) = part.Refused 8 0
-items_refusal (answer.Refused k b) = part.Refused k b
+abbrev pub Closed : ℕ → Result Items Fault → Type 0
+Closed close (Ok r) = r.at.code ≡ close
+Closed close (Err e) = Unit {0}
 
 -- ---- what a call's arguments are refused for: 0 where they are taken
 
@@ -203,6 +189,11 @@ call_fault counters k es =
     if not (right_count k (parts es)) then 10
     else if eqb k 25 then cvg_fault counters es
     else 0
+
+-- the number of the ground on which the code refuses them
+abbrev pub ground_or_0 : Result (Unit {0}) Ground → ℕ
+ground_or_0 (Ok u) = 0
+ground_or_0 (Err g) = number_of g
 
 -- Spot, Df, RateIndex, whose name is at b
 abbrev pub special_of : Language → ℕ → ℕ → Reader Tree
@@ -225,15 +216,15 @@ pub record ReadsTurn (t : List ℕ) (R : Out (Turn Tree Tree)) (n : ℕ) (o : Li
   pub tops : Tops n o tree m o'
   pub holds : Holds t c
 
-abbrev pub MeetsTurn : List ℕ → Out (Turn Tree Tree) → ℕ → List ℕ → Read → List ℕ → Type 0
-MeetsTurn t R n o (answer.Done c m p) o' = ReadsTurn t R n o c m o'
-MeetsTurn t R n o (answer.Refused k b) o' = R ≡ refused k b
+abbrev pub MeetsTurn : List ℕ → Out (Turn Tree Tree) → ℕ → List ℕ → Result Read Fault → List ℕ → Type 0
+MeetsTurn t R n o (Ok r) o' = ReadsTurn t R n o r.at r.records o'
+MeetsTurn t R n o (Err e) o' = R ≡ refused_by e
 
 -- whatever tree stood before: there is room behind the turn, which has read a token at least
-abbrev pub Onward : List ℕ → Cursor → ℕ → Read → Type 0
-Onward t c n (answer.Done d m p) = Ready t d m × (n < m) × (length (toks_at t d.start) < length (toks_at t c.start))
-Onward t c n (answer.Refused k b) = Unit {0}
+abbrev pub Onward : List ℕ → Cursor → ℕ → Result Read Fault → Type 0
+Onward t c n (Ok r) = Ready t r.at r.records × (n < r.records) × (length (toks_at t r.at.start) < length (toks_at t c.start))
+Onward t c n (Err e) = Unit {0}
 
 -- a turn over every tree x whose records are those from n to m
-abbrev pub MeetsTurns : List ℕ → (Tree → Out (Turn Tree Tree)) → ℕ → ℕ → List ℕ → Cursor → Read → List ℕ → Type 0
+abbrev pub MeetsTurns : List ℕ → (Tree → Out (Turn Tree Tree)) → ℕ → ℕ → List ℕ → Cursor → Result Read Fault → List ℕ → Type 0
 MeetsTurns t R n m o₁ c r o₂ = ((x : Tree) (o : List ℕ) → Tops n o x m o₁ → MeetsTurn t (R x) n o r o₂) × Onward t c n r

@@ -1,38 +1,66 @@
 // What readers answer. Places are bytes from the first byte of the statement.
+ghost use Rattle.std.specs.Prelude.{◌≡◌, ◌+◌, ◌≤◌};
+ghost use Rattle.reading.specs.Faults.{fault_at, in_script};
+
 use crate::records::Node;
 use tokens::cursor::Cursor;
+use tokens::refusals::{Ground, Refusal};
 
-// A tree was read: the cursor behind it, how many records there are then, and where the content of a String node stands
-// (0 for any other node). Or a refusal: its number and its byte.
-#[derive(Drop)]
-pub enum Read {
-    Done(Cursor, u32, u16),
-    Refused(u8, u16),
+// A refusal inside a statement.
+#[derive(Clone, Copy)]
+pub struct Fault {
+    pub cause: Ground,
+    pub byte: u16,
 }
 
-// A token of the kind that must stand here was taken, or another stands at a byte.
-#[derive(Drop)]
-pub enum Took {
-    Next(Cursor),
-    Not(u16),
+impl Fault {
+    // A refusal at the token that stands at c.
+    pub fn at(c: Cursor, cause: Ground) -> Self
+        ensures { result ≡ fault_at c cause }
+    {
+        Fault {
+            cause,
+            byte: c.start,
+        }
+    }
+
+    // The same refusal, where the statement begins at this byte of the script.
+    pub fn in_script(self, base: usize) -> Refusal
+        requires { base ≤ 16384 }
+        ensures { result ≡ in_script self base }
+    {
+        Refusal {
+            cause: self.cause,
+            byte: base + self.byte as usize,
+        }
+    }
+}
+
+// A tree was read: the cursor behind it, how many records there are then, and where the content of a String node stands
+// (0 for any other node).
+#[derive(Clone, Copy)]
+pub struct Read {
+    pub at: Cursor,
+    pub records: u32,
+    pub string: u16,
 }
 
 // A date or a currency was read, as its number.
-#[derive(Drop)]
-pub enum Number {
-    Is(Cursor, u32),
-    Refused(u8, u16),
+#[derive(Clone, Copy)]
+pub struct Number {
+    pub at: Cursor,
+    pub value: u32,
 }
 
 // A node without parts was read, and is not written yet.
-#[derive(Drop)]
-pub enum Leaf {
-    Is(Cursor, Node),
-    Refused(u8, u16),
+#[derive(Clone, Copy)]
+pub struct Leaf {
+    pub at: Cursor,
+    pub node: Node,
 }
 
 // Where the contents of the first three parts stand, where they are String nodes; 0 where they are not.
-#[derive(Drop)]
+#[derive(Clone, Copy)]
 pub struct Texts {
     pub first: u16,
     pub second: u16,
@@ -40,23 +68,26 @@ pub struct Texts {
 }
 
 // Parts were read: the cursor behind them, how many records there are then, how many parts, and where their strings stand.
-#[derive(Drop)]
-pub enum Items {
-    Done(Cursor, u32, u32, Texts),
-    Refused(u8, u16),
+#[derive(Clone, Copy)]
+pub struct Items {
+    pub at: Cursor,
+    pub records: u32,
+    pub count: u32,
+    pub texts: Texts,
 }
 
 // The statements of a block were read: the cursor behind it, how many records there are then, and how many statements.
-#[derive(Drop)]
-pub enum Block {
-    Done(Cursor, u32, u32),
-    Refused(u8, u16),
+#[derive(Clone, Copy)]
+pub struct Block {
+    pub at: Cursor,
+    pub records: u32,
+    pub count: u32,
 }
 
-// All statements were read: how many, how many records, and their latest date. Or a refusal: its number and its byte in
-// the script.
-#[derive(Drop)]
-pub enum All {
-    Done(u32, u32, u32),
-    Refused(u8, u32),
+// All statements were read: how many, how many records, and their latest date.
+#[derive(Clone, Copy)]
+pub struct All {
+    pub statements: u32,
+    pub records: u32,
+    pub latest: u32,
 }

@@ -1,37 +1,39 @@
 // What stands round the parts of a call, a list and a pays: nothing here reads an expression.
 ghost use Rattle.std.specs.Prelude.{◌≡◌, List, [], ℕ, ◌<◌, ◌≤◌, length};
-ghost use Rattle.tokens.specs.Names.{names, place};
-ghost use Rattle.tokens.specs.Dates.{date};
+ghost use Rattle.tokens.specs.Names.{names, place, index_of};
+ghost use Rattle.tokens.specs.Dates.{date, unless_0};
 ghost use Rattle.grammar.specs.Trees.{Tree, Trees, parts};
 ghost use Rattle.grammar.specs.Readers.{Out};
 ghost use Rattle.grammar.specs.Grammar.{payday};
 ghost use Rattle.reading.specs.Meets.{words_in, toks_at, Holds, Ready, Few, Meets, MeetsLeaf, Before};
-ghost use Rattle.reading.specs.Turns.{Closing, FollowsItem, Shown, shown_by, Inside, content_at, refusal_of, items_refusal, cvg_fault, call_fault, special_of, pays_stop, Behind, negated_by};
+ghost use Rattle.reading.specs.Rows.{kind_number};
+ghost use Rattle.reading.specs.Turns.{Closing, FollowsItem, Shown, shown_by, Inside, content_at, cvg_fault, call_fault, ground_or_0, special_of, pays_stop, negated_by};
 
-use crate::answers::{Items, Leaf, Number, Read, Texts, Took};
+use crate::answers::{Fault, Leaf, Read, Texts};
 use crate::atoms::next;
 use crate::calls::{
     df_at, is_right_count, optional_currency, optional_date, rate_index_at, spot_at,
 };
-use crate::records::{Node, plain, put};
+use crate::records::{Kind, Node, plain, put};
 use tokens::codes::{CLOSE_PAREN, COMMA, EOF, IN, ON, SEMICOLON};
 use tokens::cursor::Cursor;
 use tokens::dates::date_of;
 use tokens::names::place_in;
+use tokens::refusals::Ground;
 use tokens::text::find;
 
 // What follows an expression of a list: a comma, which is taken, or the closing sign, which is not.
-pub fn follow(s: &[u8], c: Cursor, close: u8) -> Took
+pub fn follow(s: &[u8], c: Cursor, close: u8) -> Result<Cursor, Fault>
     requires { Holds s.now c × Closing close }
     ensures { FollowsItem s.now close c result }
 {
     if c.code == COMMA {
-        return Took::Next(next(s, c));
+        return Ok(next(s, c));
     }
     if c.code == close {
-        return Took::Next(c);
+        return Ok(c);
     }
-    Took::Not(c.start)
+    Err(Fault::at(c, Ground::Token))
 }
 
 // One more part, behind `count` others, whose string stands at p.
@@ -58,40 +60,20 @@ pub fn shown(texts: Texts, count: u32, p: u16) -> Texts
     }
 }
 
-// A refusal of parts as one of a tree.
-pub fn refusal(r: Items) -> Read
-    ensures { result ≡ refusal_of r }
-{
-    match r {
-        Items::Done(_, _, _, _) => Read::Refused(8, 0),
-        Items::Refused(k, b) => Read::Refused(k, b),
-    }
-}
-
-// A refusal of a tree as one of parts.
-pub fn refused(r: Read) -> Items
-    ensures { result ≡ items_refusal r }
-{
-    match r {
-        Read::Done(_, _, _) => Items::Refused(8, 0),
-        Read::Refused(k, b) => Items::Refused(k, b),
-    }
-}
-
-// The date in the string content that begins at p, 0 where it is none.
-fn date_at(s: &[u8], p: u16) -> u32
+// The date in the string content that begins at p.
+fn date_at(s: &[u8], p: u16) -> Option<u32>
     requires { p ≤ length s.now }
-    ensures { result ≡ date (content_at s.now p) }
+    ensures { result ≡ unless_0 (date (content_at s.now p)) }
 {
     let a = p as usize;
     let e = find(s, a, 34);
     date_of(&s[a..e])
 }
 
-// The place of the string content that begins at p among the day counters, 0 where it has none.
-fn counter_at(s: &[u8], counters: &[u8], p: u16) -> usize
+// The place of the string content that begins at p among the day counters.
+fn counter_at(s: &[u8], counters: &[u8], p: u16) -> Option<usize>
     requires { p ≤ length s.now }
-    ensures { result ≡ place (names counters.now) (content_at s.now p) }
+    ensures { result ≡ index_of (place (names counters.now) (content_at s.now p)) }
 {
     let a = p as usize;
     let e = find(s, a, 34);
@@ -99,71 +81,66 @@ fn counter_at(s: &[u8], counters: &[u8], p: u16) -> usize
 }
 
 // What the strings of a cvg are refused for: date, date, day counter.
-fn cvg_fault(s: &[u8], counters: &[u8], texts: Texts) -> u8
+fn cvg_fault(s: &[u8], counters: &[u8], texts: Texts) -> Result<(), Ground>
     requires { Inside s.now texts }
-    ensures { (es : Trees) → Shown s.now es texts → parts es ≡ 3 → result ≡ cvg_fault (names counters.now) es }
+    ensures { (es : Trees) → Shown s.now es texts → parts es ≡ 3 → ground_or_0 result ≡ cvg_fault (names counters.now) es }
 {
-    if texts.first == 0 {
-        return 14;
+    if texts.first == 0 || texts.second == 0 || texts.third == 0 {
+        return Err(Ground::NoString);
     }
-    if texts.second == 0 {
-        return 14;
+    if date_at(s, texts.first).is_none() || date_at(s, texts.second).is_none() {
+        return Err(Ground::Date);
     }
-    if texts.third == 0 {
-        return 14;
+    if counter_at(s, counters, texts.third).is_none() {
+        return Err(Ground::DayCounter);
     }
-    if date_at(s, texts.first) == 0 {
-        return 11;
-    }
-    if date_at(s, texts.second) == 0 {
-        return 11;
-    }
-    if counter_at(s, counters, texts.third) == 0 {
-        return 13;
-    }
-    0
+    Ok(())
 }
 
-// What the arguments of a call are refused for, 0 where they are taken: count before strings, strings before dates, dates
-// before the day counter.
-pub fn call_fault(s: &[u8], counters: &[u8], kind: u8, count: u32, texts: Texts) -> u8
+// What the arguments of a call are refused for: count before strings, strings before dates, dates before the day counter.
+pub fn call_fault(
+    s: &[u8],
+    counters: &[u8],
+    kind: Kind,
+    count: u32,
+    texts: Texts,
+) -> Result<(), Ground>
     requires { Inside s.now texts }
-    ensures { (es : Trees) → Shown s.now es texts → count ≡ parts es → result ≡ call_fault (names counters.now) kind es }
+    ensures { (es : Trees) → Shown s.now es texts → count ≡ parts es → ground_or_0 result ≡ call_fault (names counters.now) (kind_number kind) es }
 {
     if !is_right_count(kind, count) {
-        return 10;
+        return Err(Ground::Arguments);
     }
-    if kind != 25 {
-        return 0;
+    match kind {
+        Kind::Cvg => cvg_fault(s, counters, texts),
+        _ => Ok(()),
     }
-    cvg_fault(s, counters, texts)
 }
 
 // Writes a node without parts.
 fn written(leaf: Leaf, out: &mut [u32], n: u32) -> Read
     requires { n < 50000 }
-    ensures { (t : List ℕ) (R : Out Tree) → MeetsLeaf t R leaf → Meets t R n out.old result out.new }
+    ensures { (t : List ℕ) (R : Out Tree) → MeetsLeaf t R (Ok leaf) → Meets t R n out.old (Ok result) out.new }
 {
-    match leaf {
-        Leaf::Refused(k, b) => Read::Refused(k, b),
-        Leaf::Is(c, node) => {
-            put(out, n, node);
-            Read::Done(c, n + 1, 0)
-        }
+    put(out, n, leaf.node);
+    Read {
+        at: leaf.at,
+        records: n + 1,
+        string: 0,
     }
 }
 
 // UnaryMinus of what was read into the records from n on; its minus stands at the place.
 pub fn negative(r: Read, place: u16, out: &mut [u32], n: u32) -> Read
-    requires { Behind n r }
-    ensures { (t : List ℕ) (R : Out Tree) (o : List ℕ) → Meets t R n o r out.old → Meets t (negated_by place R) n o result out.new }
+    requires { (n ≤ r.records) × (r.records < 50000) }
+    ensures { (t : List ℕ) (R : Out Tree) (o : List ℕ) → Meets t R n o (Ok r) out.old → Meets t (negated_by place R) n o (Ok result) out.new }
 {
-    match r {
-        Read::Refused(k, b) => Read::Refused(k, b),
-        Read::Done(c, m, _) => {
-            put(out, m, plain(7, m - n + 1, 1, place));
-            Read::Done(c, m + 1, 0)
-        }
+    let node = plain(Kind::UnaryMinus as u32, r.records - n + 1, 1, place);
+    put(out, r.records, node);
+    Read {
+        at: r.at,
+        records: r.records + 1,
+        string: 0,
     }
 }
 
@@ -171,20 +148,21 @@ pub fn negative(r: Read, place: u16, out: &mut [u32], n: u32) -> Read
 pub fn special(
     s: &[u8],
     currencies: &[u8],
-    kind: u8,
+    kind: Kind,
     place: u16,
     c: Cursor,
     out: &mut [u32],
     n: u32,
-) -> Read
+) -> Result<Read, Fault>
     requires { Ready s.now c n × Few currencies.now }
-    ensures { Meets s.now (special_of (words_in [] currencies.now []) kind place (toks_at s.now c.start)) n out.old result out.new }
+    ensures { Meets s.now (special_of (words_in [] currencies.now []) (kind_number kind) place (toks_at s.now c.start)) n out.old result out.new }
 {
-    match kind {
-        32 => written(spot_at(s, currencies, place, c), out, n),
-        34 => written(df_at(s, place, c), out, n),
-        _ => written(rate_index_at(s, place, c), out, n),
-    }
+    let leaf = match kind {
+        Kind::Spot => spot_at(s, currencies, place, c)?,
+        Kind::Df => df_at(s, place, c)?,
+        _ => rate_index_at(s, place, c)?,
+    };
+    Ok(written(leaf, out, n))
 }
 
 // Behind the parts of a pays: its date, its currency, and then its record. Its word stands at the place; its parts are the
@@ -198,33 +176,31 @@ pub fn payday_at(
     n: u32,
     m: u32,
     count: u32,
-) -> Read
+) -> Result<Read, Fault>
     requires { Ready s.now c m × Few currencies.now × (n ≤ m) }
     ensures { (es : Trees) (o : List ℕ) → Before n o es m out.old → count ≡ parts es → Meets s.now (payday (words_in [] currencies.now []) place es (toks_at s.now c.start)) n o result out.new }
 {
-    match optional_date(s, c, ON) {
-        Number::Refused(k, b) => Read::Refused(k, b),
-        Number::Is(d, day) => match optional_currency(s, currencies, d, IN) {
-            Number::Refused(k, b) => Read::Refused(k, b),
-            Number::Is(e, money) => {
-                put(
-                    out,
-                    m,
-                    Node {
-                        kind: 36,
-                        nodes: m - n + 1,
-                        parts: count,
-                        f1: day,
-                        f2: money,
-                        f3: 0,
-                        f4: 0,
-                        place: place as u32,
-                    },
-                );
-                Read::Done(e, m + 1, 0)
-            }
+    let day = optional_date(s, c, ON)?;
+    let money = optional_currency(s, currencies, day.at, IN)?;
+    put(
+        out,
+        m,
+        Node {
+            kind: Kind::Pays as u32,
+            nodes: m - n + 1,
+            parts: count,
+            f1: day.value,
+            f2: money.value,
+            f3: 0,
+            f4: 0,
+            place: place as u32,
         },
-    }
+    );
+    Ok(Read {
+        at: money.at,
+        records: m + 1,
+        string: 0,
+    })
 }
 
 // What ends the parts of a pays.

@@ -1,320 +1,245 @@
 // Calls: their names, their argument counts, and those that take string tokens only.
 ghost use Rattle.std.specs.Prelude.{◌≡◌, []};
+ghost use Rattle.tokens.specs.Dates.{unless_0};
 ghost use Rattle.grammar.specs.Grammar.{a_date, a_currency, df, curve, rate_index, rate_of, spot, spot_of, equity, pair};
 ghost use Rattle.grammar.specs.Trees.{Tree};
 ghost use Rattle.grammar.specs.Readers.{Out, bind};
-ghost use Rattle.reading.specs.Calls.{call_kind, call_by, right_count, method_kind, optional_by, ending, date_in};
-ghost use Rattle.reading.specs.Meets.{words_in, toks_at, token_at, Holds, Few, Follows, MeetsNumber, MeetsLeaf, LeafHolds, Leads};
+ghost use Rattle.reading.specs.Calls.{call_kind, call_by, right_count, method_kind, optional_by, ending, date_in, kind_or_none};
+ghost use Rattle.reading.specs.Meets.{words_in, toks_at, token_at, Holds, Few, Follows, MeetsNumber, MeetsLeaf, Leads};
+ghost use Rattle.reading.specs.Rows.{kind_number};
 
-use crate::answers::{Leaf, Number, Took};
+use crate::answers::{Fault, Leaf, Number};
 use crate::atoms::{next, take};
-use crate::records::Node;
+use crate::records::{Kind, leaf};
 use tokens::codes::{CLOSE_PAREN, COMMA, OPEN_PAREN, STRING};
 use tokens::cursor::Cursor;
 use tokens::dates::date_of;
 use tokens::names::place_in;
+use tokens::refusals::Ground;
 use tokens::text::equal;
 use tokens::words::key_of;
 
-fn call_by(key: u64) -> u8
-    ensures { result ≡ call_by key }
+#[tactic(auto, unfolding(crate::specs::Computing::computing))]
+fn call_by(key: u64) -> Option<Kind>
+    ensures { kind_or_none result ≡ call_by key }
 {
     match key {
-        0x1_6e_6c => 21,
-        0x1_70_78_65 => 22,
-        0x1_77_6f_70 => 12,
-        0x1_6e_69_6d => 23,
-        0x1_78_61_6d => 24,
-        0x1_67_76_63 => 25,
-        0x1_66_69_66 => 26,
-        0x1_65_67_6e_61_72 => 27,
-        0x1_74_6f_70_53 => 32,
-        0x1_66_44 => 34,
-        _ => 0,
+        0x1_6e_6c => Some(Kind::Ln),
+        0x1_70_78_65 => Some(Kind::Exp),
+        0x1_77_6f_70 => Some(Kind::Pow),
+        0x1_6e_69_6d => Some(Kind::Min),
+        0x1_78_61_6d => Some(Kind::Max),
+        0x1_67_76_63 => Some(Kind::Cvg),
+        0x1_66_69_66 => Some(Kind::Fif),
+        0x1_65_67_6e_61_72 => Some(Kind::Range),
+        0x1_74_6f_70_53 => Some(Kind::Spot),
+        0x1_66_44 => Some(Kind::Df),
+        _ => None,
     }
 }
 
-// The kind of record that a call of this name makes; 0 where the name is no call's.
-pub fn call_of(w: &[u8]) -> u8
-    ensures { result ≡ call_kind w.now }
+// The kind of record that a call of this name makes.
+pub fn call_of(w: &[u8]) -> Option<Kind>
+    ensures { kind_or_none result ≡ call_kind w.now }
 {
-    let kind = call_by(key_of(w));
-    if kind != 0 {
-        return kind;
-    }
     if equal(b"RateIndex", w) {
-        return 35;
+        return Some(Kind::RateIndex);
     }
-    0
+    call_by(key_of(w))
 }
 
 // Whether a call takes so many arguments.
-pub fn is_right_count(kind: u8, count: u32) -> bool
-    ensures { result ≡ right_count kind count }
+pub fn is_right_count(kind: Kind, count: u32) -> bool
+    ensures { result ≡ right_count (kind_number kind) count }
 {
     match kind {
-        21 => count == 1,
-        22 => count == 1,
-        12 => count == 2,
-        27 => count == 2,
-        23 => 2 <= count && count <= 100,
-        24 => 2 <= count && count <= 100,
-        25 => count == 3,
-        26 => count == 4,
+        Kind::Ln | Kind::Exp => count == 1,
+        Kind::Pow | Kind::Range => count == 2,
+        Kind::Min | Kind::Max => 2 <= count && count <= 100,
+        Kind::Cvg => count == 3,
+        Kind::Fif => count == 4,
         _ => false,
     }
 }
 
-// The kind of record that a method of this name makes with so many arguments; 0 where there is none.
-pub fn method_of(w: &[u8], count: u32) -> u8
-    ensures { result ≡ method_kind w.now count }
+// The kind of record that a method of this name makes with so many arguments.
+pub fn method_of(w: &[u8], count: u32) -> Option<Kind>
+    ensures { kind_or_none result ≡ method_kind w.now count }
 {
-    let key = key_of(w);
-    if count == 1 {
-        if key == 0x1_64_6e_65_70_70_61 {
-            return 29;
-        }
-        return 0;
-    }
-    if count != 0 {
-        return 0;
-    }
-    match key {
-        0x1_6e_61_65_6d => 30,
-        0x1_64_74_73 => 31,
-        _ => 0,
+    match (key_of(w), count) {
+        (0x1_64_6e_65_70_70_61, 1) => Some(Kind::Append),
+        (0x1_6e_61_65_6d, 0) => Some(Kind::Mean),
+        (0x1_64_74_73, 0) => Some(Kind::Std),
+        _ => None,
     }
 }
 
 // A string token that must be a date.
-fn date(s: &[u8], c: Cursor) -> Number
+fn date(s: &[u8], c: Cursor) -> Result<Number, Fault>
     requires { Holds s.now c }
     ensures { MeetsNumber s.now (a_date (toks_at s.now c.start)) result }
 {
-    match take(s, c, STRING) {
-        Took::Not(b) => Number::Refused(8, b),
-        Took::Next(d) => {
-            let a = c.start as usize + 1;
-            let e = c.end as usize - 1;
-            let day = date_of(&s[a..e]);
-            if day == 0 {
-                return Number::Refused(11, c.start);
-            }
-            Number::Is(d, day)
-        }
-    }
+    let at = take(s, c, STRING)?;
+    let Some(value) = date_in(s, c) else {
+        return Err(Fault::at(c, Ground::Date));
+    };
+    Ok(Number { at, value })
 }
 
 // A string token that must be a currency.
-fn currency(s: &[u8], currencies: &[u8], c: Cursor) -> Number
+fn currency(s: &[u8], currencies: &[u8], c: Cursor) -> Result<Number, Fault>
     requires { Holds s.now c × Few currencies.now }
     ensures { MeetsNumber s.now (a_currency (words_in [] currencies.now []) (toks_at s.now c.start)) result }
 {
-    match take(s, c, STRING) {
-        Took::Not(b) => Number::Refused(8, b),
-        Took::Next(d) => {
-            let a = c.start as usize + 1;
-            let e = c.end as usize - 1;
-            let place = place_in(currencies, &s[a..e]);
-            if place == 0 {
-                return Number::Refused(12, c.start);
-            }
-            Number::Is(d, place as u32)
-        }
-    }
+    let at = take(s, c, STRING)?;
+    let a = c.start as usize + 1;
+    let e = c.end as usize - 1;
+    let Some(place) = place_in(currencies, &s[a..e]) else {
+        return Err(Fault::at(c, Ground::Currency));
+    };
+    Ok(Number {
+        at,
+        value: place as u32 + 1,
+    })
 }
 
 // Where this sign stands, a date behind it; else 0.
-pub fn optional_date(s: &[u8], c: Cursor, sign: u8) -> Number
+pub fn optional_date(s: &[u8], c: Cursor, sign: u8) -> Result<Number, Fault>
     requires { Holds s.now c × (sign ≡ 0 → ⊥) }
     ensures { MeetsNumber s.now (optional_by sign 0 a_date (toks_at s.now c.start)) result }
 {
     if c.code != sign {
-        return Number::Is(c, 0);
+        return Ok(Number { at: c, value: 0 });
     }
     date(s, next(s, c))
 }
 
 // Where this sign stands, a currency behind it; else 0.
-pub fn optional_currency(s: &[u8], currencies: &[u8], c: Cursor, sign: u8) -> Number
+pub fn optional_currency(s: &[u8], currencies: &[u8], c: Cursor, sign: u8) -> Result<Number, Fault>
     requires { Holds s.now c × Few currencies.now × (sign ≡ 0 → ⊥) }
     ensures { MeetsNumber s.now (optional_by sign 0 (a_currency (words_in [] currencies.now [])) (toks_at s.now c.start)) result }
 {
     if c.code != sign {
-        return Number::Is(c, 0);
+        return Ok(Number { at: c, value: 0 });
     }
     currency(s, currencies, next(s, c))
 }
 
 // An equity: the string at c is its name, and d stands behind it. The word `Spot` stands at the place, as below.
-fn equity_at(s: &[u8], place: u16, c: Cursor, d: Cursor) -> Leaf
+fn equity_at(s: &[u8], place: u16, c: Cursor, d: Cursor) -> Result<Leaf, Fault>
     requires { Holds s.now c × Follows s.now c d × (c.code ≡ 5) }
     ensures { MeetsLeaf s.now (equity (words_in [] [] []) place (token_at s.now c) (toks_at s.now d.start)) result }
 {
-    match optional_date(s, d, COMMA) {
-        Number::Refused(k, b) => Leaf::Refused(k, b),
-        Number::Is(e, day) => Leaf::Is(
-            e,
-            Node {
-                kind: 33,
-                nodes: 1,
-                parts: 0,
-                f1: (c.start + 1) as u32,
-                f2: (c.end - c.start - 2) as u32,
-                f3: day,
-                f4: 0,
-                place: place as u32,
-            },
-        ),
-    }
+    let day = optional_date(s, d, COMMA)?;
+    let start = (c.start + 1) as u32;
+    let size = (c.end - c.start - 2) as u32;
+    Ok(Leaf {
+        at: day.at,
+        node: leaf(Kind::EquitySpot, start, size, day.value, 0, place),
+    })
 }
 
 // A pair of currencies, the first of which is known; c stands behind it.
-fn pair_at(s: &[u8], currencies: &[u8], place: u16, first: u32, c: Cursor) -> Leaf
+fn pair_at(s: &[u8], currencies: &[u8], place: u16, first: u32, c: Cursor) -> Result<Leaf, Fault>
     requires { Holds s.now c × Few currencies.now }
     ensures { MeetsLeaf s.now (pair (words_in [] currencies.now []) place first (toks_at s.now c.start)) result }
 {
     if c.code != COMMA {
-        return Leaf::Is(c, exchange(place, first, 1, 0));
+        return Ok(Leaf {
+            at: c,
+            node: leaf(Kind::Spot, first, 1, 0, 0, place),
+        });
     }
-    match currency(s, currencies, next(s, c)) {
-        Number::Refused(k, b) => Leaf::Refused(k, b),
-        Number::Is(d, second) => match optional_date(s, d, COMMA) {
-            Number::Refused(k, b) => Leaf::Refused(k, b),
-            Number::Is(e, day) => Leaf::Is(e, exchange(place, first, second, day)),
-        },
-    }
-}
-
-fn exchange(place: u16, first: u32, second: u32, day: u32) -> Node
-    ensures { result ≡ record { kind = 32; nodes = 1; parts = 0; f1 = first; f2 = second; f3 = day; f4 = 0; place = place } }
-{
-    Node {
-        kind: 32,
-        nodes: 1,
-        parts: 0,
-        f1: first,
-        f2: second,
-        f3: day,
-        f4: 0,
-        place: place as u32,
-    }
+    let second = currency(s, currencies, next(s, c))?;
+    let day = optional_date(s, second.at, COMMA)?;
+    Ok(Leaf {
+        at: day.at,
+        node: leaf(Kind::Spot, first, second.value, day.value, 0, place),
+    })
 }
 
 // What stands behind the first string of a Spot, at c, up to its closing sign; d stands behind the string.
-fn spot_of(s: &[u8], currencies: &[u8], place: u16, c: Cursor, d: Cursor) -> Leaf
+fn spot_of(s: &[u8], currencies: &[u8], place: u16, c: Cursor, d: Cursor) -> Result<Leaf, Fault>
     requires { Holds s.now c × Follows s.now c d × (c.code ≡ 5) × Few currencies.now }
     ensures { MeetsLeaf s.now (spot_of (words_in [] currencies.now []) place (token_at s.now c) (toks_at s.now d.start)) result }
 {
     let a = c.start as usize + 1;
     let e = c.end as usize - 1;
-    let number = place_in(currencies, &s[a..e]);
-    if number == 0 {
-        return equity_at(s, place, c, d);
+    match place_in(currencies, &s[a..e]) {
+        None => equity_at(s, place, c, d),
+        Some(number) => pair_at(s, currencies, place, number as u32 + 1, d),
     }
-    pair_at(s, currencies, place, number as u32, d)
 }
 
 // A leaf and its closing sign.
-fn closed(s: &[u8], leaf: Leaf) -> Leaf
-    requires { LeafHolds s.now leaf }
-    ensures { (R : Out Tree) → MeetsLeaf s.now R leaf → MeetsLeaf s.now (bind ending R) result }
+fn closed(s: &[u8], leaf: Leaf) -> Result<Leaf, Fault>
+    requires { Holds s.now leaf.at }
+    ensures { (R : Out Tree) → MeetsLeaf s.now R (Ok leaf) → MeetsLeaf s.now (bind ending R) result }
 {
-    match leaf {
-        Leaf::Refused(_, _) => leaf,
-        Leaf::Is(c, node) => match take(s, c, CLOSE_PAREN) {
-            Took::Not(b) => Leaf::Refused(8, b),
-            Took::Next(d) => Leaf::Is(d, node),
-        },
-    }
+    let at = take(s, leaf.at, CLOSE_PAREN)?;
+    Ok(Leaf {
+        at,
+        node: leaf.node,
+    })
 }
 
 // Spot, behind its name.
-pub fn spot_at(s: &[u8], currencies: &[u8], place: u16, c: Cursor) -> Leaf
+pub fn spot_at(s: &[u8], currencies: &[u8], place: u16, c: Cursor) -> Result<Leaf, Fault>
     requires { Holds s.now c × Few currencies.now }
     ensures { MeetsLeaf s.now (spot (words_in [] currencies.now []) place (toks_at s.now c.start)) result }
 {
-    match take(s, c, OPEN_PAREN) {
-        Took::Not(b) => Leaf::Refused(8, b),
-        Took::Next(name) => match take(s, name, STRING) {
-            Took::Not(b) => Leaf::Refused(8, b),
-            Took::Next(d) => closed(s, spot_of(s, currencies, place, name, d)),
-        },
-    }
+    let name = take(s, c, OPEN_PAREN)?;
+    let d = take(s, name, STRING)?;
+    closed(s, spot_of(s, currencies, place, name, d)?)
 }
 
 // What stands behind the date of a Df, up to its closing sign.
-fn curve_at(s: &[u8], place: u16, day: u32, c: Cursor) -> Leaf
+fn curve_at(s: &[u8], place: u16, day: u32, c: Cursor) -> Result<Leaf, Fault>
     requires { Holds s.now c }
     ensures { MeetsLeaf s.now (curve place day (toks_at s.now c.start)) result }
 {
     if c.code != COMMA {
-        return Leaf::Is(c, discount(place, day, 0, 0));
+        return Ok(Leaf {
+            at: c,
+            node: leaf(Kind::Df, day, 0, 0, 0, place),
+        });
     }
     let name = next(s, c);
-    match take(s, name, STRING) {
-        Took::Not(b) => Leaf::Refused(8, b),
-        Took::Next(d) => Leaf::Is(
-            d,
-            discount(
-                place,
-                day,
-                (name.start + 1) as u32,
-                (name.end - name.start - 2) as u32,
-            ),
-        ),
-    }
-}
-
-fn discount(place: u16, day: u32, start: u32, length: u32) -> Node
-    ensures { result ≡ record { kind = 34; nodes = 1; parts = 0; f1 = day; f2 = start; f3 = length; f4 = 0; place = place } }
-{
-    Node {
-        kind: 34,
-        nodes: 1,
-        parts: 0,
-        f1: day,
-        f2: start,
-        f3: length,
-        f4: 0,
-        place: place as u32,
-    }
+    let at = take(s, name, STRING)?;
+    let start = (name.start + 1) as u32;
+    let size = (name.end - name.start - 2) as u32;
+    Ok(Leaf {
+        at,
+        node: leaf(Kind::Df, day, start, size, 0, place),
+    })
 }
 
 // Df, behind its name.
-pub fn df_at(s: &[u8], place: u16, c: Cursor) -> Leaf
+pub fn df_at(s: &[u8], place: u16, c: Cursor) -> Result<Leaf, Fault>
     requires { Holds s.now c }
     ensures { MeetsLeaf s.now (df place (toks_at s.now c.start)) result }
 {
-    match take(s, c, OPEN_PAREN) {
-        Took::Not(b) => Leaf::Refused(8, b),
-        Took::Next(d) => match date(s, d) {
-            Number::Refused(k, b) => Leaf::Refused(k, b),
-            Number::Is(e, day) => closed(s, curve_at(s, place, day, e)),
-        },
-    }
+    let d = take(s, c, OPEN_PAREN)?;
+    let day = date(s, d)?;
+    closed(s, curve_at(s, place, day.value, day.at)?)
 }
 
 // A sign and the string token behind it: the cursor at the string.
-fn string_behind(s: &[u8], c: Cursor, sign: u8) -> Took
+fn string_behind(s: &[u8], c: Cursor, sign: u8) -> Result<Cursor, Fault>
     requires { Holds s.now c × (sign ≡ 0 → ⊥) }
     ensures { Leads s.now sign c result }
 {
-    match take(s, c, sign) {
-        Took::Not(b) => Took::Not(b),
-        Took::Next(d) => {
-            if d.code != STRING {
-                return Took::Not(d.start);
-            }
-            Took::Next(d)
-        }
+    let d = take(s, c, sign)?;
+    if d.code != STRING {
+        return Err(Fault::at(d, Ground::Token));
     }
+    Ok(d)
 }
 
 // The date in the string at c.
-fn date_in(s: &[u8], c: Cursor) -> u32
+fn date_in(s: &[u8], c: Cursor) -> Option<u32>
     requires { Holds s.now c × (c.code ≡ 5) }
-    ensures { result ≡ date_in (token_at s.now c) }
+    ensures { result ≡ unless_0 (date_in (token_at s.now c)) }
 {
     let a = c.start as usize + 1;
     let e = c.end as usize - 1;
@@ -322,49 +247,32 @@ fn date_in(s: &[u8], c: Cursor) -> u32
 }
 
 // The dates of a RateIndex are judged when all of it is read: its name is the string at a, the dates those at b and c.
-fn rate(s: &[u8], place: u16, a: Cursor, b: Cursor, c: Cursor, d: Cursor) -> Leaf
+fn rate(s: &[u8], place: u16, a: Cursor, b: Cursor, c: Cursor, d: Cursor) -> Result<Leaf, Fault>
     requires { Holds s.now a × Holds s.now b × Holds s.now c × Holds s.now d × (a.code ≡ 5) × (b.code ≡ 5) × (c.code ≡ 5) }
     ensures { MeetsLeaf s.now (rate_of place (token_at s.now a) (token_at s.now b) (token_at s.now c) (toks_at s.now d.start)) result }
 {
-    let first = date_in(s, b);
-    if first == 0 {
-        return Leaf::Refused(11, b.start);
-    }
-    let second = date_in(s, c);
-    if second == 0 {
-        return Leaf::Refused(11, c.start);
-    }
-    Leaf::Is(
-        d,
-        Node {
-            kind: 35,
-            nodes: 1,
-            parts: 0,
-            f1: (a.start + 1) as u32,
-            f2: (a.end - a.start - 2) as u32,
-            f3: first,
-            f4: second,
-            place: place as u32,
-        },
-    )
+    let Some(first) = date_in(s, b) else {
+        return Err(Fault::at(b, Ground::Date));
+    };
+    let Some(second) = date_in(s, c) else {
+        return Err(Fault::at(c, Ground::Date));
+    };
+    let start = (a.start + 1) as u32;
+    let size = (a.end - a.start - 2) as u32;
+    Ok(Leaf {
+        at: d,
+        node: leaf(Kind::RateIndex, start, size, first, second, place),
+    })
 }
 
 // RateIndex, behind its name.
-pub fn rate_index_at(s: &[u8], place: u16, c: Cursor) -> Leaf
+pub fn rate_index_at(s: &[u8], place: u16, c: Cursor) -> Result<Leaf, Fault>
     requires { Holds s.now c }
     ensures { MeetsLeaf s.now (rate_index place (toks_at s.now c.start)) result }
 {
-    match string_behind(s, c, OPEN_PAREN) {
-        Took::Not(b) => Leaf::Refused(8, b),
-        Took::Next(name) => match string_behind(s, next(s, name), COMMA) {
-            Took::Not(b) => Leaf::Refused(8, b),
-            Took::Next(from) => match string_behind(s, next(s, from), COMMA) {
-                Took::Not(b) => Leaf::Refused(8, b),
-                Took::Next(to) => match take(s, next(s, to), CLOSE_PAREN) {
-                    Took::Not(b) => Leaf::Refused(8, b),
-                    Took::Next(d) => rate(s, place, name, from, to, d),
-                },
-            },
-        },
-    }
+    let name = string_behind(s, c, OPEN_PAREN)?;
+    let from = string_behind(s, next(s, name), COMMA)?;
+    let to = string_behind(s, next(s, from), COMMA)?;
+    let d = take(s, next(s, to), CLOSE_PAREN)?;
+    rate(s, place, name, from, to, d)
 }

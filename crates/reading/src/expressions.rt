@@ -1,21 +1,21 @@
 // Expressions: one reader for each rule. They call each other through parentheses, lists, arguments and index, with the
-// depth that is left as the falling number. `two` says whether the script is of the second edition.
-ghost use Rattle.std.specs.Prelude.{◌≡◌, true, List, ℕ, ◌≤◌, ◌<◌};
+// depth that is left as the falling number.
+ghost use Rattle.std.specs.Prelude.{◌≡◌, true, List, ℕ, ◌<◌};
 ghost use Rattle.grammar.specs.Trees.{Tree};
 ghost use Rattle.grammar.specs.Grammar.{calls, call_of, primary};
 ghost use Rattle.reading.specs.Calls.{call_kind};
-ghost use Rattle.reading.specs.Meets.{language_in, toks_at, token_at, Holds, Ready, Few, Follows, Meets};
+ghost use Rattle.reading.specs.Rows.{kind_number};
+ghost use Rattle.reading.specs.Meets.{language_of, toks_at, token_at, Holds, Ready, Few, Follows, Meets};
 ghost use Rattle.reading.specs.Signs.{postfix_sign};
 ghost use Rattle.reading.specs.Turns.{expression_or, comparison_or, sum_or, product_or, power_at, signed_at, minus_at, parenthesised, list_postfixed, pays_at, name_at, call_at, arguments_at, items_at, postfixes_at, postfix_turn_at, method_at, index_at, Closing, Closed, MeetsItems, Tops, MeetsTurns};
 
-use crate::answers::{Items, Read, Texts, Took};
+use crate::answers::{Fault, Items, Read, Texts};
 use crate::atoms::{atom_at, constant_at, lone_at, next, take, variable_at};
-use crate::calling::{
-    call_fault, follow, negative, payday_at, refusal, refused, shown, special, stops_pays,
-};
+use crate::calling::{call_fault, follow, negative, payday_at, shown, special, stops_pays};
 use crate::calls::{call_of, method_of};
+use crate::language::Language;
 use crate::powers::step;
-use crate::records::{join, plain, put};
+use crate::records::{Kind, join, plain, put};
 use crate::signs::{
     is_comparator, is_looser, is_postfix, is_power, is_product, is_raised, is_sum, is_tighter,
 };
@@ -23,6 +23,7 @@ use tokens::codes::{
     CLOSE_BRACKET, CLOSE_PAREN, DOT, MINUS, NAME, OPEN_BRACKET, OPEN_PAREN, PAYS, PLUS,
 };
 use tokens::cursor::Cursor;
+use tokens::refusals::Ground;
 
 // Comparisons joined by `and` and `or`, left to right. Where `and` binds tighter, the operands of `or` are chains of their own:
 // the records of the one that is read begin at `from`, and its text at `place`. It is also how a power alone is read, without
@@ -30,18 +31,15 @@ use tokens::cursor::Cursor;
 #[cycle(expressions)]
 pub fn expression(
     s: &[u8],
-    two: bool,
+    language: &Language,
     alone: bool,
-    reserved: &[u8],
-    currencies: &[u8],
-    counters: &[u8],
     c: Cursor,
     depth: u32,
     out: &mut [u32],
     n: u32,
-) -> Read
-    requires { Ready s.now c n × Few currencies.now }
-    ensures { Meets s.now (expression_or alone (language_in two reserved.now currencies.now counters.now) depth (toks_at s.now c.start)) n out.old result out.new }
+) -> Result<Read, Fault>
+    requires { Ready s.now c n × Few language.now.lists.currencies.now }
+    ensures { Meets s.now (expression_or alone (language_of language.now) depth (toks_at s.now c.start)) n out.old result out.new }
 {
     let mut at = c;
     let mut m = n;
@@ -50,25 +48,24 @@ pub fn expression(
     let mut from = n;
     let mut place = c.start;
     loop {
-        let r = comparison(
-            s, two, alone, reserved, currencies, counters, at, depth, out, m,
-        );
-        let Read::Done(c1, n1, p1) = r else {
-            return r;
-        };
-        let i = join(out, tight, from, n1, p1, place);
-        let code = c1.code;
-        if is_tighter(two, alone, code) {
-            at = next(s, c1);
+        let r = comparison(s, language, alone, at, depth, out, m)?;
+        let i = join(out, tight, from, r.records, r.string, place);
+        let code = r.at.code;
+        if is_tighter(language.two, alone, code) {
+            at = next(s, r.at);
             m = i.records;
             tight = code;
             continue;
         }
         let j = join(out, sign, n, i.records, i.string, c.start);
-        if !is_looser(two, alone, code) {
-            return Read::Done(c1, j.records, j.string);
+        if !is_looser(language.two, alone, code) {
+            return Ok(Read {
+                at: r.at,
+                records: j.records,
+                string: j.string,
+            });
         }
-        at = next(s, c1);
+        at = next(s, r.at);
         m = j.records;
         sign = code;
         tight = 0;
@@ -81,38 +78,38 @@ pub fn expression(
 #[cycle(expressions)]
 fn comparison(
     s: &[u8],
-    two: bool,
+    language: &Language,
     alone: bool,
-    reserved: &[u8],
-    currencies: &[u8],
-    counters: &[u8],
     c: Cursor,
     depth: u32,
     out: &mut [u32],
     n: u32,
-) -> Read
-    requires { Ready s.now c n × Few currencies.now }
-    ensures { Meets s.now (comparison_or alone (language_in two reserved.now currencies.now counters.now) depth (toks_at s.now c.start)) n out.old result out.new }
+) -> Result<Read, Fault>
+    requires { Ready s.now c n × Few language.now.lists.currencies.now }
+    ensures { Meets s.now (comparison_or alone (language_of language.now) depth (toks_at s.now c.start)) n out.old result out.new }
 {
     let mut at = c;
     let mut m = n;
     let mut sign: u8 = 0;
     loop {
-        let r = sum(
-            s, two, alone, reserved, currencies, counters, at, depth, out, m,
-        );
-        let Read::Done(c1, n1, p1) = r else {
-            return r;
-        };
-        let j = join(out, sign, n, n1, p1, c.start);
+        let r = sum(s, language, alone, at, depth, out, m)?;
+        let j = join(out, sign, n, r.records, r.string, c.start);
         if sign != 0 {
-            return Read::Done(c1, j.records, j.string);
+            return Ok(Read {
+                at: r.at,
+                records: j.records,
+                string: j.string,
+            });
         }
-        let code = c1.code;
+        let code = r.at.code;
         if !is_comparator(alone, code) {
-            return Read::Done(c1, j.records, j.string);
+            return Ok(Read {
+                at: r.at,
+                records: j.records,
+                string: j.string,
+            });
         }
-        at = next(s, c1);
+        at = next(s, r.at);
         m = j.records;
         sign = code;
     }
@@ -122,35 +119,31 @@ fn comparison(
 #[cycle(expressions)]
 fn sum(
     s: &[u8],
-    two: bool,
+    language: &Language,
     alone: bool,
-    reserved: &[u8],
-    currencies: &[u8],
-    counters: &[u8],
     c: Cursor,
     depth: u32,
     out: &mut [u32],
     n: u32,
-) -> Read
-    requires { Ready s.now c n × Few currencies.now }
-    ensures { Meets s.now (sum_or alone (language_in two reserved.now currencies.now counters.now) depth (toks_at s.now c.start)) n out.old result out.new }
+) -> Result<Read, Fault>
+    requires { Ready s.now c n × Few language.now.lists.currencies.now }
+    ensures { Meets s.now (sum_or alone (language_of language.now) depth (toks_at s.now c.start)) n out.old result out.new }
 {
     let mut at = c;
     let mut m = n;
     let mut sign: u8 = 0;
     loop {
-        let r = product(
-            s, two, alone, reserved, currencies, counters, at, depth, out, m,
-        );
-        let Read::Done(c1, n1, p1) = r else {
-            return r;
-        };
-        let j = join(out, sign, n, n1, p1, c.start);
-        let code = c1.code;
+        let r = product(s, language, alone, at, depth, out, m)?;
+        let j = join(out, sign, n, r.records, r.string, c.start);
+        let code = r.at.code;
         if !is_sum(alone, code) {
-            return Read::Done(c1, j.records, j.string);
+            return Ok(Read {
+                at: r.at,
+                records: j.records,
+                string: j.string,
+            });
         }
-        at = next(s, c1);
+        at = next(s, r.at);
         m = j.records;
         sign = code;
     }
@@ -160,33 +153,31 @@ fn sum(
 #[cycle(expressions)]
 fn product(
     s: &[u8],
-    two: bool,
+    language: &Language,
     alone: bool,
-    reserved: &[u8],
-    currencies: &[u8],
-    counters: &[u8],
     c: Cursor,
     depth: u32,
     out: &mut [u32],
     n: u32,
-) -> Read
-    requires { Ready s.now c n × Few currencies.now }
-    ensures { Meets s.now (product_or alone (language_in two reserved.now currencies.now counters.now) depth (toks_at s.now c.start)) n out.old result out.new }
+) -> Result<Read, Fault>
+    requires { Ready s.now c n × Few language.now.lists.currencies.now }
+    ensures { Meets s.now (product_or alone (language_of language.now) depth (toks_at s.now c.start)) n out.old result out.new }
 {
     let mut at = c;
     let mut m = n;
     let mut sign: u8 = 0;
     loop {
-        let r = power(s, two, reserved, currencies, counters, at, depth, out, m);
-        let Read::Done(c1, n1, p1) = r else {
-            return r;
-        };
-        let j = join(out, sign, n, n1, p1, c.start);
-        let code = c1.code;
+        let r = power(s, language, at, depth, out, m)?;
+        let j = join(out, sign, n, r.records, r.string, c.start);
+        let code = r.at.code;
         if !is_product(alone, code) {
-            return Read::Done(c1, j.records, j.string);
+            return Ok(Read {
+                at: r.at,
+                records: j.records,
+                string: j.string,
+            });
         }
-        at = next(s, c1);
+        at = next(s, r.at);
         m = j.records;
         sign = code;
     }
@@ -197,34 +188,43 @@ fn product(
 #[cycle(expressions)]
 fn power(
     s: &[u8],
-    two: bool,
-    reserved: &[u8],
-    currencies: &[u8],
-    counters: &[u8],
+    language: &Language,
     c: Cursor,
     depth: u32,
     out: &mut [u32],
     n: u32,
-) -> Read
-    requires { Ready s.now c n × Few currencies.now }
-    ensures { Meets s.now (power_at (language_in two reserved.now currencies.now counters.now) depth (toks_at s.now c.start)) n out.old result out.new }
+) -> Result<Read, Fault>
+    requires { Ready s.now c n × Few language.now.lists.currencies.now }
+    ensures { Meets s.now (power_at (language_of language.now) depth (toks_at s.now c.start)) n out.old result out.new }
 {
     let mut at = c;
     let mut m = n;
     let mut fits = n;
     let mut count: u32 = 0;
     loop {
-        let r = primary(s, two, reserved, currencies, counters, at, depth, out, m);
-        let Read::Done(c1, n1, p1) = r else {
-            return r;
-        };
-        let code = c1.code;
+        let r = primary(s, language, at, depth, out, m)?;
+        let code = r.at.code;
         let more = is_power(code);
-        let j = step(out, two, more, count, n, fits, n1, p1, c.start, at.start);
+        let j = step(
+            out,
+            language.two,
+            more,
+            count,
+            n,
+            fits,
+            r.records,
+            r.string,
+            c.start,
+            at.start,
+        );
         if !more {
-            return Read::Done(c1, j.records, j.string);
+            return Ok(Read {
+                at: r.at,
+                records: j.records,
+                string: j.string,
+            });
         }
-        at = next(s, c1);
+        at = next(s, r.at);
         m = j.records;
         fits = j.fits;
         count += 1;
@@ -234,355 +234,264 @@ fn power(
 // What a sign takes in: a primary, or in the second edition the `**` after it too. Another sign there takes it in itself, so that
 // nested signs need no more stack than in the first edition.
 #[cycle(expressions)]
+#[tactic(auto, using(crate::proofs::StepLaws::meets_as, crate::proofs::StepLaws::signed_here))]
 fn signed(
     s: &[u8],
-    two: bool,
-    reserved: &[u8],
-    currencies: &[u8],
-    counters: &[u8],
+    language: &Language,
     c: Cursor,
     depth: u32,
     out: &mut [u32],
     n: u32,
-) -> Read
-    requires { Ready s.now c n × Few currencies.now }
-    ensures { Meets s.now (signed_at (language_in two reserved.now currencies.now counters.now) depth (toks_at s.now c.start)) n out.old result out.new }
+) -> Result<Read, Fault>
+    requires { Ready s.now c n × Few language.now.lists.currencies.now }
+    ensures { Meets s.now (signed_at (language_of language.now) depth (toks_at s.now c.start)) n out.old result out.new }
 {
     let code = c.code;
-    if is_raised(two, code) {
-        return expression(
-            s, two, true, reserved, currencies, counters, c, depth, out, n,
-        );
+    if is_raised(language.two, code) {
+        return expression(s, language, true, c, depth, out, n);
     }
-    primary(s, two, reserved, currencies, counters, c, depth, out, n)
+    primary(s, language, c, depth, out, n)
 }
 
 // A primary.
 #[cycle(expressions)]
+#[tactic(auto, using(crate::proofs::StepLaws::meets_as, crate::proofs::StepLaws::prim_paren, crate::proofs::StepLaws::prim_plus_0, crate::proofs::StepLaws::prim_plus, crate::proofs::StepLaws::prim_list, crate::proofs::StepLaws::prim_pays, crate::proofs::StepLaws::prim_atom, crate::proofs::StepLaws::prim_name, crate::proofs::StepLaws::prim_minus))]
 fn primary(
     s: &[u8],
-    two: bool,
-    reserved: &[u8],
-    currencies: &[u8],
-    counters: &[u8],
+    language: &Language,
     c: Cursor,
     depth: u32,
     out: &mut [u32],
     n: u32,
-) -> Read
-    requires { Ready s.now c n × Few currencies.now }
-    ensures { Meets s.now (primary (language_in two reserved.now currencies.now counters.now) depth (toks_at s.now c.start)) n out.old result out.new }
+) -> Result<Read, Fault>
+    requires { Ready s.now c n × Few language.now.lists.currencies.now }
+    ensures { Meets s.now (primary (language_of language.now) depth (toks_at s.now c.start)) n out.old result out.new }
 {
     let d = next(s, c);
-    let code = c.code;
-    match code {
-        OPEN_PAREN => parenthesis(s, two, reserved, currencies, counters, c, d, depth, out, n),
+    match c.code {
+        OPEN_PAREN => parenthesis(s, language, c, d, depth, out, n),
         PLUS => {
             if depth == 0 {
-                return Read::Refused(15, c.start);
+                return Err(Fault::at(c, Ground::Depth));
             }
-            signed(s, two, reserved, currencies, counters, d, depth - 1, out, n)
+            signed(s, language, d, depth - 1, out, n)
         }
-        MINUS => minus(s, two, reserved, currencies, counters, c, d, depth, out, n),
-        OPEN_BRACKET => list(s, two, reserved, currencies, counters, c, d, depth, out, n),
-        PAYS => pays(s, two, reserved, currencies, counters, c, d, depth, out, n),
-        NAME => name(s, two, reserved, currencies, counters, c, d, depth, out, n),
+        MINUS => minus(s, language, c, d, depth, out, n),
+        OPEN_BRACKET => list(s, language, c, d, depth, out, n),
+        PAYS => pays(s, language, c, d, depth, out, n),
+        NAME => name(s, language, c, d, depth, out, n),
         _ => atom_at(s, c, d, out, n),
     }
 }
 
 // What a minus, at c, makes of what stands at d behind it: a negated constant, or UnaryMinus of what it takes in.
 #[cycle(expressions)]
+#[tactic(auto, using(crate::proofs::StepLaws::meets_err, crate::proofs::StepLaws::minus_0, crate::proofs::StepLaws::minus_refused))]
 fn minus(
     s: &[u8],
-    two: bool,
-    reserved: &[u8],
-    currencies: &[u8],
-    counters: &[u8],
+    language: &Language,
     c: Cursor,
     d: Cursor,
     depth: u32,
     out: &mut [u32],
     n: u32,
-) -> Read
-    requires { Ready s.now c n × Follows s.now c d × (c.code ≡ 9) × Few currencies.now }
-    ensures { Meets s.now (minus_at (language_in two reserved.now currencies.now counters.now) depth (token_at s.now c) (toks_at s.now d.start)) n out.old result out.new }
+) -> Result<Read, Fault>
+    requires { Ready s.now c n × Follows s.now c d × (c.code ≡ 9) × Few language.now.lists.currencies.now }
+    ensures { Meets s.now (minus_at (language_of language.now) depth (token_at s.now c) (toks_at s.now d.start)) n out.old result out.new }
 {
-    let Took::Next(e) = lone_at(s, two, d) else {
-        if depth == 0 {
-            return Read::Refused(15, c.start);
-        }
-        let r = signed(s, two, reserved, currencies, counters, d, depth - 1, out, n);
-        return negative(r, c.start, out, n);
-    };
-    constant_at(s, d, e, true, c.start, out, n)
+    if let Some(e) = lone_at(s, language.two, d) {
+        return Ok(constant_at(s, d, e, true, c.start, out, n));
+    }
+    if depth == 0 {
+        return Err(Fault::at(c, Ground::Depth));
+    }
+    let r = signed(s, language, d, depth - 1, out, n)?;
+    Ok(negative(r, c.start, out, n))
 }
 
 // An expression in parentheses; d stands behind the opening one, at c.
 #[cycle(expressions)]
+#[tactic(auto, using(crate::proofs::StepLaws::meets_err, crate::proofs::StepLaws::parenthesis_refused))]
 fn parenthesis(
     s: &[u8],
-    two: bool,
-    reserved: &[u8],
-    currencies: &[u8],
-    counters: &[u8],
+    language: &Language,
     c: Cursor,
     d: Cursor,
     depth: u32,
     out: &mut [u32],
     n: u32,
-) -> Read
-    requires { Ready s.now c n × Follows s.now c d × (c.code ≡ 40) × Few currencies.now }
-    ensures { Meets s.now (parenthesised (language_in two reserved.now currencies.now counters.now) depth (token_at s.now c) (toks_at s.now c.start)) n out.old result out.new }
+) -> Result<Read, Fault>
+    requires { Ready s.now c n × Follows s.now c d × (c.code ≡ 40) × Few language.now.lists.currencies.now }
+    ensures { Meets s.now (parenthesised (language_of language.now) depth (token_at s.now c) (toks_at s.now c.start)) n out.old result out.new }
 {
     if depth == 0 {
-        return Read::Refused(15, c.start);
+        return Err(Fault::at(c, Ground::Depth));
     }
-    let r = expression(
-        s,
-        two,
-        false,
-        reserved,
-        currencies,
-        counters,
-        d,
-        depth - 1,
-        out,
-        n,
-    );
-    let Read::Done(e, m, p) = r else {
-        return r;
-    };
-    match take(s, e, CLOSE_PAREN) {
-        Took::Not(b) => Read::Refused(8, b),
-        Took::Next(f) => Read::Done(f, m, p),
-    }
+    let r = expression(s, language, false, d, depth - 1, out, n)?;
+    let at = take(s, r.at, CLOSE_PAREN)?;
+    Ok(Read {
+        at,
+        records: r.records,
+        string: r.string,
+    })
 }
 
 // A list with postfixes; d stands behind its `[`, at c.
 #[cycle(expressions)]
+#[tactic(auto, using(crate::proofs::StepLaws::meets_err, crate::proofs::ItemLaws::list_refused))]
 fn list(
     s: &[u8],
-    two: bool,
-    reserved: &[u8],
-    currencies: &[u8],
-    counters: &[u8],
+    language: &Language,
     c: Cursor,
     d: Cursor,
     depth: u32,
     out: &mut [u32],
     n: u32,
-) -> Read
-    requires { Ready s.now c n × Follows s.now c d × (c.code ≡ 44) × Few currencies.now }
-    ensures { Meets s.now (list_postfixed (language_in two reserved.now currencies.now counters.now) depth (token_at s.now c) (toks_at s.now c.start)) n out.old result out.new }
+) -> Result<Read, Fault>
+    requires { Ready s.now c n × Follows s.now c d × (c.code ≡ 44) × Few language.now.lists.currencies.now }
+    ensures { Meets s.now (list_postfixed (language_of language.now) depth (token_at s.now c) (toks_at s.now c.start)) n out.old result out.new }
 {
     if depth == 0 {
-        return Read::Refused(15, c.start);
+        return Err(Fault::at(c, Ground::Depth));
     }
-    let r = items(
-        s,
-        two,
-        reserved,
-        currencies,
-        counters,
-        d,
-        CLOSE_BRACKET,
-        depth - 1,
+    let r = items(s, language, d, CLOSE_BRACKET, depth - 1, out, n)?;
+    let m = r.records;
+    put(
         out,
-        n,
+        m,
+        plain(Kind::List as u32, m - n + 1, r.count, c.start),
     );
-    let Items::Done(e, m, count, _) = r else {
-        return refusal(r);
-    };
-    let f = next(s, e);
-    put(out, m, plain(6, m - n + 1, count, c.start));
-    postfixes(
-        s,
-        two,
-        reserved,
-        currencies,
-        counters,
-        c.start,
-        f,
-        depth,
-        out,
-        n,
-        m + 1,
-    )
+    let f = next(s, r.at);
+    postfixes(s, language, c.start, f, depth, out, n, m + 1)
 }
 
 // The parts of a pays, its date and its currency; d stands behind the word, at c.
 #[cycle(expressions)]
 pub fn pays(
     s: &[u8],
-    two: bool,
-    reserved: &[u8],
-    currencies: &[u8],
-    counters: &[u8],
+    language: &Language,
     c: Cursor,
     d: Cursor,
     depth: u32,
     out: &mut [u32],
     n: u32,
-) -> Read
-    requires { Ready s.now c n × Follows s.now c d × (c.code ≡ 36) × Few currencies.now }
-    ensures { Meets s.now (pays_at (language_in two reserved.now currencies.now counters.now) depth (toks_at s.now c.start)) n out.old result out.new }
+) -> Result<Read, Fault>
+    requires { Ready s.now c n × Follows s.now c d × (c.code ≡ 36) × Few language.now.lists.currencies.now }
+    ensures { Meets s.now (pays_at (language_of language.now) depth (toks_at s.now c.start)) n out.old result out.new }
 {
     if depth == 0 {
-        return Read::Refused(15, c.start);
+        return Err(Fault::at(c, Ground::Depth));
     }
     let mut at = d;
     let mut m = n;
     let mut count: u32 = 0;
-    loop {
-        if stops_pays(at.code) {
-            return payday_at(s, currencies, c.start, at, out, n, m, count);
-        }
-        let r = expression(
-            s,
-            two,
-            false,
-            reserved,
-            currencies,
-            counters,
-            at,
-            depth - 1,
-            out,
-            m,
-        );
-        let Read::Done(e, k, _) = r else {
-            return r;
-        };
-        at = e;
-        m = k;
+    while !stops_pays(at.code) {
+        let r = expression(s, language, false, at, depth - 1, out, m)?;
+        at = r.at;
+        m = r.records;
         count += 1;
     }
+    payday_at(s, language.lists.currencies, c.start, at, out, n, m, count)
 }
 
 // A call or a variable with postfixes: the name stands at c, and d behind it.
 #[cycle(expressions)]
+#[tactic(auto, using(crate::proofs::StepLaws::meets_err, crate::proofs::PostfixLaws::name_refuses, crate::proofs::PostfixLaws::name_reads, crate::proofs::PostfixLaws::name_special, crate::proofs::PostfixLaws::call_kind_high))]
 fn name(
     s: &[u8],
-    two: bool,
-    reserved: &[u8],
-    currencies: &[u8],
-    counters: &[u8],
+    language: &Language,
     c: Cursor,
     d: Cursor,
     depth: u32,
     out: &mut [u32],
     n: u32,
-) -> Read
-    requires { Ready s.now c n × Follows s.now c d × (c.code ≡ 1) × Few currencies.now }
-    ensures { Meets s.now (name_at (language_in two reserved.now currencies.now counters.now) depth (token_at s.now c) (toks_at s.now d.start)) n out.old result out.new }
+) -> Result<Read, Fault>
+    requires { Ready s.now c n × Follows s.now c d × (c.code ≡ 1) × Few language.now.lists.currencies.now }
+    ensures { Meets s.now (name_at (language_of language.now) depth (token_at s.now c) (toks_at s.now d.start)) n out.old result out.new }
 {
     let a = c.start as usize;
     let e = c.end as usize;
-    let kind = call_of(&s[a..e]);
-    if kind == 0 {
-        let r = variable_at(s, reserved, c, d, out, n);
-        let Read::Done(f, m, _) = r else {
-            return r;
-        };
-        return postfixes(
-            s, two, reserved, currencies, counters, c.start, f, depth, out, n, m,
-        );
+    let Some(kind) = call_of(&s[a..e]) else {
+        let r = variable_at(s, language.lists.reserved, c, d, out, n)?;
+        return postfixes(s, language, c.start, r.at, depth, out, n, r.records);
+    };
+    match kind {
+        Kind::Spot | Kind::Df | Kind::RateIndex => {
+            special(s, language.lists.currencies, kind, c.start, d, out, n)
+        }
+        _ => call(s, language, c, d, kind, depth, out, n),
     }
-    if 32 <= kind {
-        return special(s, currencies, kind, c.start, d, out, n);
-    }
-    call(
-        s, two, reserved, currencies, counters, c, d, kind, depth, out, n,
-    )
 }
 
 // An ordinary call, whose record has this kind: its name stands at c, and d behind it.
 #[cycle(expressions)]
+#[tactic(auto, using(crate::proofs::StepLaws::meets_err, crate::proofs::ItemLaws::call_refused))]
 fn call(
     s: &[u8],
-    two: bool,
-    reserved: &[u8],
-    currencies: &[u8],
-    counters: &[u8],
+    language: &Language,
     c: Cursor,
     d: Cursor,
-    kind: u8,
+    kind: Kind,
     depth: u32,
     out: &mut [u32],
     n: u32,
-) -> Read
-    requires { Ready s.now d n × Holds s.now c × (c.code ≡ 1) × Few currencies.now × (kind ≡ call_kind (token_at s.now c).text) × (1 ≤ kind) × (kind < 32) }
-    ensures { Meets s.now (call_at (language_in two reserved.now currencies.now counters.now) depth (token_at s.now c) (call_of (token_at s.now c).text calls) (toks_at s.now d.start)) n out.old result out.new }
+) -> Result<Read, Fault>
+    requires { Ready s.now d n × Holds s.now c × (c.code ≡ 1) × Few language.now.lists.currencies.now × (kind_number kind ≡ call_kind (token_at s.now c).text) × (kind_number kind < 32) }
+    ensures { Meets s.now (call_at (language_of language.now) depth (token_at s.now c) (call_of (token_at s.now c).text calls) (toks_at s.now d.start)) n out.old result out.new }
 {
-    let r = arguments(s, two, reserved, currencies, counters, d, depth, out, n);
-    let Items::Done(e, m, count, texts) = r else {
-        return refusal(r);
-    };
-    let fault = call_fault(s, counters, kind, count, texts);
-    if fault != 0 {
-        return Read::Refused(fault, c.start);
+    let r = arguments(s, language, d, depth, out, n)?;
+    let m = r.records;
+    if let Err(ground) = call_fault(s, language.lists.counters, kind, r.count, r.texts) {
+        return Err(Fault::at(c, ground));
     }
-    put(out, m, plain(kind, m - n + 1, count, c.start));
-    Read::Done(e, m + 1, 0)
+    put(out, m, plain(kind.number(), m - n + 1, r.count, c.start));
+    Ok(Read {
+        at: r.at,
+        records: m + 1,
+        string: 0,
+    })
 }
 
 // An argument list and both its parentheses.
 #[cycle(expressions)]
+#[tactic(auto, using(crate::proofs::StepLaws::items_err, crate::proofs::ItemLaws::arguments_no, crate::proofs::ItemLaws::arguments_0, crate::proofs::ItemLaws::arguments_refused))]
 fn arguments(
     s: &[u8],
-    two: bool,
-    reserved: &[u8],
-    currencies: &[u8],
-    counters: &[u8],
+    language: &Language,
     c: Cursor,
     depth: u32,
     out: &mut [u32],
     n: u32,
-) -> Items
-    requires { Ready s.now c n × Few currencies.now }
-    ensures { MeetsItems s.now (arguments_at (language_in two reserved.now currencies.now counters.now) depth (toks_at s.now c.start)) n out.old result out.new }
+) -> Result<Items, Fault>
+    requires { Ready s.now c n × Few language.now.lists.currencies.now }
+    ensures { MeetsItems s.now (arguments_at (language_of language.now) depth (toks_at s.now c.start)) n out.old result out.new }
 {
-    if c.code != OPEN_PAREN {
-        return Items::Refused(8, c.start);
-    }
+    let d = take(s, c, OPEN_PAREN)?;
     if depth == 0 {
-        return Items::Refused(15, c.start);
+        return Err(Fault::at(c, Ground::Depth));
     }
-    let d = next(s, c);
-    let r = items(
-        s,
-        two,
-        reserved,
-        currencies,
-        counters,
-        d,
-        CLOSE_PAREN,
-        depth - 1,
-        out,
-        n,
-    );
-    let Items::Done(e, m, count, texts) = r else {
-        return r;
-    };
-    Items::Done(next(s, e), m, count, texts)
+    let r = items(s, language, d, CLOSE_PAREN, depth - 1, out, n)?;
+    Ok(Items {
+        at: next(s, r.at),
+        records: r.records,
+        count: r.count,
+        texts: r.texts,
+    })
 }
 
 // Expressions with commas between them, up to the closing sign, which is not taken; a comma may trail.
 #[cycle(expressions)]
 fn items(
     s: &[u8],
-    two: bool,
-    reserved: &[u8],
-    currencies: &[u8],
-    counters: &[u8],
+    language: &Language,
     c: Cursor,
     close: u8,
     depth: u32,
     out: &mut [u32],
     n: u32,
-) -> Items
-    requires { Ready s.now c n × Few currencies.now × Closing close }
-    ensures { MeetsItems s.now (items_at (language_in two reserved.now currencies.now counters.now) close depth (toks_at s.now c.start)) n out.old result out.new × Closed close result }
+) -> Result<Items, Fault>
+    requires { Ready s.now c n × Few language.now.lists.currencies.now × Closing close }
+    ensures { MeetsItems s.now (items_at (language_of language.now) close depth (toks_at s.now c.start)) n out.old result out.new × Closed close result }
 {
     let mut at = c;
     let mut m = n;
@@ -592,166 +501,128 @@ fn items(
         second: 0,
         third: 0,
     };
-    loop {
-        if at.code == close {
-            return Items::Done(at, m, count, texts);
-        }
-        let r = expression(
-            s, two, false, reserved, currencies, counters, at, depth, out, m,
-        );
-        let Read::Done(e, k, p) = r else {
-            return refused(r);
-        };
-        let Took::Next(f) = follow(s, e, close) else {
-            return Items::Refused(8, e.start);
-        };
-        texts = shown(texts, count, p);
-        at = f;
-        m = k;
+    while at.code != close {
+        let r = expression(s, language, false, at, depth, out, m)?;
+        at = follow(s, r.at, close)?;
+        texts = shown(texts, count, r.string);
+        m = r.records;
         count += 1;
     }
+    Ok(Items {
+        at,
+        records: m,
+        count,
+        texts,
+    })
 }
 
 // Postfixes of what was read before, whose text begins at the place, and whose records are those from n to m.
 #[cycle(expressions)]
 fn postfixes(
     s: &[u8],
-    two: bool,
-    reserved: &[u8],
-    currencies: &[u8],
-    counters: &[u8],
+    language: &Language,
     place: u16,
     c: Cursor,
     depth: u32,
     out: &mut [u32],
     n: u32,
     m: u32,
-) -> Read
-    requires { Ready s.now c m × Few currencies.now × (n < m) }
-    ensures { (x : Tree) (o : List ℕ) → Tops n o x m out.old → Meets s.now (postfixes_at (language_in two reserved.now currencies.now counters.now) depth place x (toks_at s.now c.start)) n o result out.new }
+) -> Result<Read, Fault>
+    requires { Ready s.now c m × Few language.now.lists.currencies.now × (n < m) }
+    ensures { (x : Tree) (o : List ℕ) → Tops n o x m out.old → Meets s.now (postfixes_at (language_of language.now) depth place x (toks_at s.now c.start)) n o result out.new }
 {
     let mut at = c;
     let mut k = m;
-    loop {
-        let code = at.code;
-        if !is_postfix(code) {
-            return Read::Done(at, k, 0);
-        }
-        let r = postfix(
-            s, two, reserved, currencies, counters, place, at, depth, out, n, k,
-        );
-        let Read::Done(e, j, _) = r else {
-            return r;
-        };
-        at = e;
-        k = j;
+    while is_postfix(at.code) {
+        let r = postfix(s, language, place, at, depth, out, n, k)?;
+        at = r.at;
+        k = r.records;
     }
+    Ok(Read {
+        at,
+        records: k,
+        string: 0,
+    })
 }
 
 // One postfix, whose sign stands at c.
 #[cycle(expressions)]
 fn postfix(
     s: &[u8],
-    two: bool,
-    reserved: &[u8],
-    currencies: &[u8],
-    counters: &[u8],
+    language: &Language,
     place: u16,
     c: Cursor,
     depth: u32,
     out: &mut [u32],
     n: u32,
     m: u32,
-) -> Read
-    requires { Ready s.now c m × Few currencies.now × (n < m) × (postfix_sign c.code ≡ true) }
-    ensures { MeetsTurns s.now (λ x. postfix_turn_at (language_in two reserved.now currencies.now counters.now) depth place x (toks_at s.now c.start)) n m out.old c result out.new }
+) -> Result<Read, Fault>
+    requires { Ready s.now c m × Few language.now.lists.currencies.now × (n < m) × (postfix_sign c.code ≡ true) }
+    ensures { MeetsTurns s.now (λ x. postfix_turn_at (language_of language.now) depth place x (toks_at s.now c.start)) n m out.old c result out.new }
 {
     let d = next(s, c);
     if c.code == DOT {
-        return method(
-            s, two, reserved, currencies, counters, place, d, depth, out, n, m,
-        );
+        return method(s, language, place, d, depth, out, n, m);
     }
     if depth == 0 {
-        return Read::Refused(15, c.start);
+        return Err(Fault::at(c, Ground::Depth));
     }
-    index(
-        s,
-        two,
-        reserved,
-        currencies,
-        counters,
-        place,
-        d,
-        depth - 1,
-        out,
-        n,
-        m,
-    )
+    index(s, language, place, d, depth - 1, out, n, m)
 }
 
 // A method, behind its `.`.
 #[cycle(expressions)]
 fn method(
     s: &[u8],
-    two: bool,
-    reserved: &[u8],
-    currencies: &[u8],
-    counters: &[u8],
+    language: &Language,
     place: u16,
     c: Cursor,
     depth: u32,
     out: &mut [u32],
     n: u32,
     m: u32,
-) -> Read
-    requires { Ready s.now c m × Few currencies.now × (n < m) }
-    ensures { MeetsTurns s.now (λ x. method_at (language_in two reserved.now currencies.now counters.now) depth place x (toks_at s.now c.start)) n m out.old c result out.new }
+) -> Result<Read, Fault>
+    requires { Ready s.now c m × Few language.now.lists.currencies.now × (n < m) }
+    ensures { MeetsTurns s.now (λ x. method_at (language_of language.now) depth place x (toks_at s.now c.start)) n m out.old c result out.new }
 {
-    let Took::Next(d) = take(s, c, NAME) else {
-        return Read::Refused(8, c.start);
-    };
-    let r = arguments(s, two, reserved, currencies, counters, d, depth, out, m);
-    let Items::Done(e, k, count, _) = r else {
-        return refusal(r);
-    };
+    let d = take(s, c, NAME)?;
+    let r = arguments(s, language, d, depth, out, m)?;
+    let k = r.records;
     let a = c.start as usize;
     let b = c.end as usize;
-    let kind = method_of(&s[a..b], count);
-    if kind == 0 {
-        return Read::Refused(10, c.start);
-    }
-    put(out, k, plain(kind, k - n + 1, count + 1, place));
-    Read::Done(e, k + 1, 0)
+    let Some(kind) = method_of(&s[a..b], r.count) else {
+        return Err(Fault::at(c, Ground::Arguments));
+    };
+    put(out, k, plain(kind.number(), k - n + 1, r.count + 1, place));
+    Ok(Read {
+        at: r.at,
+        records: k + 1,
+        string: 0,
+    })
 }
 
 // An index, behind its `[`.
 #[cycle(expressions)]
 fn index(
     s: &[u8],
-    two: bool,
-    reserved: &[u8],
-    currencies: &[u8],
-    counters: &[u8],
+    language: &Language,
     place: u16,
     c: Cursor,
     depth: u32,
     out: &mut [u32],
     n: u32,
     m: u32,
-) -> Read
-    requires { Ready s.now c m × Few currencies.now × (n < m) }
-    ensures { MeetsTurns s.now (λ x. index_at (language_in two reserved.now currencies.now counters.now) depth place x (toks_at s.now c.start)) n m out.old c result out.new }
+) -> Result<Read, Fault>
+    requires { Ready s.now c m × Few language.now.lists.currencies.now × (n < m) }
+    ensures { MeetsTurns s.now (λ x. index_at (language_of language.now) depth place x (toks_at s.now c.start)) n m out.old c result out.new }
 {
-    let r = expression(
-        s, two, false, reserved, currencies, counters, c, depth, out, m,
-    );
-    let Read::Done(d, k, _) = r else {
-        return r;
-    };
-    let Took::Next(e) = take(s, d, CLOSE_BRACKET) else {
-        return Read::Refused(8, d.start);
-    };
-    put(out, k, plain(28, k - n + 1, 2, place));
-    Read::Done(e, k + 1, 0)
+    let r = expression(s, language, false, c, depth, out, m)?;
+    let k = r.records;
+    let at = take(s, r.at, CLOSE_BRACKET)?;
+    put(out, k, plain(Kind::Index as u32, k - n + 1, 2, place));
+    Ok(Read {
+        at,
+        records: k + 1,
+        string: 0,
+    })
 }

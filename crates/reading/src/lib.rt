@@ -9,6 +9,7 @@ mod calling;
 mod calls;
 mod expressions;
 pub mod judging;
+mod language;
 mod latest;
 pub mod parts;
 mod powers;

@@ -1,15 +1,17 @@
 // A script read into lent memory.
 ghost use Rattle.std.specs.Prelude.{◌≡◌};
+ghost use Rattle.tokens.specs.LentLists.{lists_of};
 ghost use Rattle.grammar.specs.Script.{number_of};
 ghost use Rattle.reading.specs.Meets.{edition_by};
-ghost use Rattle.reading.specs.Judging.{lists_in};
-ghost use Rattle.reading.specs.Reading.{accepted_with, refused_at, latest_read, LeavesIn, Leaves};
+ghost use Rattle.reading.specs.Reading.{accepted_with, refused_at, answered, LeavesIn, Leaves};
 
-use crate::answers::All;
-use crate::judging::{Counts, Judged, judge};
+use crate::judging::{Counts, judge};
+use crate::language::Language;
 use crate::rooms::{record_room, statement_room};
 use crate::scripts::all;
+use tokens::lists::Lists;
 use tokens::places::place_of;
+use tokens::refusals::{Ground, Refusal};
 
 // What a call answers: the number of its refusal, or 0; where; and what the memory holds then.
 #[derive(Clone, Copy)]
@@ -30,22 +32,20 @@ pub struct Answer {
 pub fn read(
     script: &[u8],
     edition: u32,
-    reserved: &[u8],
-    currencies: &[u8],
-    counters: &[u8],
+    lists: &Lists,
     records: &mut [u32],
     directory: &mut [u32],
 ) -> Answer
-    ensures { Leaves edition (lists_in reserved.now currencies.now counters.now) script.now records.old directory.old result records.new directory.new }
+    ensures { Leaves edition (lists_of lists.now) script.now records.old directory.old result records.new directory.new }
 {
-    match edition {
-        1 => read_in(
-            script, false, reserved, currencies, counters, records, directory,
-        ),
-        2 => read_in(
-            script, true, reserved, currencies, counters, records, directory,
-        ),
-        _ => refusal(script, 26, 0),
+    let two = match edition {
+        1 => false,
+        2 => true,
+        _ => return refusal(script, Ground::Edition.number(), 0),
+    };
+    match read_in(script, two, lists, records, directory) {
+        Ok(accepted) => accepted,
+        Err(e) => refusal(script, e.cause.number(), e.byte),
     }
 }
 
@@ -53,44 +53,22 @@ pub fn read(
 fn read_in(
     script: &[u8],
     two: bool,
-    reserved: &[u8],
-    currencies: &[u8],
-    counters: &[u8],
+    lists: &Lists,
     records: &mut [u32],
     directory: &mut [u32],
-) -> Answer
-    ensures { LeavesIn (edition_by two) (lists_in reserved.now currencies.now counters.now) script.now records.old directory.old result records.new directory.new }
+) -> Result<Answer, Refusal>
+    ensures { LeavesIn (edition_by two) (lists_of lists.now) script.now records.old directory.old (answered script.now result) records.new directory.new }
 {
-    match judge(script, two, reserved, currencies, counters) {
-        Judged::Refused(k, b) => refusal(script, k, b),
-        Judged::Good(c) => {
-            if c.records > record_room(records.len()) {
-                return refusal(script, 16, c.bytes);
-            }
-            if c.statements > statement_room(directory.len()) {
-                return refusal(script, 16, c.bytes);
-            }
-            let r = all(
-                &script[..c.bytes],
-                two,
-                reserved,
-                currencies,
-                counters,
-                records,
-                directory,
-            );
-            acceptance(two, c, latest_in(r))
-        }
+    let c = judge(script, two, lists)?;
+    if c.records > record_room(records.len()) || c.statements > statement_room(directory.len()) {
+        return Err(Refusal {
+            cause: Ground::Room,
+            byte: c.bytes,
+        });
     }
-}
-
-fn latest_in(r: All) -> usize
-    ensures { result ≡ latest_read r }
-{
-    match r {
-        All::Done(_, _, latest) => latest as usize,
-        All::Refused(_, _) => 0,
-    }
+    let language = Language { two, lists: *lists };
+    let r = all(&script[..c.bytes], &language, records, directory)?;
+    Ok(acceptance(two, c, r.latest as usize))
 }
 
 fn number_of(two: bool) -> u32

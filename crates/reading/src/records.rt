@@ -1,10 +1,62 @@
 // Records in lent memory.
 ghost use Rattle.std.specs.Prelude.{◌≡◌, ◌≤◌};
-ghost use Rattle.reading.specs.Rows.{node_row, put_row, entry_row, put_entry};
+ghost use Rattle.reading.specs.Rows.{kind_number, node_row, put_row, entry_row, put_entry};
 ghost use Rattle.reading.specs.Joins.{Joins};
 
+// The kinds of records, each with its number. Where a sign joins two records, its kind's number is its token's.
+#[derive(Clone, Copy)]
+pub enum Kind {
+    Variable = 1,
+    Constant = 2,
+    True = 3,
+    False = 4,
+    String = 5,
+    List = 6,
+    UnaryMinus = 7,
+    Add = 8,
+    Subtract = 9,
+    Multiply = 10,
+    Divide = 11,
+    Pow = 12,
+    Equal = 13,
+    NotEqual = 14,
+    Superior = 15,
+    Inferior = 16,
+    SuperiorOrEqual = 17,
+    InferiorOrEqual = 18,
+    And = 19,
+    Or = 20,
+    Ln = 21,
+    Exp = 22,
+    Min = 23,
+    Max = 24,
+    Cvg = 25,
+    Fif = 26,
+    Range = 27,
+    Index = 28,
+    Append = 29,
+    Mean = 30,
+    Std = 31,
+    Spot = 32,
+    EquitySpot = 33,
+    Df = 34,
+    RateIndex = 35,
+    Pays = 36,
+    Assign = 37,
+    If = 38,
+    ForEach = 39,
+}
+
+impl Kind {
+    pub fn number(self) -> u32
+        ensures { result ≡ kind_number self }
+    {
+        self as u32
+    }
+}
+
 // The words of a record: kind, nodes in subtree, direct parts, f1 to f4, place.
-#[derive(Drop)]
+#[derive(Clone, Copy)]
 pub struct Node {
     pub kind: u32,
     pub nodes: u32,
@@ -23,17 +75,33 @@ impl Node {
 }
 
 // A node without fields.
-pub fn plain(kind: u8, nodes: u32, parts: u32, place: u16) -> Node
+pub fn plain(kind: u32, nodes: u32, parts: u32, place: u16) -> Node
     ensures { result ≡ record { kind = kind; nodes = nodes; parts = parts; f1 = 0; f2 = 0; f3 = 0; f4 = 0; place = place } }
 {
     Node {
-        kind: kind as u32,
+        kind,
         nodes,
         parts,
         f1: 0,
         f2: 0,
         f3: 0,
         f4: 0,
+        place: place as u32,
+    }
+}
+
+// A node without parts, with its fields.
+pub fn leaf(kind: Kind, f1: u32, f2: u32, f3: u32, f4: u32, place: u16) -> Node
+    ensures { result ≡ record { kind = kind_number kind; nodes = 1; parts = 0; f1 = f1; f2 = f2; f3 = f3; f4 = f4; place = place } }
+{
+    Node {
+        kind: kind.number(),
+        nodes: 1,
+        parts: 0,
+        f1,
+        f2,
+        f3,
+        f4,
         place: place as u32,
     }
 }
@@ -57,7 +125,7 @@ pub fn put(out: &mut [u32], n: u32, node: Node)
 }
 
 // How many records there are behind an operand, and where its string stands.
-#[derive(Drop)]
+#[derive(Clone, Copy)]
 pub struct Joined {
     pub records: u32,
     pub string: u16,
@@ -75,7 +143,7 @@ pub fn join(out: &mut [u32], sign: u8, n: u32, m: u32, p: u16, place: u16) -> Jo
             string: p,
         };
     }
-    put(out, m, plain(sign, m - n + 1, 2, place));
+    put(out, m, plain(sign as u32, m - n + 1, 2, place));
     Joined {
         records: m + 1,
         string: 0,
@@ -83,7 +151,7 @@ pub fn join(out: &mut [u32], sign: u8, n: u32, m: u32, p: u16, place: u16) -> Jo
 }
 
 // The words of a directory entry: start byte, end byte, records, tokens, the latest date.
-#[derive(Drop)]
+#[derive(Clone, Copy)]
 pub struct Entry {
     pub start: u32,
     pub end: u32,

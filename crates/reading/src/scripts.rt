@@ -1,15 +1,17 @@
 // A whole script, statement by statement.
 ghost use Rattle.std.specs.Prelude.{◌≡◌, ◌≤◌};
 ghost use Rattle.grammar.specs.Script.{statements};
-ghost use Rattle.reading.specs.Meets.{language_in, toks_at, Few};
-ghost use Rattle.reading.specs.Scripts.{Clean, rebase, refused_at, MeetsAll};
+ghost use Rattle.reading.specs.Meets.{language_of, toks_at, Few};
+ghost use Rattle.reading.specs.Scripts.{Clean, rebase, MeetsAll};
 
-use crate::answers::{All, Read};
-use crate::latest::{later, latest_of};
+use crate::answers::All;
+use crate::language::Language;
+use crate::latest::latest_of;
 use crate::records::{Entry, put_entry};
 use crate::statements::statement;
 use tokens::codes::EOF;
 use tokens::cursor::Cursor;
+use tokens::refusals::Refusal;
 
 // The same token, with places from its own first byte, where a statement begins.
 fn rebased(c: Cursor) -> Cursor
@@ -30,67 +32,45 @@ fn rebased(c: Cursor) -> Cursor
 // its own part of the script, so that its places are bytes from its first.
 pub fn all(
     s: &[u8],
-    two: bool,
-    reserved: &[u8],
-    currencies: &[u8],
-    counters: &[u8],
+    language: &Language,
     records: &mut [u32],
     directory: &mut [u32],
-) -> All
-    requires { Clean s.now × Few currencies.now }
-    ensures { MeetsAll (statements (language_in two reserved.now currencies.now counters.now) (toks_at s.now 0)) records.old directory.old result records.new directory.new }
+) -> Result<All, Refusal>
+    requires { Clean s.now × Few language.now.lists.currencies.now }
+    ensures { MeetsAll (statements (language_of language.now) (toks_at s.now 0)) records.old directory.old result records.new directory.new }
 {
     let mut base: usize = 0;
     let mut at = Cursor::start(s);
     let mut n: u32 = 0;
     let mut k: u32 = 0;
     let mut latest: u32 = 0;
-    loop {
-        if at.code == EOF {
-            return All::Done(k, n, latest);
-        }
+    while at.code != EOF {
         base += at.start as usize;
         let c = rebased(at);
-        let r = statement(
-            &s[base..],
-            two,
-            reserved,
-            currencies,
-            counters,
-            c,
-            Cursor::DEPTH,
-            records,
-            n,
-        );
-        let Read::Done(d, m, _) = r else {
-            return refused_at(r, base);
+        let r = match statement(&s[base..], language, c, Cursor::DEPTH, records, n) {
+            Ok(r) => r,
+            Err(fault) => return Err(fault.in_script(base)),
         };
-        let own = latest_of(records, n, m);
+        let own = latest_of(records, n, r.records);
         put_entry(
             directory,
             k,
             Entry {
                 start: base as u32,
-                end: (base + d.last as usize) as u32,
-                records: m - n,
-                tokens: d.taken as u32,
+                end: (base + r.at.last as usize) as u32,
+                records: r.records - n,
+                tokens: r.at.taken as u32,
                 latest: own,
             },
         );
-        latest = later(latest, own);
-        at = d;
-        n = m;
+        latest = latest.max(own);
+        at = r.at;
+        n = r.records;
         k += 1;
     }
-}
-
-// A refusal of the statement that begins at a byte.
-fn refused_at(r: Read, base: usize) -> All
-    requires { base ≤ 16384 }
-    ensures { result ≡ refused_at r base }
-{
-    match r {
-        Read::Done(_, _, _) => All::Refused(8, 0),
-        Read::Refused(k, b) => All::Refused(k, base as u32 + b as u32),
-    }
+    Ok(All {
+        statements: k,
+        records: n,
+        latest,
+    })
 }

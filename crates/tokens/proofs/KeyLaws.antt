@@ -1,5 +1,6 @@
 -- A word is told by its key: what a table has for a word's bytes it has for their number. A keyword is told by its length and its bytes.
-use Rattle.std.specs.Prelude.{if◌then◌else◌}
+use Rattle.std.specs.List.{push}
+use Rattle.std.specs.Prelude.{Option, Some, None as no_code, if◌then◌else◌}
 use mathlib.Core.Path.{◌≡◌, refl, sym, ap, ◌∙◌}
 use mathlib.Core.Bool.{Bool, true, false, ◌&&◌, not, true≢false}
 use mathlib.Core.List.{List, [], ◌∷◌, ◌++◌}
@@ -14,7 +15,7 @@ use lib.ListN.{length, get_or, take, drop, length-take, length-drop, drop_of_len
 use lib.Seq.{drop-cons, get_or-take, get_or-drop}
 use Rattle.tokens.specs.Text.{bytes, same, begins, every}
 use Rattle.tokens.specs.Tokens.{entry, pairs, lones, keywords, piece, fault, word, sign}
-use Rattle.tokens.specs.Keys.{pack, lookup, keyed, key_of, keyword_by, pair_by, first_byte, lone_by}
+use Rattle.tokens.specs.Keys.{pack, lookup, keyed, key_of, keyword_by, known, pair_by, first_byte, lone_by}
 use Rattle.tokens.proofs.Shapes.{entry_found, entry_every, begins_le, same_eq, same_not}
 use Rattle.tokens.proofs.NameLaws.{and_true_both}
 
@@ -67,24 +68,38 @@ pack_below (b ∷ w) h = omega (arith, pack_below w (λ i. h (suc i)), h 0, pow-
 pack_six : (w : List ℕ) → Bytes w → length w ≤ 6 → pack w < 2 ^ 50
 pack_six w h l = omega (arith, pack_below w h, pow-le-pow_right {n = 256} (omega arith) l)
 
-pack_cons : (w : List ℕ) (i : ℕ) → i < length w → pack (drop i w) ≡ get_or w i 0 + 256 * pack (drop (i + 1) w)
-unfolding pack
-pack_cons w i h = rw (add-one, drop-cons w i 0 h)
+-- the bytes as one number, with k behind them
+unfoldable pub pack_onto : ℕ → List ℕ → ℕ
+pack_onto k [] = k
+pack_onto k (b ∷ bs) = b + 256 * pack_onto k bs
 
--- the key of a word, from its last byte to its first
-module _ (w : List ℕ) (i : ℕ) where
-  pub key_room : Bytes w → length w ≤ 6 → pack (drop i w) < 2 ^ 50
-  key_room h l = pack_six (drop i w) (bytes_drop i w h) (simp length-drop (omega arith))
+pub onto_all : (w : List ℕ) → pack_onto 1 w ≡ pack w
+unfolding pack_onto pack
+onto_all [] = refl
+onto_all (b ∷ bs) = ap (λ (n : ℕ). b + 256 * n) (onto_all bs)
 
-  pub key_turn : 0 < i → i ≤ length w → pack (drop i w) * 256 + get_or w (i - 1) 0 ≡ pack (drop (i - 1) w)
-  key_turn p l =
-      let e : i - 1 + 1 ≡ i = omega arith in
-      let q : pack (drop (i - 1) w) ≡ get_or w (i - 1) 0 + 256 * pack (drop i w) = rw e at (pack_cons w (i - 1) (omega arith)) in
-      omega arith
+pub onto_none : (k : ℕ) (w : List ℕ) → length w ≡ 0 → k ≡ pack_onto k w
+unfolding pack_onto
+onto_none k [] h = refl
+onto_none k (b ∷ w) h = absurd (omega arith)
 
-pub key_none : (w : List ℕ) → 1 ≡ pack (drop (length w) w)
-unfolding pack
-key_none w = rw (drop_of_length-le w {i = length w} (omega arith))
+onto_push : (k b : ℕ) (w : List ℕ) → pack_onto (k * 256 + b) w ≡ pack_onto k (w ++ (b ∷ []))
+unfolding pack_onto
+onto_push k b [] = omega arith
+onto_push k b (c ∷ w) = ap (λ (n : ℕ). c + 256 * n) (onto_push k b w)
+
+-- b is the last byte of v, and goes behind w
+pub onto_turn : {v : List ℕ} (k b : ℕ) (w : List ℕ) → v ≡ push w b → pack_onto (k * 256 + b) w ≡ pack_onto k v
+onto_turn k b w e = onto_push k b w ∙ ap (pack_onto k) (sym e)
+
+onto_least : (k : ℕ) (w : List ℕ) → k ≤ pack_onto k w
+unfolding pack_onto
+onto_least k [] = omega arith
+onto_least k (b ∷ w) = omega (arith, onto_least k w)
+
+-- what is packed of a short part is small
+pub onto_room : (w : List ℕ) → Bytes w → length w ≤ 6 → (k : ℕ) (v : List ℕ) → pack_onto k v ≡ pack w → k < 2 ^ 50
+onto_room w h l k v e = omega (arith, onto_least k v, e, pack_six w h l)
 
 key_again : (a b x y : ℕ) → a ≡ b → eqb x y ≡ eqb (b + 256 * x) (a + 256 * y)
 key_again a b x y e = go (eqb x y) refl
@@ -183,42 +198,16 @@ none_of f g es h no_such = go (eqb (entry f es).1 99) refl
 
 -- ---- words that a table does not have
 
--- a byte tells that a word is not s
-module _ (s : String) (w : List ℕ) (i : ℕ) where
-  pub unlike_at : (get_or w i 0 ≡ get_or (bytes s) i 0 → ⊥) → same (bytes s) w ≡ false
-  unlike_at h = same_not (bytes s) w (λ e. h (ap (λ (v : List ℕ). get_or v i 0) (sym e)))
-
-  pub unlike_byte : eqb (get_or w i 0) (get_or (bytes s) i 0) ≡ false → same (bytes s) w ≡ false
-  unlike_byte q = unlike_at (eqb-false _ _ q)
-
--- the words of a table that have n bytes
-abbrev pub sized : ℕ → List (String × ℕ) → List (String × ℕ)
-sized n [] = []
-sized n (e ∷ es) = if eqb (length (bytes e.0)) n then e ∷ sized n es else sized n es
-
 module _ (w : List ℕ) where
   -- w is none of a table's words
   abbrev pub None : List (String × ℕ) → Type 0
   None [] = Unit {0}
   None (e ∷ es) = (same (bytes e.0) w ≡ false) × None es
 
-  -- of the others its length tells
-  none_sized : (es : List (String × ℕ)) → None (sized (length w) es) → None es
-  none_sized [] h = h
-  none_sized (e ∷ es) h = go (eqb (length (bytes e.0)) (length w)) refl h (none_sized es)
-    where
-      go : (t : Bool) → eqb (length (bytes e.0)) (length w) ≡ t → None (if t then e ∷ sized (length w) es else sized (length w) es)
-          → (None (sized (length w) es) → None es) → None (e ∷ es)
-      go true q g ih = (g.0, ih g.1)
-      go false q g ih = (same_not (bytes e.0) w (λ p. eqb-false _ _ q (ap length p)), ih g)
-
-  none_entry : (es : List (String × ℕ)) → None es → (entry (λ s. same (bytes s) w) es).1 ≡ 99
+  pub none_entry : (es : List (String × ℕ)) → None es → (entry (λ s. same (bytes s) w) es).1 ≡ 99
   unfolding entry
   none_entry [] h = refl
   none_entry (e ∷ es) h = rw (h.0, entry) (none_entry es h.1)
-
-  none_of_size : (es : List (String × ℕ)) → None (sized (length w) es) → (entry (λ s. same (bytes s) w) es).1 ≡ 99
-  none_of_size es h = none_entry es (none_sized es h)
 
 -- ---- short words by their keys
 
@@ -245,7 +234,7 @@ short_agrees w h v g = let b = and_true_both (every small v) (leb (length v) 6) 
 -- ---- keywords
 
 -- the code that the table has for a word is what the word's key tells
-keyword_code : (w : List ℕ) → T (every small w) → (k : ℕ) → (entry (λ s. same (bytes s) w) keywords).1 ≡ k
+pub keyword_code : (w : List ℕ) → T (every small w) → (k : ℕ) → (entry (λ s. same (bytes s) w) keywords).1 ≡ k
     → ◌≡◌ {A = ℕ} (if eqb k 99 then 1 else k) (keyword_by (key_of w))
 unfolding keyword_by every bytes
 keyword_code w h k q =
@@ -254,18 +243,6 @@ keyword_code w h k q =
 pub keyword_is : (w : List ℕ) (n : ℕ) → T (every small w) → word w n ≡ piece (keyword_by (key_of w)) n
 unfolding word
 keyword_is w n h = ap (λ (c : ℕ). piece c n) (keyword_code w h (entry (λ s. same (bytes s) w) keywords).1 refl)
-
--- a word that is none of the keywords of its length is a name
-pub keyword_none : (w : List ℕ) → Bytes w → (n : ℕ) → length w ≡ n → None w (sized n keywords) → 1 ≡ keyword_by (key_of w)
-keyword_none w h n l g = keyword_code w (smalls w h) 99 (none_of_size w keywords (rw l g))
-
--- and so is one of a length that no keyword has
-pub keyword_other : (w : List ℕ) → Bytes w → (length w ≡ 2 → ⊥) → (length w ≡ 3 → ⊥) → (length w ≡ 4 → ⊥) → (length w ≡ 5 → ⊥) → 1 ≡ keyword_by (key_of w)
-unfolding bytes
-keyword_other w h two three four five =
-    let n = length w in
-    keyword_none w h n refl
-    (rw (ne_eqb 2 n (λ e. two (sym e)), ne_eqb 3 n (λ e. three (sym e)), ne_eqb 4 n (λ e. four (sym e)), ne_eqb 5 n (λ e. five (sym e))) tt)
 
 -- the bytes of w from i on are those of v
 abbrev pub Spelled : ℕ → List ℕ → List ℕ → Type 0
@@ -281,6 +258,21 @@ pub keyword_spelled : (s : String) (w : List ℕ) → length w ≡ length (bytes
 keyword_spelled s w l h = ap (λ (v : List ℕ). keyword_by (key_of v)) (sym (spelled_from 0 (bytes s) w (omega arith) h))
 
 -- ---- signs
+
+-- what the code answers of a table's number: the code that it is, or that there is none
+pub known_some : {c n : ℕ} → Some c ≡ known n → (c ≡ n) × (c ≡ 99 → ⊥)
+known_some {c} {n} e = go (eqb n 99) refl e
+  where
+    go : (t : Bool) → eqb n 99 ≡ t → ◌≡◌ {A = Option ℕ} (Some c) (if t then no_code else Some n) → (c ≡ n) × (c ≡ 99 → ⊥)
+    go true p q = absurd (cc)
+    go false p q = let r : c ≡ n = cc in (r, λ z. eqb-false n 99 p (sym r ∙ z))
+
+pub known_none : {n : ℕ} → no_code ≡ known n → n ≡ 99
+known_none {n} e = go (eqb n 99) refl e
+  where
+    go : (t : Bool) → eqb n 99 ≡ t → ◌≡◌ {A = Option ℕ} no_code (if t then no_code else Some n) → n ≡ 99
+    go true p q = eqb-true n 99 p
+    go false p q = absurd (cc)
 
 -- what a table of signs of two bytes has for what begins with b and c
 pair_begins : (b c : ℕ) (cs : List ℕ) → entry (λ s. begins (bytes s) (b ∷ c ∷ cs)) pairs ≡ entry (λ s. same (bytes s) (b ∷ c ∷ [])) pairs

@@ -2,20 +2,14 @@
 use mathlib.Core.Path.{◌≡◌, refl, ap}
 use mathlib.Core.Bool.{Bool, true, false, not}
 use mathlib.Core.List.{List, [], ◌∷◌}
-use Prim.Native.Nat.{ℕ, suc, ◌+◌, ◌≤◌, ◌<◌}
+use Prim.Native.Nat.{ℕ, zero, suc, ◌+◌, ◌≤◌, ◌<◌, min, max}
 use native.Mathlib.Numerals.{add-one}
 use native.Mathlib.Omega.{arith}
-use borrow.Author.Tests.{eq-eqb, ne_eqb}
-use lib.ListN.{length, get_or, drop, drop_of_length-le}
+use lib.Dec.{leb}
+use borrow.Author.Tests.{eq-eqb, ne_eqb, leb-true, leb-false}
+use lib.ListN.{length, get_or, take, drop, drop_of_length-le}
 use lib.Seq.{drop-cons}
 use Rattle.tokens.specs.Text.{leading, other}
-
--- where the byte differs from another, and where it does not
-pub other_true : (a b : ℕ) → (b ≡ a → ⊥) → other a b ≡ true
-other_true a b h = ap not (ne_eqb b a h)
-
-pub other_false : (a b : ℕ) → b ≡ a → other a b ≡ false
-other_false a b h = ap not (eq-eqb b a h)
 
 module _ (f : ℕ → Bool) where
   leading_cons : (b : ℕ) (bs : List ℕ) → f b ≡ true → leading f (b ∷ bs) ≡ suc (leading f bs)
@@ -47,5 +41,22 @@ module _ (f : ℕ → Bool) where
     pub end_stop : {x : ℕ} → i < length s → f (get_or s i 0) ≡ false → i + leading f (drop i s) ≡ x → i ≡ x
     end_stop h e p = omega (arith, leading_stop h e)
 
-    pub end_over : {x : ℕ} → length s ≤ i → i + leading f (drop i s) ≡ x → i ≡ x
-    end_over h p = omega (arith, leading_over h)
+    pub end_over : (at : ℕ) → length s ≤ i → (at ≤ length s → i ≤ length s) → i + leading f (drop i s) ≡ at + leading f (drop at s)
+        → max at (length s) ≡ at + leading f (drop at s)
+    end_over at h g p = go (leb at (length s)) refl
+      where
+        go : (t : Bool) → leb at (length s) ≡ t → max at (length s) ≡ at + leading f (drop at s)
+        go true e = let k = g (leb-true at (length s) e) in omega (arith, leb-true at (length s) e, leading_over h)
+        go false e = let k = leb-false at (length s) e in let z : leading f (drop at s) ≡ 0 = rw (drop_of_length-le s {i = at} (omega arith)) leading_nil in omega arith
+
+-- the same of the first bytes of a text
+pub leading_take : (f : ℕ → Bool) (n : ℕ) (s : List ℕ) → leading f (take n s) ≡ min n (leading f s)
+unfolding leading
+leading_take f zero s = omega arith
+leading_take f (suc n) [] = omega arith
+leading_take f (suc n) (b ∷ bs) = go (f b) (leading_take f n bs)
+  where
+    go : (t : Bool) → leading f (take n bs) ≡ min n (leading f bs)
+        → (elim t as (λ _. ℕ) [ true ↦ suc (leading f (take n bs)) | false ↦ 0 ]) ≡ min (suc n) (elim t as (λ _. ℕ) [ true ↦ suc (leading f bs) | false ↦ 0 ])
+    go true h = omega arith
+    go false h = omega arith

@@ -177,10 +177,6 @@ module _ (s : List ℕ) (at : ℕ) where
 
 -- ---- the bytes of a token
 
--- a run of bytes behind the first one stays in the text
-pub run_fits : (f : ℕ → Bool) (s : List ℕ) (at : ℕ) → at < length s → at + 1 + leading f (drop (at + 1) s) ≤ length s
-run_fits f s at h = omega (arith, leading_le f (drop (at + 1) s), length-drop (at + 1) s)
-
 module _ (s : List ℕ) (at : ℕ) where
   -- the first quote behind `at` stands at q
   module _ (q : ℕ) (is : q ≡ at + 1 + leading (other 34) (drop (at + 1) s)) where
@@ -213,12 +209,12 @@ module _ (s : List ℕ) (at : ℕ) where
         rw (keyword_is (take (suc n) (drop at s)) (suc n) (smalls (take (suc n) (drop at s)) (bytes_take (suc n) (drop at s) (bytes_drop at s h))), w, r)
 
     module _ (e : ℕ) (p : e ≡ at + 1 + leading number_byte (drop (at + 1) s)) where
-      pub number_faulty : (f : ℕ) → f ≡ number_fault (take (e - at) (drop at s)) → (f ≡ 0 → ⊥) → record { start = at; end = at; code = 100 + f } ≡ mark_of at (number_at s at)
+      pub number_faulty : (f : ℕ) → f ≡ number_fault (take (e - at) (drop at s)) → 1 ≤ f → record { start = at; end = at; code = 100 + f } ≡ mark_of at (number_at s at)
       unfolding numeral
       number_faulty f q h =
           let n = leading number_byte (drop (at + 1) s) in
           let w : number_fault (take (suc n) (drop at s)) ≡ f = sym (q ∙ ap number_fault (part_is n e p)) in
-          rw (w, ne_eqb f 0 h)
+          rw (w, ne_eqb f 0 (λ z. omega (arith, z)))
 
       pub number_is : number_fault (take (e - at) (drop at s)) ≡ 0 → record { start = at; end = e; code = 2 } ≡ mark_of at (number_at s at)
       unfolding numeral

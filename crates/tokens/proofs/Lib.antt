@@ -1,11 +1,14 @@
 -- Laws of the definitions, for the layers above and for the proofs of this one.
 pub mod Outcomes
+pub mod RefusalLaws
 pub mod Joins
 pub mod Cuts
 pub mod Shapes
 pub mod Closers
 pub mod Leading
+pub mod Chains
 pub mod KeyLaws
+pub mod WordLaws
 pub mod NumberLaws
 pub mod TableLaws
 pub mod FloatLaws

@@ -11,7 +11,8 @@ use borrow.Author.Tests.{ltb-true, ltb-false, leb-true, eq-eqb, ne_eqb, le-leb, 
 use lib.ListN.{length, get_or, drop, take, drop_of_length-le, length-drop, take-append-drop}
 use lib.Seq.{drop-cons, drop-drop, take_all, take-add}
 use Rattle.tokens.specs.Text.{same, every, leading, other}
-use Rattle.tokens.specs.Names.{push, names, ended, place, member, distinct, good_name, good_names, usd_first, good_list}
+use Rattle.std.specs.Prelude.{Some, None}
+use Rattle.tokens.specs.Names.{push, names, ended, place, index_of, member, distinct, good_name, good_names, usd_first, good_list}
 use Rattle.tokens.proofs.Shapes.{same_eq, leading_le}
 
 pub and_true_both : (a b : Bool) → (a && b) ≡ true → (a ≡ true) × (b ≡ true)
@@ -55,17 +56,6 @@ module _ {A : Type 0} (f : A → Bool) where
       go : (t : Bool) → f a ≡ t → every f (xs ++ ys) ≡ (every f xs && every f ys) → every f (a ∷ xs ++ ys) ≡ (every f (a ∷ xs) && every f ys)
       go true e k = simp (every_cons a xs e, every_cons a (xs ++ ys) e) k
       go false e k = simp (every_other a xs e, every_other a (xs ++ ys) e)
-
-module _ (f : ℕ → Bool) (s : List ℕ) (i : ℕ) where
-  pub every_turn : i < length s → f (get_or s i 0) ≡ true → every f (drop (i + 1) s) ≡ every f (drop i s)
-  every_turn h e = rw (add-one, drop-cons s i 0 h) (sym (every_cons f _ _ e))
-
-  pub every_stop : i < length s → f (get_or s i 0) ≡ false → every f (drop i s) ≡ false
-  every_stop h e = rw (drop-cons s i 0 h) (every_other f _ _ e)
-
-  pub every_end : length s ≤ i → every f (drop i s) ≡ true
-  unfolding every
-  every_end h = rw (drop_of_length-le s h)
 
 -- ---- the first name of a list: its bytes up to the line feed, or all of them
 abbrev line : List ℕ → ℕ
@@ -296,3 +286,13 @@ good_few money l h =
     let a = and_true_both (ended l) (good_names money (names l) && usd_first money (names l)) h in
     let b = and_true_both (good_names money (names l)) (usd_first money (names l)) a.1 in
     leb-true (length (names l)) 256 (and_true_both (leb (length (names l)) 256) (every (good_name money) (names l) && distinct (names l)) b.0).0
+
+-- ---- a place as the code has it
+
+pub index_some : (p k : ℕ) → index_of p ≡ Some k → p ≡ suc k
+index_some zero k e = absurd (cc)
+index_some (suc n) k e = cc
+
+pub index_none : (p : ℕ) → index_of p ≡ None → p ≡ 0
+index_none zero e = refl
+index_none (suc n) e = absurd (cc)

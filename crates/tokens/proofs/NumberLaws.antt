@@ -19,17 +19,6 @@ use Rattle.tokens.specs.Limits.{most_digits, most_decimals}
 use Rattle.tokens.specs.Numbers.{digits, decimals, fault_of, number_fault, quotient, value, value_of}
 use Rattle.tokens.specs.Runs.{up, grow, feed, feed_all, begin}
 
--- ---- the walk, one byte at a time
-
-module _ (s : List ℕ) (i : ℕ) (r : Run) where
-  pub feed_turn : i < length s → feed_all (drop (i + 1) s) (feed r (get_or s i 0)) ≡ feed_all (drop i s) r
-  unfolding feed_all
-  feed_turn h = rw (add-one i, drop-cons s i 0 h)
-
-  pub feed_over : length s ≤ i → feed_all (drop i s) r ≡ r
-  unfolding feed_all
-  feed_over h = rw (drop_of_length-le s h)
-
 -- ---- each count, up to its cap
 
 up_min : (n k cap : ℕ) → min cap (up n cap + k) ≡ min cap (n + (1 + k))

@@ -1,8 +1,8 @@
 -- Lines and columns, one byte at a time: a line from the front, a column backwards from its place.
 use Rattle.std.specs.Prelude.{if◌then◌else◌}
 use mathlib.Core.Path.{◌≡◌, refl, sym, ap, ◌∙◌}
-use mathlib.Core.Bool.{Bool, true, false}
-use mathlib.Core.List.{List, [], ◌∷◌, ◌++◌}
+use mathlib.Core.Bool.{Bool, true, false, cond, not}
+use mathlib.Core.List.{List, [], ◌∷◌, ◌++◌, reverse}
 use Prim.Native.Nat.{ℕ, suc, ◌+◌, ◌≤◌, ◌<◌, min}
 use native.Mathlib.Nat.{zero-add, le_refl, min-le_left}
 use native.Mathlib.Numerals.{add-one}
@@ -10,40 +10,21 @@ use native.Mathlib.Omega.{arith, min_cases}
 use lib.Dec.{eqb}
 use lib.ListN.{length, take, get_or, length-take, take-append-drop}
 use lib.Seq.{slice, slice-cons, slice_empty, take_all, take-suc}
-use borrow.Author.Tests.{eq-eqb, ne_eqb}
+use borrow.Author.Tests.{eq-eqb, ne_eqb, eqb-true, eqb-false}
 use Rattle.tokens.specs.Text.{count, continuation}
 use Rattle.tokens.specs.Places.{line, since, column}
+use Rattle.std.specs.List.{take_while}
+use Rattle.std.proofs.lemmas.List.{reverse-reverse, take_min}
+use Rattle.std.proofs.lemmas.Grind.{reverse_onto}
+use Rattle.std.proofs.lemmas.List.Sums.{take_while-cons}
 use Rattle.tokens.proofs.TextLaws.{count_few, count_join}
-
--- a place behind the end is taken as the end
-take_min : (n : ℕ) (s : List ℕ) → take (min n (length s)) s ≡ take n s
-take_min n s =
-    min_cases n (length s) (take (min n (length s)) s ≡ take n s)
-    (λ h e. rw e)
-    (λ h e. rw (e, take_all n s h) (take_all (length s) s (le_refl (length s))))
 
 -- ---- the line
 
-pub line_first : (s : List ℕ) → 1 ≡ line s 0
-unfolding line count
-line_first s = refl
-
-module _ (s : List ℕ) (i : ℕ) (h : i < length s) where
-  line_next : line s (i + 1) ≡ line s i + count (eqb 10) (get_or s i 0 ∷ [])
-  unfolding line
-  line_next = rw (add-one i, take-suc s i 0 h) (omega (arith, count_join (eqb 10) (take i s) (get_or s i 0 ∷ [])))
-
-  pub line_fed : get_or s i 0 ≡ 10 → line s i + 1 ≡ line s (i + 1)
-  unfolding count
-  line_fed q = sym (line_next ∙ rw (eq-eqb 10 _ (sym q)) (omega arith))
-
-  pub line_on : (get_or s i 0 ≡ 10 → ⊥) → line s i ≡ line s (i + 1)
-  unfolding count
-  line_on q = sym (line_next ∙ rw (ne_eqb 10 _ (λ p. q (sym p))) (omega arith))
-
-pub line_whole : (s : List ℕ) (at i : ℕ) → i ≡ min at (length s) → line s i ≡ line s at
+-- n line feeds stand before the place
+pub line_counted : (s : List ℕ) (at i n : ℕ) → i ≡ min at (length s) → n ≡ count (eqb 10) (take i s) → 1 + n ≡ line s at
 unfolding line
-line_whole s at i e = rw (e, take_min at s)
+line_counted s at i n e h = rw (h, e, take_min at s) (omega arith)
 
 -- ---- the column
 
@@ -52,41 +33,30 @@ unfolding since
 since_join k [] ys = refl
 since_join k (b ∷ xs) ys = since_join (if eqb 10 b then 0 else (if continuation b then k else suc k)) xs ys
 
--- c is the column behind a text without a line feed, whatever was counted before it
-abbrev pub Ends : List ℕ → ℕ → Type 0
-Ends t c = (k : ℕ) → k + c ≡ suc (since k t)
+-- from the place back to the line feed: the bytes of the line, and those of them that begin a character
+abbrev pub in_line : ℕ → Bool
+in_line b = not (eqb b 10)
 
-pub ends_none : (s : List ℕ) (e : ℕ) → Ends (slice e e s) 1
-unfolding since
-ends_none s e k = rw (slice_empty e s, add-one k)
+abbrev pub starts : ℕ → Bool
+starts b = not (continuation b)
 
--- one byte further to the front, from the place i to j
-module _ (s : List ℕ) (i j e c : ℕ) (p : i ≡ j + 1) (h : i ≤ e) (k : e ≤ length s) (f : Ends (slice i e s) c) where
-  first : slice j e s ≡ get_or s j 0 ∷ slice i e s
-  first = rw (p, add-one) (slice-cons j e s 0 (omega arith) k)
+since_back : (t : List ℕ) → since 0 (reverse t) ≡ count starts (take_while in_line t)
+unfolding since count
+since_back [] = refl
+since_back (b ∷ t) =
+    ap (since 0) (reverse_onto t b []) ∙ since_join 0 (reverse t) (b ∷ []) ∙ go (eqb b 10) refl (continuation b) refl (since_back t)
+    ∙ ap (count starts) (sym (take_while-cons in_line b t))
+  where
+    go : (n : Bool) → eqb b 10 ≡ n → (u : Bool) → continuation b ≡ u → since 0 (reverse t) ≡ count starts (take_while in_line t)
+        → since (since 0 (reverse t)) (b ∷ []) ≡ count starts (cond (in_line b) (b ∷ take_while in_line t) [])
+    go true p u q h = simp (p, eq-eqb 10 b (sym (eqb-true b 10 p)), since, count)
+    go false p true q h = simp (p, ne_eqb 10 b (λ z. eqb-false b 10 p (sym z)), q, since, count) (omega arith)
+    go false p false q h = simp (p, ne_eqb 10 b (λ z. eqb-false b 10 p (sym z)), q, since, count) (omega arith)
 
-  -- t tells whether the byte is a continuation byte
-  pub ends_on : {t : Bool} → (get_or s j 0 ≡ 10 → ⊥) → t ≡ continuation (get_or s j 0) → Ends (slice j e s) (if t then c else c + 1)
-  unfolding since
-  ends_on {t} q d n = go t d ∙ sym (ap (λ (l : List ℕ). suc (since n l)) first)
-    where
-      go : (u : Bool) → u ≡ continuation (get_or s j 0) → n + (if u then c else c + 1) ≡ suc (since n (get_or s j 0 ∷ slice i e s))
-      go true d = rw (since, ne_eqb 10 _ (λ p. q (sym p)), sym d) (f n)
-      go false d = rw (since, ne_eqb 10 _ (λ p. q (sym p)), sym d) (omega (arith, f (suc n)))
-
-  pub column_fed : get_or s j 0 ≡ 10 → c ≡ column s e
-  unfolding since column
-  column_fed q =
-      let t : take e s ≡ take j (take e s) ++ (get_or s j 0 ∷ slice i e s) = sym (take-append-drop j (take e s)) ∙ ap (λ (l : List ℕ). take j (take e s) ++ l) first in
-      sym (zero-add c) ∙ f 0 ∙ sym (ap (λ (l : List ℕ). suc (since 0 l)) t ∙ ap suc (since_join 0 (take j (take e s)) _) ∙ rw (since, eq-eqb 10 _ (sym q)))
-
-pub column_first : (s : List ℕ) (i e c : ℕ) → i ≡ 0 → Ends (slice i e s) c → c ≡ column s e
+-- n characters begin on the line before the place
+pub column_counted : (s : List ℕ) (at i n : ℕ) → i ≡ min at (length s) → n ≡ count starts (take_while in_line (reverse (take i s))) → 1 + n ≡ column s at
 unfolding column
-column_first s i e c z f = sym (zero-add c) ∙ f 0 ∙ rw z
-
-pub column_whole : (s : List ℕ) (at i : ℕ) → i ≡ min at (length s) → column s i ≡ column s at
-unfolding column
-column_whole s at i e = rw (e, take_min at s)
+column_counted s at i n e h = rw (h, ← since_back (reverse (take i s)), reverse-reverse, e, take_min at s) (omega arith)
 
 -- ---- line and column of a place are no further than the place
 

@@ -1,5 +1,5 @@
 -- The tokens from a place on, by the mark of the first: what the scan of a text and the token step lean on.
-use Rattle.std.specs.Prelude.{if◌then◌else◌}
+use Rattle.std.specs.Prelude.{Result, Err, if◌then◌else◌}
 use mathlib.Core.Path.{◌≡◌, refl, sym, ap, ◌∙◌, subst}
 use mathlib.Core.Bool.{Bool, true, false, ◌||◌, not}
 use mathlib.Core.List.{List, [], ◌∷◌}
@@ -14,25 +14,30 @@ use Rattle.tokens.specs.Text.{bytes, begins, same, every, leading, letter, digit
 use lib.Ieee.{Float}
 use Rattle.tokens.specs.Numbers.{number_fault, value_of}
 use Rattle.tokens.specs.Tokens.{Token, Lexeme, gap, piece, fault, word, numeral, quoted, sign, signs, keywords, entry, code, lexeme, Lexed, lexed, refused, before, taken, scan, counts, end_of}
-use Rattle.tokens.specs.Lexing.{lexeme_at, gap_width, final, mark_of, mark_from, mark_at, token_of, judged_by, summary, step_at}
+use Rattle.tokens.specs.Keys.{key_of, keyword_by}
+use Rattle.tokens.specs.Lexing.{lexeme_at, gap_width, final, mark_of, mark_from, mark_at, refused_mark, Tells, token_of, judged_by, summary, step_at}
+use Rattle.tokens.specs.Refusals.{number_of}
+use Rattle.tokens.specs.declared.refusals.Refusal.{Refusal}
 use Rattle.tokens.specs.Kinds.{kind_by}
 use Rattle.tokens.specs.declared.lexing.Mark.{Mark}
 use Rattle.tokens.specs.declared.kinds.Kind.{Kind}
 use Rattle.tokens.specs.declared.kinds.Kind.TheVariants.{Value}
 use Rattle.tokens.specs.declared.kinds.Literal.TheVariants.{Number}
-use Rattle.tokens.specs.declared.scanning.Found.TheVariants as found
-use Rattle.tokens.specs.declared.scanning.Scanned.{Scanned}
-use Rattle.tokens.specs.declared.scanning.Scanned.TheVariants as scanned
+use Rattle.tokens.specs.Found.{as_found}
+use Rattle.tokens.specs.Found as found
+use Rattle.tokens.specs.Scanned.{Scanned, as_scanned}
+use Rattle.tokens.specs.Scanned as scanned
 use Rattle.tokens.proofs.Joins.{body}
 use Rattle.tokens.proofs.Cuts.{Wide, lexeme_wide}
 use Rattle.tokens.proofs.Shapes.{Sound, sound, lexeme_fits, scan_drop, entry_every}
 use Rattle.tokens.proofs.NumberLaws.{fault_small}
+use Rattle.tokens.proofs.KeyLaws.{Bytes, smalls, keyword_is}
 use Rattle.tokens.proofs.LexLaws.{front}
 use Rattle.tokens.proofs.MarkLaws.{start_at, start_within, skip_at, mark_over, mark_on, mark_here}
 
 -- ---- kinds are small, so that a fault's number is none
 
-abbrev Low : Lexeme → Type 0
+abbrev pub Low : Lexeme → Type 0
 Low (gap n) = Unit {0}
 Low (piece κ n) = κ < 99
 Low (fault f) = f < 99
@@ -40,7 +45,7 @@ Low (fault f) = f < 99
 abbrev low_entry : String × ℕ → Bool
 low_entry e = ltb e.1 99
 
-word_low : (w : List ℕ) (n : ℕ) → Low (word w n)
+pub word_low : (w : List ℕ) (n : ℕ) → Low (word w n)
 unfolding word every
 word_low w n = go (eqb E.1 99) refl
   where
@@ -50,6 +55,9 @@ word_low w n = go (eqb E.1 99) refl
     go : (t : Bool) → eqb E.1 99 ≡ t → Low (piece (if t then 1 else E.1) n)
     go true e = omega arith
     go false e = ltb-true E.1 99 (entry_every low_entry (λ s. same (bytes s) w) keywords tt e)
+
+pub keyword_low : (w : List ℕ) → Bytes w → keyword_by (key_of w) < 100
+keyword_low w h = omega (arith, subst Low (keyword_is w 0 (smalls w h)) (word_low w 0))
 
 numeral_low : (w : List ℕ) (n : ℕ) → Low (numeral w n)
 unfolding numeral
@@ -67,7 +75,7 @@ quoted_low bs n = go (ltb n (length bs))
     go true = omega arith
     go false = omega arith
 
-sign_low : (bs : List ℕ) → Low (sign bs)
+pub sign_low : (bs : List ℕ) → Low (sign bs)
 unfolding sign every
 sign_low bs = go (eqb E.1 99) refl
   where
@@ -92,6 +100,10 @@ low b bs = go (blank b) (eqb b 10) (eqb b 35 || begins (bytes "//") (b ∷ bs)) 
     go false false false false false false = sign_low (b ∷ bs)
 
 -- ---- what a mark stands for
+
+-- what the code answers tells one mark alone
+pub tells : (r : Result Mark Refusal) {m n : Mark} → m ≡ n → Tells m r → Tells n r
+tells r e h = subst (λ (x : Mark). Tells x r) e h
 
 -- the text's end, a token of n bytes, or a fault stands where the mark of a place starts
 pub data Stands (s : List ℕ) (m : Mark) : Type 0 where
@@ -256,6 +268,11 @@ module _ (s : List ℕ) (at n last : ℕ) (m : Mark) (is : m ≡ mark_at s at) w
   pub summary_fault : 100 ≤ m.code → scanned.Refused (m.code - 100) m.start ≡ Rest n last at
   summary_fault z = ap (summary n last (length s)) (sym (rw (← is) at (scan_fault s at (rw is at z))))
 
+  pub summary_refused : (e : Refusal) → refused_mark e ≡ m → as_scanned (Err e) ≡ Rest n last at
+  summary_refused e h =
+      let k : m.code - 100 ≡ number_of e.cause = omega (arith, ap (λ (x : Mark). x.code) h) in
+      (λ i. scanned.Refused (sym k i) (ap (λ (x : Mark). x.start) h i)) ∙ summary_fault (omega (arith, ap (λ (x : Mark). x.code) h))
+
   module _ (some : m.code ≡ 0 → ⊥) (whole : m.code < 100) where
     inside : (m.start < m.end) × (m.end ≤ length s)
     inside = rw is (token_within s at (rw is at some) (rw is at whole))
@@ -286,6 +303,11 @@ module _ (s : List ℕ) (at : ℕ) (m : Mark) (is : m ≡ mark_at s at) where
   pub step_fault : 100 ≤ m.code → found.Refused (m.code - 100) m.start ≡ step_at s at
   unfolding step_at
   step_fault h = rw (← is, le-leb 100 m.code h)
+
+  pub step_refused : (e : Refusal) → refused_mark e ≡ m → as_found (Err e) ≡ step_at s at
+  step_refused e h =
+      let k : m.code - 100 ≡ number_of e.cause = omega (arith, ap (λ (x : Mark). x.code) h) in
+      (λ i. found.Refused (sym k i) (ap (λ (x : Mark). x.start) h i)) ∙ step_fault (omega (arith, ap (λ (x : Mark). x.code) h))
 
   pub step_number : m.code ≡ 2 → (x : Float) → x ≡ value_of (take (m.end - m.start) (drop m.start s))
       → found.Token (record { start = m.start; end = m.end; kind = Value (Number x) }) ≡ step_at s at

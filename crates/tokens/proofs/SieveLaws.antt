@@ -14,20 +14,6 @@ use Rattle.tokens.specs.Sieve.{Sifts}
 use Rattle.tokens.proofs.Shapes.{same_eq}
 use Rattle.tokens.proofs.NameLaws.{line_feed, line_other, after, after_zero, place_turn, place_end}
 
--- nothing is sifted at first; a place more is, by the differences there
-pub sift_none : (s : List ℕ) (n first last r : ℕ) → Sifts s n first last 0 r
-sift_none s n first last r j l = absurd (omega arith)
-
-pub sift_turn : (s : List ℕ) (n first last i r r' a b c : ℕ) → Sifts s n first last i r → (get_or s i 0 ≡ first → a ≡ 0) → (get_or s (i + n - 1) 0 ≡ last → b ≡ 0) →
-    (get_or s (i + n) 0 ≡ 10 → c ≡ 0) → r' ≤ r → r' ≤ a + b + c → Sifts s n first last (i + 1) r'
-sift_turn s n first last i r r' a b c x f g h l k j o p q w = go (ltb j i) refl
-  where
-    go : (t : Bool) → ltb j i ≡ t → r' ≡ 0
-    go true e = omega (arith, x j (ltb-true j i e) p q w)
-    go false e =
-        let d : j ≡ i = omega (arith, ltb-false j i e) in
-        omega (arith, f (rw (← d) p), g (rw (← d) q), h (rw (← d) w))
-
 -- a text whose last byte is a line feed has its first one inside
 abbrev Stops : List ℕ → Type 0
 Stops t = (leading (other 10) t < length t) × (get_or t (leading (other 10) t) 0 ≡ 10)

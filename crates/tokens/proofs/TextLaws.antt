@@ -1,19 +1,20 @@
 -- Counts, equal bytes, one byte at a time, and where a script ends.
 use Rattle.std.specs.Prelude.{if◌then◌else◌}
-use mathlib.Core.Path.{◌≡◌, sym, ap}
-use mathlib.Core.Bool.{Bool, true, false}
+use mathlib.Core.Path.{◌≡◌, refl}
+use mathlib.Core.Bool.{Bool, true, false, ◌&&◌}
 use mathlib.Core.List.{List, [], ◌∷◌, ◌++◌}
 use Prim.Native.Nat.{ℕ, suc, ◌+◌, ◌≤◌, ◌<◌}
-use native.Mathlib.Numerals.{add-one}
 use native.Mathlib.Omega.{arith}
-use lib.ListN.{length, get_or, drop, drop_of_length-le}
-use lib.Seq.{drop-cons, length-take-le}
-use borrow.Author.Tests.{eq-eqb, ne_eqb, lt-ltb, le-ltb}
+use lib.Dec.{eqb}
+use lib.Pointwise.{pointwise}
+use lib.ListN.{length}
+use lib.Seq.{length-take-le}
+use borrow.Author.Tests.{lt-ltb, le-ltb}
 use Rattle.tokens.specs.Limits.{most_bytes}
 use Rattle.tokens.specs.Text.{leading, other, same, count, script}
 use Rattle.tokens.specs.Lexing.{script_end}
-use Rattle.tokens.specs.declared.text.ScriptEnd.TheVariants as ends
-use Rattle.tokens.proofs.Shapes.{same_not, leading_le}
+use Rattle.tokens.specs.ScriptEnd as ends
+use Rattle.tokens.proofs.Shapes.{leading_le}
 
 -- ---- counts
 
@@ -34,27 +35,17 @@ count_join f (a ∷ xs) ys = omega (arith, count_join f xs ys)
 
 -- ---- equal bytes
 
-pub same_unlike : (a b : List ℕ) → (length a ≡ length b → ⊥) → false ≡ same a b
-same_unlike a b h = sym (same_not a b (λ e. h (ap length e)))
-
-same_cons : (x y : ℕ) (a b : List ℕ) → x ≡ y → same (x ∷ a) (y ∷ b) ≡ same a b
+-- what `==` answers at two slices
+pub pointwise_is : (a b : List ℕ) → pointwise eqb a b ≡ same a b
 unfolding same
-same_cons x y a b e = rw (same, eq-eqb x y e)
-
-same_other : (x y : ℕ) (a b : List ℕ) → (x ≡ y → ⊥) → same (x ∷ a) (y ∷ b) ≡ false
-unfolding same
-same_other x y a b e = rw (same, ne_eqb x y e)
-
-module _ (a b : List ℕ) (i : ℕ) where
-  pub same_on : i < length a → i < length b → get_or a i 0 ≡ get_or b i 0 → same (drop (i + 1) a) (drop (i + 1) b) ≡ same (drop i a) (drop i b)
-  same_on h k e = rw (add-one, drop-cons a i 0 h, drop-cons b i 0 k) (sym (same_cons _ _ _ _ e))
-
-  pub same_stop : i < length a → i < length b → (get_or a i 0 ≡ get_or b i 0 → ⊥) → false ≡ same (drop i a) (drop i b)
-  same_stop h k e = rw (drop-cons a i 0 h, drop-cons b i 0 k) (sym (same_other _ _ _ _ e))
-
-  pub same_over : length a ≤ i → length b ≤ i → true ≡ same (drop i a) (drop i b)
-  unfolding same
-  same_over h k = rw (drop_of_length-le a h, drop_of_length-le b k)
+pointwise_is [] [] = refl
+pointwise_is [] (y ∷ b) = refl
+pointwise_is (x ∷ a) [] = refl
+pointwise_is (x ∷ a) (y ∷ b) = go (eqb x y) (pointwise_is a b)
+  where
+    go : (t : Bool) → pointwise eqb a b ≡ same a b → ◌≡◌ {A = Bool} (t && pointwise eqb a b) (elim t [ true ↦ same a b | false ↦ false ])
+    go true e = e
+    go false e = refl
 
 -- ---- where a script ends
 

@@ -17,9 +17,9 @@ use Rattle.tokens.specs.Views.{token_after}
 use Rattle.tokens.specs.Computing.{computing}
 use Rattle.tokens.specs.declared.kinds.Literal.TheVariants.{Number, Truth}
 use Rattle.tokens.specs.declared.kinds.Kind.TheVariants as kind
-use Rattle.tokens.specs.declared.text.ScriptEnd.TheVariants as ends
-use Rattle.tokens.specs.declared.scanning.Found.TheVariants as found
-use Rattle.tokens.specs.declared.scanning.Scanned.TheVariants as scanned
+use Rattle.tokens.specs.ScriptEnd as ends
+use Rattle.tokens.specs.Found as found
+use Rattle.tokens.specs.Scanned as scanned
 use Rattle.tokens.specs.declared.cursor.Cursor.{Cursor}
 
 -- ---- what is said of a text

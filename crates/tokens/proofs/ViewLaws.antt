@@ -12,8 +12,8 @@ use Rattle.tokens.specs.Kinds.{kind_of, kind_by}
 use Rattle.tokens.specs.Lexing.{final as ended, mark_at, token_of, found_by, step_at}
 use Rattle.tokens.specs.Views.{passed, place_after, token_after}
 use Rattle.tokens.specs.declared.lexing.Mark.{Mark}
-use Rattle.tokens.specs.declared.scanning.Found.{Found}
-use Rattle.tokens.specs.declared.scanning.Found.TheVariants as found
+use Rattle.tokens.specs.Found.{Found}
+use Rattle.tokens.specs.Found as found
 use Rattle.tokens.proofs.MarkLaws.{start_at}
 use Rattle.tokens.proofs.ScanLaws.{mark_again, end_mark, scan_end, scan_fault, scan_token, token_within, token_end, mark_within, step_fault}
 

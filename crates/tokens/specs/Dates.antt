@@ -1,5 +1,5 @@
 -- Dates: yyyy-mm-dd, year 0001 to 9999, a true Gregorian day (ISO 8601).
-use Rattle.std.specs.Prelude.{Bool, ◌&&◌, List, ℕ, ◌+◌, ◌-◌, ◌*◌, ltb, eqb, length, get_or, if◌then◌else◌}
+use Rattle.std.specs.Prelude.{Bool, ◌&&◌, Option, Some, None, List, ℕ, zero, suc, ◌+◌, ◌-◌, ◌*◌, ltb, eqb, length, get_or, if◌then◌else◌}
 use Rattle.calendar.specs.declared.days.Day.{Day}
 use Rattle.calendar.specs.Calendar.{dated, is_day, count}
 use Rattle.tokens.specs.Text.{digit}
@@ -27,3 +27,8 @@ is_date s = is_shape s && is_day (written s)
 -- a text's date as its day count; 0 where it is no date
 unfoldable pub date : List ℕ → ℕ
 date s = if is_date s then count (written s) else 0
+
+-- a number other than 0, as the code has it
+abbrev pub unless_0 : ℕ → Option ℕ
+unless_0 zero = None
+unless_0 (suc n) = Some (suc n)

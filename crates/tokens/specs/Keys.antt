@@ -1,5 +1,5 @@
 -- Short words as numbers, by which contracts tell keywords and signs.
-use Rattle.std.specs.Prelude.{true, false, List, [], ◌∷◌, ℕ, ◌+◌, ◌*◌, leb, eqb, length, get_or, if◌then◌else◌}
+use Rattle.std.specs.Prelude.{true, false, List, [], ◌∷◌, ℕ, ◌+◌, ◌*◌, leb, eqb, length, get_or, Option, Some, None, if◌then◌else◌}
 use Prim.Native.String.{String}
 use Rattle.tokens.specs.Text.{bytes}
 use Rattle.tokens.specs.Tokens.{pairs, lones, keywords}
@@ -27,6 +27,10 @@ keyed f (e ∷ es) = (f (bytes e.0), e.1) ∷ keyed f es
 -- the code of a keyword by its key; a name's where there is none
 unfoldable pub keyword_by : ℕ → ℕ
 keyword_by k = let c = lookup 99 k (keyed pack keywords) in if eqb c 99 then 1 else c
+
+-- 99 stands for no code
+abbrev pub known : ℕ → Option ℕ
+known c = if eqb c 99 then None else Some c
 
 -- the code of a sign of two bytes by its key, 99 where there is none
 unfoldable pub pair_by : ℕ → ℕ

@@ -1,16 +1,18 @@
 -- The token step, the scan of a whole text and the cursor, as values of the code.
-use Rattle.std.specs.Prelude.{Bool, true, false, ◌&&◌, ◌||◌, List, [], ◌∷◌, ℕ, zero, suc, ◌+◌, ◌-◌, leb, ltb, eqb, length, get_or, take, drop, if◌then◌else◌}
+use Rattle.std.specs.Prelude.{◌≡◌, Bool, true, false, ◌&&◌, ◌||◌, List, [], ◌∷◌, ℕ, zero, suc, ◌+◌, ◌-◌, ◌<◌, leb, ltb, eqb, length, get_or, take, drop, Result, Ok, Err, if◌then◌else◌}
 use Rattle.tokens.specs.Limits.{most_bytes, most_tokens}
 use Rattle.tokens.specs.Text.{leading, name_byte, number_byte, other, count, script}
 use Rattle.tokens.specs.Tokens.{Token, Lexeme, gap, piece, fault, word, numeral, quoted, cut, code, lexeme, Lexed, lexed, refused, scan, counts, end_of}
 use Rattle.tokens.specs.Kinds.{kind_of}
-use Rattle.tokens.specs.declared.text.ScriptEnd.{ScriptEnd}
-use Rattle.tokens.specs.declared.text.ScriptEnd.TheVariants as ends
+use Rattle.tokens.specs.Refusals.{number_of}
+use Rattle.tokens.specs.ScriptEnd.{ScriptEnd}
+use Rattle.tokens.specs.ScriptEnd as ends
+use Rattle.tokens.specs.Found.{Found}
+use Rattle.tokens.specs.Found as found
+use Rattle.tokens.specs.Scanned.{Scanned}
+use Rattle.tokens.specs.Scanned as scanned
+use Rattle.tokens.specs.declared.refusals.Refusal.{Refusal}
 use Rattle.tokens.specs.declared.lexing.Mark.{Mark}
-use Rattle.tokens.specs.declared.scanning.Found.{Found}
-use Rattle.tokens.specs.declared.scanning.Found.TheVariants as found
-use Rattle.tokens.specs.declared.scanning.Scanned.{Scanned}
-use Rattle.tokens.specs.declared.scanning.Scanned.TheVariants as scanned
 use Rattle.tokens.specs.declared.cursor.Cursor.{Cursor}
 
 -- ---- the script's end
@@ -73,6 +75,15 @@ mark_from zero p (b ∷ bs) = marked p (λ n. mark_from (n - 1) (suc p) bs) (lex
 -- the first token at or behind a place, Newlines among them
 unfoldable pub mark_at : List ℕ → ℕ → Mark
 mark_at s at = mark_from 0 at (drop at s)
+
+-- a refusal has no bytes
+abbrev pub refused_mark : Refusal → Mark
+refused_mark e = record { start = e.byte; end = e.byte; code = 100 + number_of e.cause }
+
+-- what the code answers tells a mark: a token's, or that of a fault
+abbrev pub Tells : Mark → Result Mark Refusal → Type 0
+Tells m (Ok t) = (t ≡ m) × (t.code < 100)
+Tells m (Err e) = refused_mark e ≡ m
 
 -- the token of a mark of the text s, as the definition has it
 abbrev pub token_of : List ℕ → Mark → Token

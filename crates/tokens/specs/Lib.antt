@@ -13,6 +13,9 @@ pub mod Dates
 pub mod Tokens
 pub mod Keys
 pub mod Kinds
+pub mod ScriptEnd
+pub mod Found
+pub mod Scanned
 pub mod Lexing
 pub mod Views
 pub mod Computing

@@ -1,5 +1,5 @@
 -- Lent lists: reserved words, currencies, day counters.
-use Rattle.std.specs.Prelude.{Bool, true, false, ◌&&◌, ◌||◌, not, List, [], ◌∷◌, ℕ, zero, suc, ◌-◌, leb, eqb, length, get_or}
+use Rattle.std.specs.Prelude.{Bool, true, false, ◌&&◌, ◌||◌, not, Option, Some, None, List, [], ◌∷◌, ℕ, zero, suc, ◌-◌, leb, eqb, length, get_or}
 use Rattle.tokens.specs.Text.{bytes, same, within, capital, every}
 use Rattle.tokens.specs.Limits.{most_names, longest_name}
 
@@ -21,6 +21,11 @@ ended l = eqb (length l) 0 || eqb (get_or l (length l - 1) 0) 10
 unfoldable pub place : List (List ℕ) → List ℕ → ℕ
 place [] n = 0
 place (m ∷ ms) n = elim (same m n) [ true ↦ 1 | false ↦ elim (place ms n) [ zero ↦ 0 | suc k ↦ suc (suc k) ] ]
+
+-- the same, where there is one, as the code has it
+abbrev pub index_of : ℕ → Option ℕ
+index_of zero = None
+index_of (suc k) = Some k
 
 abbrev pub member : List (List ℕ) → List ℕ → Bool
 member ns n = leb 1 (place ns n)

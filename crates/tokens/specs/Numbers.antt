@@ -1,9 +1,11 @@
 -- Number literals: a digit, then digits and dots.
-use Rattle.std.specs.Prelude.{Bool, false, ◌&&◌, ◌||◌, not, List, [], ◌∷◌, ℕ, ◌+◌, ◌-◌, ◌*◌, ◌/◌, ◌%◌, ◌^◌, ltb, eqb, pos, Float, if◌then◌else◌}
+use Rattle.std.specs.Prelude.{Bool, false, ◌&&◌, ◌||◌, not, List, [], ◌∷◌, ℕ, ◌+◌, ◌-◌, ◌*◌, ◌/◌, ◌%◌, ◌^◌, ltb, eqb, pos, Float, Result, Ok, Err, ⊤, if◌then◌else◌}
 use Rattle.std.specs.Float.{binary64}
 use Rattle.std.specs.Float.Ieee.{of_int, div, neg, to_bits}
 use Rattle.tokens.specs.Text.{count}
 use Rattle.tokens.specs.Limits.{most_digits, most_decimals}
+use Rattle.tokens.specs.Refusals.{number_of}
+use Rattle.tokens.specs.declared.refusals.Ground.{Ground}
 use Rattle.tokens.specs.declared.numbers.Bits.{Bits}
 
 -- the number that the digits stand for, with the dots removed; n is that of the digits before
@@ -25,6 +27,11 @@ fault_of dots n k =
 
 unfoldable pub number_fault : List ℕ → ℕ
 number_fault bs = fault_of (count (eqb 46) bs) (digits 0 bs) (decimals false bs)
+
+-- what the code answers of it
+abbrev pub as_fault : Result ⊤ Ground → ℕ
+as_fault (Ok u) = 0
+as_fault (Err g) = number_of g
 
 -- its value is one f64 division of the digits by the power of ten
 abbrev pub quotient : ℕ → ℕ → Float

@@ -2,8 +2,8 @@
 use Rattle.std.specs.Prelude.{List, ℕ, zero, suc}
 use Rattle.std.specs.Borrow.{Bor}
 use Rattle.tokens.specs.Lexing.{step_at}
-use Rattle.tokens.specs.declared.scanning.Found.{Found}
-use Rattle.tokens.specs.declared.scanning.Found.TheVariants as found
+use Rattle.tokens.specs.Found.{Found}
+use Rattle.tokens.specs.Found as found
 use Rattle.tokens.specs.declared.views.View.{View}
 
 -- the place behind what the token step found. The end ends where it starts, and a refused place is not passed

@@ -86,9 +86,3 @@ pub const END: u8 = 53;
 pub const NOT: u8 = 54;
 
 pub const NEWLINE: u8 = 55;
-
-// What stands for no sign.
-pub const NONE: u8 = 99;
-
-// A refused text has this and the ground for its code.
-pub const FAULT: u8 = 100;

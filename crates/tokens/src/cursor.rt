@@ -1,10 +1,10 @@
 // The cursor: a place in a script and the token that stands there.
 ghost use Rattle.std.specs.Prelude.{◌≡◌, take};
 ghost use Rattle.tokens.specs.Limits.{most_bytes};
-ghost use Rattle.tokens.specs.Lexing.{cursor_at, advanced, one_more};
+ghost use Rattle.tokens.specs.Lexing.{mark_at, cursor_at, advanced};
 
 use crate::codes::{EOF, NEWLINE};
-use crate::lexing::lex;
+use crate::lexing::{Mark, lex};
 
 // The token that stands at the cursor, Newlines aside: its first byte, the byte past its last, its code, and whether a
 // Newline stands before it. With it how many tokens were taken before, and the end of the last of them.
@@ -19,20 +19,18 @@ pub struct Cursor {
 }
 
 // A text no longer than a script.
+#[tactic(auto, using(std::proofs::lemmas::List::take_min))]
 fn script_of(s: &[u8]) -> &[u8]
     ensures { result.now ≡ take most_bytes s.now }
 {
-    let most = Cursor::BYTES;
-    if s.len() <= most {
-        return s;
-    }
-    &s[0..most]
+    &s[..Cursor::BYTES.min(s.len())]
 }
 
-fn one_more(n: u16) -> u16
-    ensures { result ≡ one_more n }
+// The first token at or behind a place, or the refusal there.
+fn mark_at(text: &[u8], at: usize) -> Mark
+    ensures { result ≡ mark_at text.now at }
 {
-    if n < 65535 { n + 1 } else { n }
+    lex(text, at).unwrap_or_else(Mark::from)
 }
 
 impl Cursor {
@@ -50,7 +48,7 @@ impl Cursor {
         let mut i = at as usize;
         let mut broken = false;
         loop {
-            let m = lex(text, i);
+            let m = mark_at(text, i);
             if m.code != NEWLINE {
                 return Cursor {
                     start: m.start as u16,
@@ -74,12 +72,13 @@ impl Cursor {
     }
 
     // The token is taken, and the next one stands at the cursor. The end stays.
+    #[tactic(auto, unfolding(crate::specs::Lexing::advanced))]
     pub fn next(self, s: &[u8]) -> Self
         ensures { result ≡ advanced (take most_bytes s.now) self }
     {
         if self.code == EOF {
             return self;
         }
-        Cursor::at_place(s, self.end, one_more(self.taken), self.end)
+        Cursor::at_place(s, self.end, self.taken.saturating_add(1), self.end)
     }
 }

@@ -1,16 +1,9 @@
 // A date as ISO 8601 writes it.
 ghost use Rattle.std.specs.Prelude.{◌≡◌, ◌+◌, ◌-◌, ◌≤◌, ◌<◌, length};
-ghost use Rattle.tokens.specs.Dates.{pair, is_shape, date};
+ghost use Rattle.tokens.specs.Dates.{pair, is_shape, date, unless_0};
 
 use crate::text::is_digit;
 use calendar::days::count_of;
-
-// What a digit counts.
-fn worth(b: u8) -> u32
-    ensures { (result ≡ b - 48) × (result < 256) }
-{
-    if b < 48 { 0 } else { (b - 48) as u32 }
-}
 
 fn pair_at(s: &[u8], i: usize) -> u32
     requires { i + 1 < length s.now }
@@ -18,10 +11,8 @@ fn pair_at(s: &[u8], i: usize) -> u32
 {
     let a = s[i];
     let b = s[i + 1];
-    if is_digit(a) {
-        if is_digit(b) {
-            return worth(a) * 10 + worth(b);
-        }
+    if is_digit(a) && is_digit(b) {
+        return u32::from(a - b'0') * 10 + u32::from(b - b'0');
     }
     100
 }
@@ -29,16 +20,17 @@ fn pair_at(s: &[u8], i: usize) -> u32
 fn is_shape(s: &[u8]) -> bool
     ensures { result ≡ is_shape s.now }
 {
-    s.len() == 10 && (s[4] == 45 && (s[7] == 45 && (pair_at(s, 0) < 100 && pair_at(s, 2) < 100)))
+    s.len() == 10 && s[4] == b'-' && s[7] == b'-' && pair_at(s, 0) < 100 && pair_at(s, 2) < 100
 }
 
-// The count of the day that a text writes; 0 where it is no date.
-pub fn date_of(s: &[u8]) -> u32
-    ensures { result ≡ date s.now }
+// The count of the day that a text writes.
+pub fn date_of(s: &[u8]) -> Option<u32>
+    ensures { result ≡ unless_0 (date s.now) }
 {
     if !is_shape(s) {
-        return 0;
+        return None;
     }
     let y = pair_at(s, 0) * 100 + pair_at(s, 2);
-    count_of(y, pair_at(s, 5), pair_at(s, 8))
+    let day = count_of(y, pair_at(s, 5), pair_at(s, 8));
+    if day == 0 { None } else { Some(day) }
 }

@@ -63,6 +63,7 @@ pub enum Kind {
 }
 
 // The kind that a code stands for, but for that of a number.
+#[tactic(auto, unfolding(crate::specs::Computing::computing))]
 pub fn kind_of(code: u8) -> Kind
     ensures { result ≡ kind_by code }
 {

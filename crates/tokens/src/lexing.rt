@@ -2,14 +2,15 @@
 ghost use Rattle.std.specs.Prelude.{◌≡◌, ◌+◌, ◌<◌, length, drop};
 ghost use Rattle.tokens.specs.Text.{leading, name_byte, number_byte};
 ghost use Rattle.tokens.specs.Tokens.{sign};
-ghost use Rattle.tokens.specs.Lexing.{lexeme_at, gap_width, byte_at, comment, word_at, number_at, string_at, mark_of, mark_at};
+ghost use Rattle.tokens.specs.Lexing.{lexeme_at, gap_width, byte_at, comment, word_at, number_at, string_at, mark_of, mark_at, refused_mark, Tells};
 
-use crate::codes::{EOF, FAULT, NEWLINE, NONE, NUMBER, STRING};
+use crate::codes::{EOF, NEWLINE, NUMBER, STRING};
 use crate::numbers::number_fault;
-use crate::text::{find, is_blank, is_digit, is_letter, is_name_byte, is_number_byte};
+use crate::refusals::{Ground, Refusal};
+use crate::text::{find, is_blank, is_digit, is_letter, is_name_byte, is_number_byte, run_end};
 use crate::words::{keyword, lone_sign, pair_key, pair_sign};
 
-// A token as readers keep it: its place and its kind's number; 100 and a ground where the text is refused there.
+// A token as readers keep it: its place and its kind's number.
 #[derive(Clone, Copy)]
 pub struct Mark {
     pub start: usize,
@@ -17,46 +18,31 @@ pub struct Mark {
     pub code: u8,
 }
 
+// A refusal as readers keep it: no bytes, and 100 and the ground's number for a kind's.
+impl From<Refusal> for Mark {
+    ghost from_gives = { λ e m. m ≡ refused_mark e };
+
+    fn from(e: Refusal) -> Mark {
+        Mark {
+            start: e.byte,
+            end: e.byte,
+            code: 100 + e.cause.number() as u8,
+        }
+    }
+}
+
 // The byte at a place, and 0 behind the end.
 fn byte_at(s: &[u8], at: usize) -> u8
     ensures { result ≡ byte_at s.now at }
 {
-    if at < s.len() { s[at] } else { 0 }
-}
-
-// Where the name that goes on at a place ends.
-fn name_end(s: &[u8], at: usize) -> usize
-    ensures { result ≡ at + leading name_byte (drop at s.now) }
-{
-    let mut i = at;
-    while i < s.len() {
-        if !is_name_byte(s[i]) {
-            return i;
-        }
-        i += 1;
-    }
-    i
-}
-
-// Where the number that goes on at a place ends.
-fn number_end(s: &[u8], at: usize) -> usize
-    ensures { result ≡ at + leading number_byte (drop at s.now) }
-{
-    let mut i = at;
-    while i < s.len() {
-        if !is_number_byte(s[i]) {
-            return i;
-        }
-        i += 1;
-    }
-    i
+    s.get(at).copied().unwrap_or(0)
 }
 
 // `#` and `//` begin a comment.
 fn is_comment(b: u8, next: u8) -> bool
     ensures { result ≡ comment b next }
 {
-    b == 35 || (b == 47 && next == 47)
+    b == b'#' || b == b'/' && next == b'/'
 }
 
 // Where the blank or the comment at a place ends; the place itself where there is none.
@@ -69,46 +55,43 @@ fn gap_end(s: &[u8], at: usize) -> usize
         return at + 1;
     }
     if is_comment(b, byte_at(s, at + 1)) {
-        return find(s, at + 1, 10);
+        return find(s, at + 1, b'\n');
     }
     at
 }
 
 // The sign at a place: the longest wins.
-fn sign_at(s: &[u8], at: usize) -> Mark
+fn sign_at(s: &[u8], at: usize) -> Result<Mark, Refusal>
     requires { at < length s.now }
-    ensures { result ≡ mark_of at (sign (drop at s.now)) }
+    ensures { Tells (mark_of at (sign (drop at s.now))) result }
 {
     let b = s[at];
-    let two = pair_sign(pair_key(b, byte_at(s, at + 1)));
-    if two != NONE {
-        return Mark {
+    if let Some(code) = pair_sign(pair_key(b, byte_at(s, at + 1))) {
+        return Ok(Mark {
             start: at,
             end: at + 2,
-            code: two,
-        };
+            code,
+        });
     }
-    let one = lone_sign(b);
-    if one != NONE {
-        return Mark {
+    if let Some(code) = lone_sign(b) {
+        return Ok(Mark {
             start: at,
             end: at + 1,
-            code: one,
-        };
+            code,
+        });
     }
-    Mark {
-        start: at,
-        end: at,
-        code: FAULT + 3,
-    }
+    Err(Refusal {
+        cause: Ground::Character,
+        byte: at,
+    })
 }
 
 // The name or the keyword at a place where a letter stands.
 fn word_at(s: &[u8], at: usize) -> Mark
     requires { at < length s.now }
-    ensures { result ≡ mark_of at (word_at s.now at) }
+    ensures { (result ≡ mark_of at (word_at s.now at)) × (result.code < 100) }
 {
-    let end = name_end(s, at + 1);
+    let end = run_end(s, at + 1, is_name_byte);
     let code = keyword(&s[at..end]);
     Mark {
         start: at,
@@ -118,74 +101,68 @@ fn word_at(s: &[u8], at: usize) -> Mark
 }
 
 // The number at a place where a digit stands.
-fn number_at(s: &[u8], at: usize) -> Mark
+fn number_at(s: &[u8], at: usize) -> Result<Mark, Refusal>
     requires { at < length s.now }
-    ensures { result ≡ mark_of at (number_at s.now at) }
+    ensures { Tells (mark_of at (number_at s.now at)) result }
 {
-    let end = number_end(s, at + 1);
-    let fault = number_fault(&s[at..end]);
-    if fault != 0 {
-        return Mark {
+    let end = run_end(s, at + 1, is_number_byte);
+    match number_fault(&s[at..end]) {
+        Ok(()) => Ok(Mark {
             start: at,
-            end: at,
-            code: FAULT + fault,
-        };
-    }
-    Mark {
-        start: at,
-        end,
-        code: NUMBER,
+            end,
+            code: NUMBER,
+        }),
+        Err(ground) => Err(Refusal { cause: ground, byte: at }),
     }
 }
 
 // The string at a place where a quote stands.
-fn string_at(s: &[u8], at: usize) -> Mark
+fn string_at(s: &[u8], at: usize) -> Result<Mark, Refusal>
     requires { at < length s.now }
-    ensures { result ≡ mark_of at (string_at s.now at) }
+    ensures { Tells (mark_of at (string_at s.now at)) result }
 {
-    let quote = find(s, at + 1, 34);
+    let quote = find(s, at + 1, b'"');
     if quote < s.len() {
-        return Mark {
+        return Ok(Mark {
             start: at,
             end: quote + 1,
             code: STRING,
-        };
+        });
     }
-    Mark {
-        start: at,
-        end: at,
-        code: FAULT + 4,
-    }
+    Err(Refusal {
+        cause: Ground::OpenString,
+        byte: at,
+    })
 }
 
 // The token at a place where no blank and no comment stands.
-fn token_at(s: &[u8], at: usize) -> Mark
+fn token_at(s: &[u8], at: usize) -> Result<Mark, Refusal>
     requires { (at < length s.now) × (gap_width (lexeme_at s.now at) ≡ 0) }
-    ensures { result ≡ mark_of at (lexeme_at s.now at) }
+    ensures { Tells (mark_of at (lexeme_at s.now at)) result }
 {
     let b = s[at];
     if is_letter(b) {
-        return word_at(s, at);
+        return Ok(word_at(s, at));
     }
     if is_digit(b) {
         return number_at(s, at);
     }
-    if b == 34 {
+    if b == b'"' {
         return string_at(s, at);
     }
-    if b == 10 {
-        return Mark {
+    if b == b'\n' {
+        return Ok(Mark {
             start: at,
             end: at + 1,
             code: NEWLINE,
-        };
+        });
     }
     sign_at(s, at)
 }
 
-// The first token at or behind a place, Newlines among them.
-pub fn lex(s: &[u8], at: usize) -> Mark
-    ensures { result ≡ mark_at s.now at }
+// The first token at or behind a place, Newlines among them, or a refusal there.
+pub fn lex(s: &[u8], at: usize) -> Result<Mark, Refusal>
+    ensures { Tells (mark_at s.now at) result }
 {
     let mut i = at;
     while i < s.len() {
@@ -195,9 +172,9 @@ pub fn lex(s: &[u8], at: usize) -> Mark
         }
         i = end;
     }
-    Mark {
+    Ok(Mark {
         start: i,
         end: i,
         code: EOF,
-    }
+    })
 }

@@ -1,7 +1,7 @@
 // Lent lists of names: reserved words, currencies, day counters.
 ghost use Rattle.std.specs.Prelude.{◌≡◌, false, ◌-◌, ◌≤◌, ◌<◌, eqb, length, take, drop};
 ghost use Rattle.tokens.specs.Text.{bytes};
-ghost use Rattle.tokens.specs.Names.{names, ended, place, good_length, good_byte, good_name, good_names, good_list};
+ghost use Rattle.tokens.specs.Names.{names, ended, place, index_of, good_length, good_byte, good_name, good_names, good_list};
 ghost use Rattle.tokens.specs.Slots.{slot_of, double_by};
 ghost use Rattle.tokens.specs.Sieve.{Sifts};
 
@@ -12,33 +12,20 @@ const MOST_NAMES: usize = 256;
 const LONGEST_NAME: usize = 32;
 
 // The place of a name in a list, by a walk from name to name.
-fn walked(list: &[u8], name: &[u8]) -> usize
-    ensures { result ≡ place (names list.now) name.now }
+fn walked(list: &[u8], name: &[u8]) -> Option<usize>
+    ensures { result ≡ index_of (place (names list.now) name.now) }
 {
     let mut at: usize = 0;
     let mut k: usize = 0;
     while at < list.len() {
         let e = find(list, at, 10);
-        k += 1;
         if equal(&list[at..e], name) {
-            return k;
+            return Some(k);
         }
+        k += 1;
         at = e + 1;
     }
-    0
-}
-
-// 0 where two bytes are equal.
-fn differ(a: u8, b: u8) -> u8
-    ensures { (a ≡ b → result ≡ 0) × (result ≤ 1) }
-{
-    if a == b { 0 } else { 1 }
-}
-
-fn least(a: u8, b: u8) -> u8
-    ensures { (result ≤ a) × (result ≤ b) }
-{
-    if b < a { b } else { a }
+    None
 }
 
 // 0 where a first byte, a last one and a line feed stand somewhere in a list as they would for a name of n bytes. Nothing
@@ -49,13 +36,11 @@ fn lowest(list: &[u8], n: usize, first: u8, last: u8) -> u8
 {
     let most = list.len() - n;
     let mut low: u8 = 3;
-    let mut i: usize = 0;
-    while i < most {
-        let a = differ(list[i], first);
-        let b = differ(list[i + n - 1], last);
-        let c = differ(list[i + n], 10);
-        low = least(low, a + b + c);
-        i += 1;
+    for i in 0..most {
+        let a = u8::from(list[i] != first);
+        let b = u8::from(list[i + n - 1] != last);
+        let c = u8::from(list[i + n] != b'\n');
+        low = low.min(a + b + c);
     }
     low
 }
@@ -77,12 +62,12 @@ fn may_hold(list: &[u8], name: &[u8]) -> bool
     lowest(list, n, name[0], name[n - 1]) == 0
 }
 
-// The place of a name in a list, from 0, plus 1; 0 where it is absent.
-pub fn place_in(list: &[u8], name: &[u8]) -> usize
-    ensures { result ≡ place (names list.now) name.now }
+// The place of a name in a list, from 0.
+pub fn place_in(list: &[u8], name: &[u8]) -> Option<usize>
+    ensures { result ≡ index_of (place (names list.now) name.now) }
 {
     if !may_hold(list, name) {
-        return 0;
+        return None;
     }
     walked(list, name)
 }
@@ -93,7 +78,7 @@ fn is_good_length(money: bool, n: usize) -> bool
     if money {
         return n == 3;
     }
-    1 <= n && n <= LONGEST_NAME
+    (1..=LONGEST_NAME).contains(&n)
 }
 
 fn is_good_byte(money: bool, b: u8) -> bool
@@ -102,34 +87,22 @@ fn is_good_byte(money: bool, b: u8) -> bool
     if money {
         return is_capital(b);
     }
-    32 <= b && (b <= 126 && b != 34)
+    (32..=126).contains(&b) && b != b'"'
 }
 
 fn is_good_name(money: bool, name: &[u8]) -> bool
     ensures { result ≡ good_name money name.now }
 {
-    if !is_good_length(money, name.len()) {
-        return false;
-    }
-    let mut i: usize = 0;
-    while i < name.len() {
-        if !is_good_byte(money, name[i]) {
-            return false;
-        }
-        i += 1;
-    }
-    true
+    is_good_length(money, name.len()) && name.iter().all(|&b| is_good_byte(money, b))
 }
 
 // A slot for a name: two equal names have the same.
 fn slot_of(name: &[u8]) -> usize
     ensures { (result ≡ slot_of name.now) × (result < 2048) }
 {
-    let mut h: usize = 0;
-    let mut i: usize = 0;
-    while i < name.len() {
-        h = (h * 37 + name[i] as usize) % 2048;
-        i += 1;
+    let mut h = 0;
+    for &b in name {
+        h = (h * 37 + b as usize) % 2048;
     }
     h
 }
@@ -142,7 +115,7 @@ fn is_double(list: &[u8], at: usize, e: usize, slot: u8) -> bool
     if slot == 0 {
         return false;
     }
-    place_in(&list[..at], &list[at..e]) != 0
+    place_in(&list[..at], &list[at..e]).is_some()
 }
 
 // Not too many names, each good, none twice: in one walk, with the slots of the names passed.
@@ -156,7 +129,7 @@ fn are_good(money: bool, list: &[u8]) -> bool
         if k == MOST_NAMES {
             return false;
         }
-        let e = find(list, at, 10);
+        let e = find(list, at, b'\n');
         if !is_good_name(money, &list[at..e]) {
             return false;
         }
@@ -174,24 +147,22 @@ fn are_good(money: bool, list: &[u8]) -> bool
 fn is_ended(list: &[u8]) -> bool
     ensures { result ≡ ended list.now }
 {
-    list.len() == 0 || list[list.len() - 1] == 10
+    matches!(list, [] | [.., b'\n'])
 }
 
 fn is_usd_first(list: &[u8]) -> bool
     ensures { result ≡ eqb (place (names list.now) (bytes "USD")) 1 }
 {
-    place_in(list, b"USD") == 1
+    match place_in(list, b"USD") {
+        Some(k) => k == 0,
+        None => false,
+    }
 }
 
 // Whether a list is well formed, as one of currencies or as another.
+#[tactic(auto, unfolding(crate::specs::Names::good_list))]
 pub fn is_well_formed(money: bool, list: &[u8]) -> bool
     ensures { result ≡ good_list money list.now }
 {
-    if !is_ended(list) {
-        return false;
-    }
-    if !are_good(money, list) {
-        return false;
-    }
-    !money || is_usd_first(list)
+    is_ended(list) && are_good(money, list) && (!money || is_usd_first(list))
 }

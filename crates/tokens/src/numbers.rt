@@ -1,8 +1,10 @@
 // Number literals: whether the bytes of one are taken, its value as an f64, and that value's bits.
 ghost use Rattle.std.specs.Prelude.{◌≡◌, not, ◌-◌, ◌<◌, ◌^◌, ◌/◌, ◌%◌, T};
 ghost use Rattle.std.specs.Float.Ieee.{neg, is_nan};
-ghost use Rattle.tokens.specs.Numbers.{number_fault, fault_of, value_of, signed, bits_of};
+ghost use Rattle.tokens.specs.Numbers.{number_fault, fault_of, as_fault, value_of, signed, bits_of};
 ghost use Rattle.tokens.specs.Runs.{up, grow, feed, feed_all, begin};
+
+use crate::refusals::Ground;
 
 const TENS: [u64; 16] = [
     1,
@@ -41,13 +43,6 @@ pub struct Bits {
     pub low: u32,
 }
 
-// What a digit counts.
-fn worth(b: u8) -> u64
-    ensures { result ≡ b - 48 }
-{
-    if b < 48 { 0 } else { (b - 48) as u64 }
-}
-
 fn up_to(n: u32, cap: u32) -> u32
     ensures { result ≡ up n cap }
 {
@@ -58,7 +53,7 @@ fn grown(v: u64, b: u8) -> u64
     ensures { result ≡ grow v b }
 {
     if v <= MOST_DIGITS {
-        v * 10 + worth(b)
+        v * 10 + u64::from(b.saturating_sub(b'0'))
     } else {
         v
     }
@@ -67,62 +62,49 @@ fn grown(v: u64, b: u8) -> u64
 fn fed(r: Run, b: u8) -> Run
     ensures { result ≡ feed r b }
 {
-    if b == 46 {
+    if b == b'.' {
         return Run {
             dots: up_to(r.dots, 2),
-            digits: r.digits,
-            decimals: r.decimals,
+            ..r
         };
     }
     let digits = grown(r.digits, b);
     if 0 < r.dots {
         return Run {
-            dots: r.dots,
             digits,
             decimals: up_to(r.decimals, 16),
+            ..r
         };
     }
-    Run {
-        dots: r.dots,
-        digits,
-        decimals: r.decimals,
-    }
+    Run { digits, ..r }
 }
 
 fn measured(w: &[u8]) -> Run
     ensures { result ≡ feed_all w.now begin }
 {
-    let mut run = Run {
+    let begin = Run {
         dots: 0,
         digits: 0,
         decimals: 0,
     };
-    let mut i: usize = 0;
-    while i < w.len() {
-        run = fed(run, w[i]);
-        i += 1;
-    }
-    run
+    w.iter().fold(begin, |run, &b| fed(run, b))
 }
 
-fn judged(dots: u32, digits: u64, decimals: u32) -> u8
-    ensures { result ≡ fault_of dots digits decimals }
+fn judged(dots: u32, digits: u64, decimals: u32) -> Result<(), Ground>
+    ensures { as_fault result ≡ fault_of dots digits decimals }
 {
     if 1 < dots {
-        return 5;
+        return Err(Ground::Number);
     }
-    if MOST_DIGITS < digits {
-        return 6;
+    if MOST_DIGITS < digits || MOST_DECIMALS < decimals {
+        return Err(Ground::LongNumber);
     }
-    if MOST_DECIMALS < decimals {
-        return 6;
-    }
-    0
+    Ok(())
 }
 
-// The ground on which the bytes of a literal are refused: 5 before 6, and 0 where they are taken.
-pub fn number_fault(w: &[u8]) -> u8
-    ensures { result ≡ number_fault w.now }
+// Whether the bytes of a literal are taken, or the ground on which they are refused: 5 before 6.
+pub fn number_fault(w: &[u8]) -> Result<(), Ground>
+    ensures { as_fault result ≡ number_fault w.now }
 {
     let run = measured(w);
     judged(run.dots, run.digits, run.decimals)
@@ -140,13 +122,10 @@ pub fn value_of(w: &[u8]) -> f64
     ensures { result ≡ value_of w.now }
 {
     let run = measured(w);
-    let digits = run.digits;
-    let decimals = run.decimals;
-    if judged(run.dots, digits, decimals) != 0 {
-        return 0.0;
+    match judged(run.dots, run.digits, run.decimals) {
+        Err(_) => 0.0,
+        Ok(()) => run.digits as f64 / ten_to(run.decimals as usize) as f64,
     }
-    let tens = ten_to(decimals as usize);
-    digits as f64 / tens as f64
 }
 
 fn halves(n: u64) -> Bits
@@ -170,8 +149,5 @@ pub fn bits_of(w: &[u8], minus: bool) -> Bits
     ensures { result ≡ bits_of (signed minus (value_of w.now)) }
 {
     let x = value_of(w);
-    if minus {
-        return parted(-x);
-    }
-    parted(x)
+    if minus { parted(-x) } else { parted(x) }
 }

@@ -1,5 +1,5 @@
 // Where a byte stands, as people count.
-ghost use Rattle.std.specs.Prelude.{◌≡◌, min};
+ghost use Rattle.std.specs.Prelude.{◌≡◌};
 ghost use Rattle.tokens.specs.Places.{line, column, place_of};
 
 use crate::text::is_continuation;
@@ -10,45 +10,20 @@ pub struct Place {
     pub column: usize,
 }
 
-fn least(a: usize, b: usize) -> usize
-    ensures { result ≡ min a b }
-{
-    if a < b { a } else { b }
-}
-
 // Counting alone, so that the compiler takes many bytes at once.
 fn line_of(s: &[u8], at: usize) -> usize
     ensures { result ≡ line s.now at }
 {
-    let end = least(at, s.len());
-    let mut line: usize = 1;
-    let mut i: usize = 0;
-    while i < end {
-        if s[i] == 10 {
-            line += 1;
-        }
-        i += 1;
-    }
-    line
+    1 + s[..at.min(s.len())].iter().filter(|&&b| b == b'\n').count()
 }
 
 // From the place back to the line feed before it, so that the lines before are not walked.
 fn column_of(s: &[u8], at: usize) -> usize
     ensures { result ≡ column s.now at }
 {
-    let mut column: usize = 1;
-    let mut i = least(at, s.len());
-    while 0 < i {
-        i -= 1;
-        let b = s[i];
-        if b == 10 {
-            return column;
-        }
-        if !is_continuation(b) {
-            column += 1;
-        }
-    }
-    column
+    let before = s[..at.min(s.len())].iter().rev();
+    let line = before.take_while(|&&b| b != b'\n');
+    1 + line.filter(|&&b| !is_continuation(b)).count()
 }
 
 // The line and the column of the byte at `at`, each counted from 1.

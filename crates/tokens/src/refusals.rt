@@ -39,6 +39,6 @@ impl Ground {
 // What is refused: the ground, and the byte where it lies.
 #[derive(Clone, Copy)]
 pub struct Refusal {
-    pub ground: Ground,
+    pub cause: Ground,
     pub byte: usize,
 }

@@ -1,112 +1,97 @@
 // Bytes: their classes, where one of them stands first, and where a script ends.
-ghost use Rattle.std.specs.Prelude.{◌≡◌, ◌+◌, drop};
-ghost use Rattle.tokens.specs.Text.{within, digit, capital, letter, name_byte, number_byte, blank, continuation, leading, other, same};
+ghost use Rattle.std.specs.Prelude.{◌≡◌, ℕ, Bool, ◌+◌, ◌≤◌, length, drop};
+ghost use Rattle.tokens.specs.Text.{digit, capital, letter, name_byte, number_byte, blank, continuation, leading, other, same};
+ghost use Rattle.tokens.specs.ScriptEnd.{as_end};
 ghost use Rattle.tokens.specs.Lexing.{script_end};
 
 use crate::cursor::Cursor;
-
-// Where a script ends, or a refusal: its number and its byte.
-#[derive(Clone, Copy)]
-pub enum ScriptEnd {
-    At(usize),
-    Refused(u32, usize),
-}
-
-fn is_within(low: u8, high: u8, b: u8) -> bool
-    ensures { result ≡ within low high b }
-{
-    low <= b && b <= high
-}
+use crate::refusals::{Ground, Refusal};
 
 pub fn is_digit(b: u8) -> bool
     ensures { result ≡ digit b }
 {
-    is_within(48, 57, b)
+    b.is_ascii_digit()
 }
 
 pub fn is_capital(b: u8) -> bool
     ensures { result ≡ capital b }
 {
-    is_within(65, 90, b)
+    b.is_ascii_uppercase()
 }
 
 pub fn is_letter(b: u8) -> bool
     ensures { result ≡ letter b }
 {
-    is_capital(b) || is_within(97, 122, b)
+    b.is_ascii_alphabetic()
 }
 
 // A byte that a name goes on with.
 pub fn is_name_byte(b: u8) -> bool
     ensures { result ≡ name_byte b }
 {
-    is_letter(b) || (is_digit(b) || b == 95)
+    is_letter(b) || is_digit(b) || b == b'_'
 }
 
 // A byte that a number goes on with.
 pub fn is_number_byte(b: u8) -> bool
     ensures { result ≡ number_byte b }
 {
-    is_digit(b) || b == 46
+    is_digit(b) || b == b'.'
 }
 
 pub fn is_blank(b: u8) -> bool
     ensures { result ≡ blank b }
 {
-    b == 9 || (is_within(11, 13, b) || b == 32)
+    matches!(b, 9 | 11..=13 | 32)
 }
 
 // A byte that goes on with a character of UTF-8, so that it begins none.
 pub fn is_continuation(b: u8) -> bool
     ensures { result ≡ continuation b }
 {
-    is_within(0x80, 0xBF, b)
+    (0x80..=0xBF).contains(&b)
+}
+
+// Where the bytes from a place on that pass a test end.
+pub fn run_end<F: Fn(u8) -> bool>(s: &[u8], at: usize, goes_on: F) -> usize
+    requires { F.IsAlwaysCallable goes_on }
+    ensures after { at ≤ result }
+    ensures within { at ≤ length s.now → result ≤ length s.now }
+    ensures run { (f : ℕ → Bool) → ((b : ℕ) (r : Bool) → F.post goes_on b r → r ≡ f b) → result ≡ at + leading f (drop at s.now) }
+{
+    for i in at..s.len() {
+        if !goes_on(s[i]) {
+            return i;
+        }
+    }
+    at.max(s.len())
 }
 
 // The first place at or after `at` where the byte `b` stands, or else the end.
 pub fn find(s: &[u8], at: usize, b: u8) -> usize
     ensures { result ≡ at + leading (other b) (drop at s.now) }
 {
-    let mut i = at;
-    while i < s.len() {
-        if s[i] == b {
-            return i;
-        }
-        i += 1;
-    }
-    i
+    run_end(s, at, |x| x != b)
 }
 
 // Equal bytes.
 pub fn equal(a: &[u8], b: &[u8]) -> bool
     ensures { result ≡ same a.now b.now }
 {
-    if a.len() != b.len() {
-        return false;
-    }
-    let mut i = 0;
-    while i < a.len() {
-        if a[i] != b[i] {
-            return false;
-        }
-        i += 1;
-    }
-    true
+    a == b
 }
 
 // The script is the bytes before the first zero byte. It is not looked for behind the most bytes that a script may have.
-pub fn script_end(bytes: &[u8]) -> ScriptEnd
-    ensures { result ≡ script_end bytes.now }
+pub fn script_end(bytes: &[u8]) -> Result<usize, Refusal>
+    ensures { as_end result ≡ script_end bytes.now }
 {
-    let mut i: usize = 0;
-    while i < bytes.len() {
-        if bytes[i] == 0 {
-            return ScriptEnd::At(i);
-        }
-        if i == Cursor::BYTES {
-            return ScriptEnd::Refused(1, 0);
-        }
-        i += 1;
+    let most = bytes.len().min(Cursor::BYTES + 1);
+    let end = find(&bytes[..most], 0, 0);
+    if Cursor::BYTES < end {
+        return Err(Refusal {
+            cause: Ground::TooLong,
+            byte: 0,
+        });
     }
-    ScriptEnd::At(i)
+    Ok(end)
 }

@@ -1,10 +1,12 @@
 // A view of a lent script: a struct that holds the slice, with few and thin calls. A caller with a plain slice asks
 // `token_after`.
 ghost use Rattle.std.specs.Prelude.{◌≡◌};
+ghost use Rattle.tokens.specs.Found.{as_found};
 ghost use Rattle.tokens.specs.Lexing.{step_at};
 ghost use Rattle.tokens.specs.Views.{passed, place_after, view_at, moved, token_after};
 
-use crate::scanning::{Found, step};
+use crate::refusals::Refusal;
+use crate::scanning::{Token, step};
 
 // The script as it was lent, and a place in it. As to the token step, the text's length alone ends it.
 #[derive(Clone, Copy)]
@@ -18,8 +20,8 @@ fn behind(s: &[u8], at: usize) -> usize
     ensures { result ≡ passed (step_at s.now at) }
 {
     match step(s, at) {
-        Found::Token(t) => t.end,
-        Found::Refused(_, place) => place,
+        Ok(t) => t.end,
+        Err(e) => e.byte,
     }
 }
 
@@ -28,15 +30,13 @@ fn place_after(s: &[u8], at: usize, tokens: usize) -> usize
     ensures { result ≡ place_after s.now at tokens }
 {
     let mut i = at;
-    let mut left = tokens;
-    while 0 < left {
+    for _ in 0..tokens {
         let next = behind(s, i);
         // A place that is not passed once is never passed.
         if next == i {
             return i;
         }
         i = next;
-        left -= 1;
     }
     i
 }
@@ -50,8 +50,8 @@ impl<'a> View<'a> {
     }
 
     // The token there.
-    pub fn token(self) -> Found
-        ensures { result ≡ step_at self.entry.script.now self.entry.at }
+    pub fn token(self) -> Result<Token, Refusal>
+        ensures { as_found result ≡ step_at self.entry.script.now self.entry.at }
     {
         step(self.script, self.at)
     }
@@ -68,8 +68,8 @@ impl<'a> View<'a> {
 }
 
 // The token of a script behind so many others, Newlines among them. The end and a refused place are not passed.
-pub fn token_after(script: &[u8], skipped: usize) -> Found
-    ensures { result ≡ token_after script.now skipped }
+pub fn token_after(script: &[u8], skipped: usize) -> Result<Token, Refusal>
+    ensures { as_found result ≡ token_after script.now skipped }
 {
     View::over(script).moved_on(skipped).token()
 }

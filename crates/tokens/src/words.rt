@@ -1,11 +1,11 @@
-// Keywords, told by their length and then by their bytes; signs and names of calls, told by the number that their bytes make.
+// Keywords, told by their bytes; signs and names of calls, told by the number that their bytes make.
 ghost use Rattle.std.specs.Prelude.{◌≡◌, ◌+◌, ◌*◌, length};
-ghost use Rattle.tokens.specs.Keys.{key_of, keyword_by, pair_by, lone_by};
+ghost use Rattle.tokens.specs.Keys.{key_of, keyword_by, known, pair_by, lone_by};
 
 use crate::codes::{
     AND, ASSIGN, CLOSE_BRACKET, CLOSE_CURLY, CLOSE_PAREN, COMMA, DIVIDE, DIVIDE_ASSIGN, DOT, ELSE,
     END, EQUAL, FALSE, FOR, IF, IN, INFERIOR, INFERIOR_OR_EQUAL, MINUS, MINUS_ASSIGN, MULTIPLY,
-    MULTIPLY_ASSIGN, NAME, NONE, NOT, NOT_EQUAL, ON, OPEN_BRACKET, OPEN_CURLY, OPEN_PAREN, OR,
+    MULTIPLY_ASSIGN, NAME, NOT, NOT_EQUAL, ON, OPEN_BRACKET, OPEN_CURLY, OPEN_PAREN, OR,
     PAYS, PLUS, PLUS_ASSIGN, POWER, SEMICOLON, SUPERIOR, SUPERIOR_OR_EQUAL, THEN, TRUE,
 };
 
@@ -20,10 +20,8 @@ pub fn key_of(w: &[u8]) -> u64
         return 0;
     }
     let mut k: u64 = 1;
-    let mut i = w.len();
-    while 0 < i {
-        i -= 1;
-        k = k * 256 + w[i] as u64;
+    for &b in w.iter().rev() {
+        k = k * 256 + b as u64;
     }
     k
 }
@@ -34,144 +32,71 @@ pub fn pair_key(b: u8, next: u8) -> u32
     b as u32 + 256 * (next as u32 + 256)
 }
 
-// `if`, `or`, `on`, `in`.
-fn keyword_of_two(w: &[u8]) -> u8
-    requires { length w.now ≡ 2 }
-    ensures { result ≡ keyword_by (key_of w.now) }
-{
-    let a = w[0];
-    let b = w[1];
-    if a == b'i' && b == b'f' {
-        return IF;
-    }
-    if a == b'o' && b == b'r' {
-        return OR;
-    }
-    if a == b'o' && b == b'n' {
-        return ON;
-    }
-    if a == b'i' && b == b'n' {
-        return IN;
-    }
-    NAME
-}
-
-// `and`, `for`, `end`, `not`.
-fn keyword_of_three(w: &[u8]) -> u8
-    requires { length w.now ≡ 3 }
-    ensures { result ≡ keyword_by (key_of w.now) }
-{
-    let a = w[0];
-    let b = w[1];
-    let c = w[2];
-    if a == b'a' && b == b'n' && c == b'd' {
-        return AND;
-    }
-    if a == b'f' && b == b'o' && c == b'r' {
-        return FOR;
-    }
-    if a == b'e' && b == b'n' && c == b'd' {
-        return END;
-    }
-    if a == b'n' && b == b'o' && c == b't' {
-        return NOT;
-    }
-    NAME
-}
-
-// `else`, `true`, `pays`, `then`.
-fn keyword_of_four(w: &[u8]) -> u8
-    requires { length w.now ≡ 4 }
-    ensures { result ≡ keyword_by (key_of w.now) }
-{
-    let a = w[0];
-    let b = w[1];
-    let c = w[2];
-    let d = w[3];
-    if a == b'e' && b == b'l' && c == b's' && d == b'e' {
-        return ELSE;
-    }
-    if a == b't' && b == b'r' && c == b'u' && d == b'e' {
-        return TRUE;
-    }
-    if a == b'p' && b == b'a' && c == b'y' && d == b's' {
-        return PAYS;
-    }
-    if a == b't' && b == b'h' && c == b'e' && d == b'n' {
-        return THEN;
-    }
-    NAME
-}
-
-// `false`.
-fn keyword_of_five(w: &[u8]) -> u8
-    requires { length w.now ≡ 5 }
-    ensures { result ≡ keyword_by (key_of w.now) }
-{
-    let a = w[0];
-    let b = w[1];
-    let c = w[2];
-    let d = w[3];
-    let e = w[4];
-    if a == b'f' && b == b'a' && c == b'l' && d == b's' && e == b'e' {
-        return FALSE;
-    }
-    NAME
-}
-
-// The code of the keyword that a word is; that of a name where it is none. The length tells first: it leaves four keywords at most,
-// so that no frame holds the tests of all, and a word of another length is a name without a look at its bytes.
+// The code of the keyword that a word is; that of a name where it is none. The length tells first, and then the bytes, so that
+// a word of another length is a name without a look at them.
+#[tactic(auto, using(crate::proofs::WordLaws::spelled_words))]
 pub fn keyword(w: &[u8]) -> u8
     ensures { result ≡ keyword_by (key_of w.now) }
 {
-    match w.len() {
-        2 => keyword_of_two(w),
-        3 => keyword_of_three(w),
-        4 => keyword_of_four(w),
-        5 => keyword_of_five(w),
+    match w {
+        b"if" => IF,
+        b"or" => OR,
+        b"on" => ON,
+        b"in" => IN,
+        b"and" => AND,
+        b"for" => FOR,
+        b"end" => END,
+        b"not" => NOT,
+        b"else" => ELSE,
+        b"true" => TRUE,
+        b"pays" => PAYS,
+        b"then" => THEN,
+        b"false" => FALSE,
         _ => NAME,
     }
 }
 
 // The code of the sign of two bytes that a key packs.
-pub fn pair_sign(key: u32) -> u8
-    ensures { result ≡ pair_by key }
+#[tactic(auto, unfolding(crate::specs::Computing::computing))]
+pub fn pair_sign(key: u32) -> Option<u8>
+    ensures { result ≡ known (pair_by key) }
 {
     match key {
-        0x1_3d_2b => PLUS_ASSIGN,
-        0x1_3d_2d => MINUS_ASSIGN,
-        0x1_3d_2a => MULTIPLY_ASSIGN,
-        0x1_3d_2f => DIVIDE_ASSIGN,
-        0x1_2a_2a => POWER,
-        0x1_3d_3d => EQUAL,
-        0x1_3d_21 => NOT_EQUAL,
-        0x1_3d_3e => SUPERIOR_OR_EQUAL,
-        0x1_3d_3c => INFERIOR_OR_EQUAL,
-        _ => NONE,
+        0x1_3d_2b => Some(PLUS_ASSIGN),
+        0x1_3d_2d => Some(MINUS_ASSIGN),
+        0x1_3d_2a => Some(MULTIPLY_ASSIGN),
+        0x1_3d_2f => Some(DIVIDE_ASSIGN),
+        0x1_2a_2a => Some(POWER),
+        0x1_3d_3d => Some(EQUAL),
+        0x1_3d_21 => Some(NOT_EQUAL),
+        0x1_3d_3e => Some(SUPERIOR_OR_EQUAL),
+        0x1_3d_3c => Some(INFERIOR_OR_EQUAL),
+        _ => None,
     }
 }
 
 // The code of the sign that is one byte.
-pub fn lone_sign(b: u8) -> u8
-    ensures { result ≡ lone_by b }
+#[tactic(auto, unfolding(crate::specs::Computing::computing))]
+pub fn lone_sign(b: u8) -> Option<u8>
+    ensures { result ≡ known (lone_by b) }
 {
     match b {
-        b'+' => PLUS,
-        b'-' => MINUS,
-        b'*' => MULTIPLY,
-        b'/' => DIVIDE,
-        b'>' => SUPERIOR,
-        b'<' => INFERIOR,
-        b'=' => ASSIGN,
-        b'(' => OPEN_PAREN,
-        b')' => CLOSE_PAREN,
-        b'{' => OPEN_CURLY,
-        b'}' => CLOSE_CURLY,
-        b'[' => OPEN_BRACKET,
-        b']' => CLOSE_BRACKET,
-        b',' => COMMA,
-        b'.' => DOT,
-        b';' => SEMICOLON,
-        _ => NONE,
+        b'+' => Some(PLUS),
+        b'-' => Some(MINUS),
+        b'*' => Some(MULTIPLY),
+        b'/' => Some(DIVIDE),
+        b'>' => Some(SUPERIOR),
+        b'<' => Some(INFERIOR),
+        b'=' => Some(ASSIGN),
+        b'(' => Some(OPEN_PAREN),
+        b')' => Some(CLOSE_PAREN),
+        b'{' => Some(OPEN_CURLY),
+        b'}' => Some(CLOSE_CURLY),
+        b'[' => Some(OPEN_BRACKET),
+        b']' => Some(CLOSE_BRACKET),
+        b',' => Some(COMMA),
+        b'.' => Some(DOT),
+        b';' => Some(SEMICOLON),
+        _ => None,
     }
 }

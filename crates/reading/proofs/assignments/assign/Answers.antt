@@ -1,66 +1,51 @@
 -- The variable, the sign, then an expression and its `;`.
-use mathlib.Core.Path.{◌∙◌}
-use mathlib.Core.List.{[]}
+use Prim.Native.Nat.{◌≤◌}
 use native.Mathlib.Omega.{arith}
 use Rattle.grammar.specs.Grammar.{primary}
-use Rattle.reading.specs.Meets.{words_in, language_in}
+use Rattle.reading.specs.Meets.{language_of}
 use Rattle.grammar.proofs.SizeLaws.{primary_size}
-use Rattle.reading.proofs.StepLaws.{done_reads, refused_on, put_fields}
-use Rattle.reading.proofs.CallingLaws.{named_words}
-use Rattle.reading.proofs.AssignLaws.{assign_unnamed, assign_ready, assign_wrong, assign_numbers, assign_reads}
+use Rattle.reading.proofs.StepLaws.{put_fields}
+use Rattle.reading.proofs.AssignLaws.{meets_err, assign_unnamed, assign_ready, assign_wrong, assign_numbers, assign_reads}
+use Rattle.reading.proofs.assignments.assign.Goals.{In_ok-r}
 use Rattle.reading.proofs.assignments.assign.Goals as goal
 
-pub returns-in_default : goal.returns-in_default
-returns-in_default c =
+pub returns-in_err-v : goal.returns-in_err-v
+returns-in_err-v c =
     let args = c.args in
     let pre = c.requires in
-    let words = language_in args.two args.reserved.now args.currencies.now args.counters.now in
-    refused_on _ _ _ _ _ _ _ _ _ _ _ _ c.in_default.is c.variable_at-r.ensures (assign_unnamed (words_in args.reserved.now [] []) words (named_words args.two args.reserved.now args.currencies.now args.counters.now) args.s.now args.c args.d args.n args.out.now pre.0 pre.1 pre.2 (primary words args.depth) _ _)
+    let words = language_of args.language.now in
+    meets_err _ _ _ _ _ _ _ c.from_residual.ensures.1 (assign_unnamed args.language.now _ _ _ _ args.out.now pre.0 pre.1 pre.2 (primary words args.depth) _ _ c.in_err-v.ensures)
 
-pub next-requires : goal.next-requires
-next-requires c = c.requires.1.holds
-
-pub ended-q-requires : goal.ended-q-requires
-ended-q-requires c =
+pub ended-requires : goal.ended-requires
+ended-requires c =
     let args = c.args in
     let pre = c.requires in
-    let words = language_in args.two args.reserved.now args.currencies.now args.counters.now in
-    (assign_ready (words_in args.reserved.now [] []) words (named_words args.two args.reserved.now args.currencies.now args.counters.now) args.s.now args.c args.d args.n args.out.now pre.0 pre.1 pre.2 _ _ _ _ (done_reads _ _ _ _ _ _ _ _ _ c.in-Done.is c.variable_at-r.ensures) (primary words args.depth) (primary_size words args.depth) (λ z. omega (arith, z, pre.4)) c.next.result c.next.ensures, pre.3)
+    let words = language_of args.language.now in
+    (assign_ready args.language.now _ _ _ _ _ pre.0 pre.1 pre.2 _ _ _ _ c.in_ok-v.ensures (primary words args.depth) (primary_size words args.depth) (λ z. omega (arith, z, pre.4)) _ c.next.ensures, pre.3)
 
-pub returns-in_default-q : goal.returns-in_default-q
-returns-in_default-q c =
+pub returns-in_err-r : goal.returns-in_err-r
+returns-in_err-r c =
     let args = c.args in
     let pre = c.requires in
-    let words = language_in args.two args.reserved.now args.currencies.now args.counters.now in
-    refused_on _ _ _ _ _ _ _ _ _ _ _ _ c.in_default-q.is c.ended-q.ensures (assign_wrong (words_in args.reserved.now [] []) words (named_words args.two args.reserved.now args.currencies.now args.counters.now) args.s.now args.c args.d args.n args.out.now pre.0 pre.1 pre.2 _ _ _ _ (done_reads _ _ _ _ _ _ _ _ _ c.in-Done.is c.variable_at-r.ensures) (primary words args.depth) (primary_size words args.depth) (λ z. omega (arith, z, pre.4)) c.next.result c.next.ensures _ _)
+    let words = language_of args.language.now in
+    meets_err _ _ _ _ _ _ _ c.from_residual-in_err-r.ensures.1 (assign_wrong args.language.now _ _ _ _ _ pre.0 pre.1 pre.2 _ _ _ _ c.in_ok-v.ensures (primary words args.depth) (primary_size words args.depth) (λ z. omega (arith, z, pre.4)) _ c.next.ensures _ _ c.in_err-r.ensures)
 
-pub overflow_sub-k : goal.overflow_sub-k
-overflow_sub-k c =
+numbers : (c : In_ok-r) → (c.args.n ≤ c.in_ok-r.r.records) × (c.in_ok-r.r.records ≤ 50000)
+numbers c =
     let args = c.args in
     let pre = c.requires in
-    let words = language_in args.two args.reserved.now args.currencies.now args.counters.now in
-    omega (arith, assign_numbers (words_in args.reserved.now [] []) words (named_words args.two args.reserved.now args.currencies.now args.counters.now) args.s.now args.c args.d args.n args.out.now pre.0 pre.1 pre.2 _ _ _ _ (done_reads _ _ _ _ _ _ _ _ _ c.in-Done.is c.variable_at-r.ensures) (primary words args.depth) (primary_size words args.depth) (λ z. omega (arith, z, pre.4)) c.next.result c.next.ensures _ _ _ _ (done_reads _ _ _ _ _ _ _ _ _ c.in-Done-q.is c.ended-q.ensures))
+    let words = language_of args.language.now in
+    assign_numbers args.language.now _ _ _ _ _ pre.0 pre.1 pre.2 _ _ _ _ c.in_ok-v.ensures (primary words args.depth) (primary_size words args.depth) (λ z. omega (arith, z, pre.4)) _ c.next.ensures _ _ _ _ c.in_ok-r.ensures
 
 pub overflow_add-k : goal.overflow_add-k
-overflow_add-k c =
-    let args = c.args in
-    let pre = c.requires in
-    let words = language_in args.two args.reserved.now args.currencies.now args.counters.now in
-    omega (arith, assign_numbers (words_in args.reserved.now [] []) words (named_words args.two args.reserved.now args.currencies.now args.counters.now) args.s.now args.c args.d args.n args.out.now pre.0 pre.1 pre.2 _ _ _ _ (done_reads _ _ _ _ _ _ _ _ _ c.in-Done.is c.variable_at-r.ensures) (primary words args.depth) (primary_size words args.depth) (λ z. omega (arith, z, pre.4)) c.next.result c.next.ensures _ _ _ _ (done_reads _ _ _ _ _ _ _ _ _ c.in-Done-q.is c.ended-q.ensures))
+overflow_add-k c = omega (arith, numbers (goal.at.overflow_add-k c).In_ok-r)
 
 pub overflow_add-result : goal.overflow_add-result
-overflow_add-result c =
-    let args = c.args in
-    let pre = c.requires in
-    let words = language_in args.two args.reserved.now args.currencies.now args.counters.now in
-    omega (arith, assign_numbers (words_in args.reserved.now [] []) words (named_words args.two args.reserved.now args.currencies.now args.counters.now) args.s.now args.c args.d args.n args.out.now pre.0 pre.1 pre.2 _ _ _ _ (done_reads _ _ _ _ _ _ _ _ _ c.in-Done.is c.variable_at-r.ensures) (primary words args.depth) (primary_size words args.depth) (λ z. omega (arith, z, pre.4)) c.next.result c.next.ensures _ _ _ _ (done_reads _ _ _ _ _ _ _ _ _ c.in-Done-q.is c.ended-q.ensures))
-
-pub shape_of-out : goal.shape_of-out
-shape_of-out c = c.put.auto.out ∙ (c.ended-q.auto.out ∙ c.variable_at-r.auto.out)
+overflow_add-result c = omega (arith, numbers (goal.at.overflow_add-result c).In_ok-r)
 
 pub returns : goal.returns
 returns c =
     let args = c.args in
     let pre = c.requires in
-    let words = language_in args.two args.reserved.now args.currencies.now args.counters.now in
-    assign_reads (words_in args.reserved.now [] []) words (named_words args.two args.reserved.now args.currencies.now args.counters.now) args.s.now args.c args.d args.n args.out.now pre.0 pre.1 pre.2 _ _ _ _ (done_reads _ _ _ _ _ _ _ _ _ c.in-Done.is c.variable_at-r.ensures) (primary words args.depth) (primary_size words args.depth) (λ z. omega (arith, z, pre.4)) c.next.result c.next.ensures _ _ _ _ (done_reads _ _ _ _ _ _ _ _ _ c.in-Done-q.is c.ended-q.ensures) _ (put_fields _ _ _ _ _ _ _ _ _ _ c.plain.ensures c.put.ensures)
+    let words = language_of args.language.now in
+    assign_reads args.language.now _ _ _ _ _ pre.0 pre.1 pre.2 _ _ _ _ c.in_ok-v.ensures (primary words args.depth) (primary_size words args.depth) (λ z. omega (arith, z, pre.4)) _ c.next.ensures _ _ _ _ c.in_ok-r.ensures _ (put_fields _ _ _ _ _ _ _ _ _ _ c.plain.ensures c.put.ensures)

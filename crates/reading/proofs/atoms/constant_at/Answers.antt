@@ -13,10 +13,10 @@ slice_bounds-bits_of-start c = omega (arith, start_in c.requires.0.0, end_in c.r
 pub slice_bounds-bits_of-end : goal.slice_bounds-bits_of-end
 slice_bounds-bits_of-end c = omega (arith, start_in c.requires.0.0, end_in c.requires.0.0)
 
-pub overflow_sub-c : goal.overflow_sub-c
-overflow_sub-c c = omega (arith, start_in c.requires.0.0)
+pub overflow_sub-size : goal.overflow_sub-size
+overflow_sub-size c = omega (arith, start_in c.requires.0.0)
 
 pub returns : goal.returns
 returns c =
     let pre = c.requires in
-    constant_reads pre.0.0 pre.1 c.args.place c.args.minus pre.2 _ c.bits_of-bits.ensures c.put.ensures
+    constant_reads pre.0.0 pre.1 c.args.place c.args.minus pre.2 _ c.bits_of-bits.ensures (rw c.leaf-node.ensures at c.put.ensures)

@@ -9,4 +9,4 @@ pub returns-then-c-close : goal.returns-then-c-close
 returns-then-c-close c = (c.requires.0, λ es. end_close c.requires.0 _ es c.if-c-eq-COMMA.false c.if-c-close.true)
 
 pub returns : goal.returns
-returns c = λ es. end_not c.requires.0 _ es c.if-c-eq-COMMA.false c.if-c-close.false
+returns c = λ es. rw c.at.ensures (end_not c.requires.0 _ es c.if-c-eq-COMMA.false c.if-c-close.false)

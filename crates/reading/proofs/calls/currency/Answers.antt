@@ -1,31 +1,36 @@
 -- A string token is a currency where its content is one.
 use native.Mathlib.Omega.{arith}
 use mathlib.Core.List.{[]}
+use Rattle.std.proofs.lemmas.Result.{err_from_is_err_and}
 use Rattle.reading.specs.Meets.{words_in}
-use Rattle.reading.proofs.HoldLaws.{takes_as}
-use Rattle.reading.proofs.CallLaws.{took_wide, took_holds, currency_not, currency_bad, currency_is, place_fits}
+use Rattle.reading.proofs.CallLaws.{took_wide, currency_not, currency_bad, currency_is, place_fits}
 use Rattle.reading.proofs.calls.currency.Goals as goal
 
+pub returns-in_err-at : goal.returns-in_err-at
+returns-in_err-at c =
+    let p = err_from_is_err_and c.from_residual.result c.from_residual.ensures.1 in
+    rw (p.1, p.2) (currency_not (words_in [] c.args.currencies.now []) _ c.in_err-at.ensures)
+
 pub overflow_sub-e : goal.overflow_sub-e
-overflow_sub-e c = omega (arith, took_wide c.requires.0 c.in-Next.is c.take.ensures)
+overflow_sub-e c = omega (arith, took_wide c.requires.0 c.in_ok-at.ensures)
 
 pub slice_bounds-place_in-count : goal.slice_bounds-place_in-count
-slice_bounds-place_in-count c = omega (arith, took_wide c.requires.0 c.in-Next.is c.take.ensures)
+slice_bounds-place_in-count c = omega (arith, took_wide c.requires.0 c.in_ok-at.ensures)
 
 pub slice_bounds-place_in-start : goal.slice_bounds-place_in-start
-slice_bounds-place_in-start c = omega (arith, took_wide c.requires.0 c.in-Next.is c.take.ensures)
+slice_bounds-place_in-start c = omega (arith, took_wide c.requires.0 c.in_ok-at.ensures)
 
 pub slice_bounds-place_in-end : goal.slice_bounds-place_in-end
-slice_bounds-place_in-end c = omega (arith, took_wide c.requires.0 c.in-Next.is c.take.ensures)
+slice_bounds-place_in-end c = omega (arith, took_wide c.requires.0 c.in_ok-at.ensures)
 
-pub returns-then-place-eq0 : goal.returns-then-place-eq0
-returns-then-place-eq0 c = currency_bad c.requires.0 c.in-Next.is c.take.ensures (words_in [] c.args.currencies.now []) _ c.place_in-place.ensures c.if-place-eq0.true
+pub returns-in_default : goal.returns-in_default
+returns-in_default c = rw c.at.ensures (currency_bad c.requires.0 c.in_ok-at.ensures (words_in [] c.args.currencies.now []) c.place_in.ensures c.in_default.is)
 
 pub overflow_cast-result : goal.overflow_cast-result
-overflow_cast-result c = omega (arith, place_fits c.args.currencies.now c.requires.1 _ _ c.place_in-place.ensures)
+overflow_cast-result c = omega (arith, place_fits c.args.currencies.now c.requires.1 _ c.place_in.ensures c.in-Some.is)
 
-pub returns-in-Not : goal.returns-in-Not
-returns-in-Not c = currency_not c.args.s.now c.args.c (words_in [] c.args.currencies.now []) (takes_as c.args.s.now 5 c.args.c c.in-Not.is c.take.ensures)
+pub overflow_add-result : goal.overflow_add-result
+overflow_add-result c = omega (arith, place_fits c.args.currencies.now c.requires.1 _ c.place_in.ensures c.in-Some.is)
 
-pub returns-else-place-eq0 : goal.returns-else-place-eq0
-returns-else-place-eq0 c = (took_holds c.requires.0 c.in-Next.is c.take.ensures, currency_is c.requires.0 c.in-Next.is c.take.ensures (words_in [] c.args.currencies.now []) _ c.place_in-place.ensures c.if-place-eq0.false)
+pub returns : goal.returns
+returns c = (c.in_ok-at.ensures.0.holds, currency_is c.requires.0 c.in_ok-at.ensures (words_in [] c.args.currencies.now []) c.place_in.ensures c.in-Some.is)

@@ -18,4 +18,4 @@ pub slice_bounds-date_of-end : goal.slice_bounds-date_of-end
 slice_bounds-date_of-end c = omega (arith, string_wide c.requires.0 c.requires.1, end_in c.requires.0)
 
 pub returns : goal.returns
-returns c = date_in c.requires.0 c.requires.1 _ c.date_of.ensures
+returns c = date_in c.requires.0 c.requires.1 c.date_of.ensures

@@ -1,48 +1,50 @@
 -- Each call has its counts.
-use borrow.Author.Tests.{ne_eqb, le-leb, lt-leb}
+use mathlib.Core.Logic.{⊎_elim}
+use borrow.Author.Tests.{le-leb, lt-leb}
 use Rattle.reading.specs.Calls.{right_count}
+use Rattle.reading.specs.declared.records.Kind.TheVariants as kind
+use Rattle.reading.proofs.KindLaws.{kind_other}
 use Rattle.reading.proofs.calls.is_right_count.Goals as goal
 
-pub returns-in-21 : goal.returns-in-21
+pub returns-in-Ln : goal.returns-in-Ln
 unfolding right_count
-returns-in-21 c = rw c.in-21.is
+returns-in-Ln c = ⊎_elim (λ e. rw e) (λ e. rw e) c.in-Ln.is
 
-pub returns-in-22 : goal.returns-in-22
+pub returns-in-Pow : goal.returns-in-Pow
 unfolding right_count
-returns-in-22 c = rw c.in-22.is
-
-pub returns-in-12 : goal.returns-in-12
-unfolding right_count
-returns-in-12 c = rw c.in-12.is
-
-pub returns-in-27 : goal.returns-in-27
-unfolding right_count
-returns-in-27 c = rw c.in-27.is
+returns-in-Pow c = ⊎_elim (λ e. rw e) (λ e. rw e) c.in-Pow.is
 
 pub returns-then-count-ge2 : goal.returns-then-count-ge2
 unfolding right_count
-returns-then-count-ge2 c = rw c.in-23.is (simp (le-leb _ _ c.if-count-ge2.true))
+returns-then-count-ge2 c =
+    let t = le-leb _ _ c.if-count-ge2.true in
+    ⊎_elim (λ e. rw e (simp t)) (λ e. rw e (simp t)) c.in-Min.is
 
 pub returns-else-count-ge2 : goal.returns-else-count-ge2
 unfolding right_count
-returns-else-count-ge2 c = rw c.in-23.is (simp (lt-leb _ _ c.if-count-ge2.false))
+returns-else-count-ge2 c =
+    let t = lt-leb _ _ c.if-count-ge2.false in
+    ⊎_elim (λ e. rw e (simp t)) (λ e. rw e (simp t)) c.in-Min.is
 
-pub returns-then-count-ge2-2 : goal.returns-then-count-ge2-2
+pub returns-in-Cvg : goal.returns-in-Cvg
 unfolding right_count
-returns-then-count-ge2-2 c = rw c.in-24.is (simp (le-leb _ _ c.if-count-ge2-2.true))
+returns-in-Cvg c = rw c.in-Cvg.is
 
-pub returns-else-count-ge2-2 : goal.returns-else-count-ge2-2
+pub returns-in-Fif : goal.returns-in-Fif
 unfolding right_count
-returns-else-count-ge2-2 c = rw c.in-24.is (simp (lt-leb _ _ c.if-count-ge2-2.false))
-
-pub returns-in-25 : goal.returns-in-25
-unfolding right_count
-returns-in-25 c = rw c.in-25.is
-
-pub returns-in-26 : goal.returns-in-26
-unfolding right_count
-returns-in-26 c = rw c.in-26.is
+returns-in-Fif c = rw c.in-Fif.is
 
 pub returns-in_default : goal.returns-in_default
 unfolding right_count
-returns-in_default c = simp (ne_eqb _ _ c.in_default.in_default-own.rest.0.0.0.0.0.0.0.1, ne_eqb _ _ c.in_default.in_default-own.rest.0.0.0.0.0.0.1, ne_eqb _ _ c.in_default.in_default-own.rest.0.0.0.0.0.1, ne_eqb _ _ c.in_default.in_default-own.rest.0.0.0.0.1, ne_eqb _ _ c.in_default.in_default-own.rest.0.0.0.1, ne_eqb _ _ c.in_default.in_default-own.rest.0.0.1, ne_eqb _ _ c.in_default.in_default-own.rest.0.1, ne_eqb _ _ c.in_default.in_default-own.rest.1)
+returns-in_default c =
+    let k = c.args.kind in
+    simp (
+      kind_other k kind.Ln c.in_default.not-Ln,
+      kind_other k kind.Exp c.in_default.not-Exp,
+      kind_other k kind.Pow c.in_default.not-Pow,
+      kind_other k kind.Range c.in_default.not-Range,
+      kind_other k kind.Min c.in_default.not-Min,
+      kind_other k kind.Max c.in_default.not-Max,
+      kind_other k kind.Cvg c.in_default.not-Cvg,
+      kind_other k kind.Fif c.in_default.not-Fif,
+    )

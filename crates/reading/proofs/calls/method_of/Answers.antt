@@ -6,26 +6,44 @@ use Rattle.tokens.specs.Keys.{pack}
 use Rattle.reading.proofs.CallLaws.{method_is}
 use Rattle.reading.proofs.calls.method_of.Goals as goal
 
-pub returns-then-key-eq391900287758433 : goal.returns-then-key-eq391900287758433
+pub returns-in-391900287758433-eq1 : goal.returns-in-391900287758433-eq1
 unfolding pack bytes
-returns-then-key-eq391900287758433 c = rw (method_is c.args.w.now (λ i. (c.shared_slice_known-1.given i).fits) c.args.count _ c.key_of-key.ensures, c.if-count-eq1.true, c.if-key-eq391900287758433.true)
+returns-in-391900287758433-eq1 c =
+    let m = method_is c.args.w.now (λ i. (c.shared_slice_known-1.given i).fits) c.args.count _ c.key_of.ensures in
+    rw (m, c.in-391900287758433-eq1.is-0, c.in-391900287758433-eq1.is-1)
 
-pub returns-then-count-eq1 : goal.returns-then-count-eq1
+pub returns-in-6146844013-eq0 : goal.returns-in-6146844013-eq0
 unfolding pack bytes
-returns-then-count-eq1 c = rw (method_is c.args.w.now (λ i. (c.shared_slice_known-1.given i).fits) c.args.count _ c.key_of-key.ensures, c.if-count-eq1.true) (simp (ne_eqb _ _ c.if-key-eq391900287758433.false, and-false))
+returns-in-6146844013-eq0 c =
+    let m = method_is c.args.w.now (λ i. (c.shared_slice_known-1.given i).fits) c.args.count _ c.key_of.ensures in
+    rw (m, c.in-6146844013-eq0.is-0, c.in-6146844013-eq0.is-1)
 
-pub returns-then-count-ne0 : goal.returns-then-count-ne0
+pub returns-in-23360627-eq0 : goal.returns-in-23360627-eq0
 unfolding pack bytes
-returns-then-count-ne0 c = rw (method_is c.args.w.now (λ i. (c.shared_slice_known-1.given i).fits) c.args.count _ c.key_of-key.ensures) (simp (ne_eqb _ _ c.if-count-eq1.false, ne_eqb _ _ c.if-count-ne0.true, and-false))
-
-pub returns-in-6146844013 : goal.returns-in-6146844013
-unfolding pack bytes
-returns-in-6146844013 c = rw (method_is c.args.w.now (λ i. (c.shared_slice_known-1.given i).fits) c.args.count _ c.key_of-key.ensures, c.if-count-ne0.false, c.in-6146844013.is)
-
-pub returns-in-23360627 : goal.returns-in-23360627
-unfolding pack bytes
-returns-in-23360627 c = rw (method_is c.args.w.now (λ i. (c.shared_slice_known-1.given i).fits) c.args.count _ c.key_of-key.ensures, c.if-count-ne0.false, c.in-23360627.is)
+returns-in-23360627-eq0 c =
+    let m = method_is c.args.w.now (λ i. (c.shared_slice_known-1.given i).fits) c.args.count _ c.key_of.ensures in
+    rw (m, c.in-23360627-eq0.is-0, c.in-23360627-eq0.is-1)
 
 pub returns-in_default : goal.returns-in_default
 unfolding pack bytes
-returns-in_default c = rw (method_is c.args.w.now (λ i. (c.shared_slice_known-1.given i).fits) c.args.count _ c.key_of-key.ensures, c.if-count-ne0.false) (simp (ne_eqb _ _ c.in_default.in_default-own.rest.0.1, ne_eqb _ _ c.in_default.in_default-own.rest.1, and-false))
+returns-in_default c =
+    let m = method_is c.args.w.now (λ i. (c.shared_slice_known-1.given i).fits) c.args.count _ c.key_of.ensures in
+    rw (m, c.in_default.is-0) (simp (ne_eqb _ _ c.in_default.is-1.1))
+
+pub returns-in_default-2 : goal.returns-in_default-2
+unfolding pack bytes
+returns-in_default-2 c =
+    let m = method_is c.args.w.now (λ i. (c.shared_slice_known-1.given i).fits) c.args.count _ c.key_of.ensures in
+    rw (m, c.in_default.is-0) (simp (ne_eqb _ _ c.in_default.is-1.1))
+
+pub returns-in_default-3 : goal.returns-in_default-3
+unfolding pack bytes
+returns-in_default-3 c =
+    let m = method_is c.args.w.now (λ i. (c.shared_slice_known-1.given i).fits) c.args.count _ c.key_of.ensures in
+    rw (m, c.in_default.is-0) (simp (ne_eqb _ _ c.in_default.is-1.1))
+
+pub returns-in_default-4 : goal.returns-in_default-4
+unfolding pack bytes
+returns-in_default-4 c =
+    let m = method_is c.args.w.now (λ i. (c.shared_slice_known-1.given i).fits) c.args.count _ c.key_of.ensures in
+    rw m (simp (ne_eqb _ _ c.in_default.is-0.0.0.1, ne_eqb _ _ c.in_default.is-0.0.1, ne_eqb _ _ c.in_default.is-0.1))

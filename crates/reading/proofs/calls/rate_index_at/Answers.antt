@@ -1,46 +1,27 @@
 -- RateIndex: three strings behind their signs, and the closing sign.
-use Rattle.reading.proofs.HoldLaws.{takes_as}
-use Rattle.reading.proofs.CallLaws.{leads_as, leaf_as, index_name, index_from, index_to, index_close, index_is}
+use Rattle.std.proofs.lemmas.Result.{err_from_is_err_and}
+use Rattle.reading.proofs.CallLaws.{leaf_as, index_name, index_from, index_to, index_close, index_is}
 use Rattle.reading.proofs.calls.rate_index_at.Goals as goal
 
-pub next-requires : goal.next-requires
-next-requires c = (leads_as c.args.s.now 40 c.args.c c.in-Next.is c.string_behind.ensures).0
+pub returns-in_err-name : goal.returns-in_err-name
+returns-in_err-name c =
+    let p = err_from_is_err_and c.from_residual.result c.from_residual.ensures.1 in
+    rw (p.1, p.2) (index_name c.args.s.now c.args.place c.args.c _ c.in_err-name.ensures)
 
-pub next-requires-in-Next-string_behind : goal.next-requires-in-Next-string_behind
-next-requires-in-Next-string_behind c = (leads_as c.args.s.now 46 c.next.result c.in-Next-string_behind.is c.string_behind-in-Next.ensures).0
+pub returns-in_err-from : goal.returns-in_err-from
+returns-in_err-from c =
+    let p = err_from_is_err_and c.from_residual-in_err-from.result c.from_residual-in_err-from.ensures.1 in
+    rw (p.1, p.2) (index_from c.args.s.now c.args.place c.args.c c.in_ok-name.ensures c.next.ensures _ c.in_err-from.ensures)
 
-pub next-requires-in-Next-string_behind-2 : goal.next-requires-in-Next-string_behind-2
-next-requires-in-Next-string_behind-2 c = (leads_as c.args.s.now 46 c.next-in-Next-string_behind.result c.in-Next-string_behind-2.is c.string_behind-in-Next-string_behind.ensures).0
+pub returns-in_err-to : goal.returns-in_err-to
+returns-in_err-to c =
+    let p = err_from_is_err_and c.from_residual-in_err-to.result c.from_residual-in_err-to.ensures.1 in
+    rw (p.1, p.2) (index_to c.args.s.now c.args.place c.args.c c.in_ok-name.ensures c.next.ensures c.in_ok-from.ensures c.next-2.ensures _ c.in_err-to.ensures)
 
-pub rate-requires : goal.rate-requires
-rate-requires c =
-    let args = c.args in
-    let a = leads_as args.s.now 40 args.c c.in-Next.is c.string_behind.ensures in
-    let b = leads_as args.s.now 46 c.next.result c.in-Next-string_behind.is c.string_behind-in-Next.ensures in
-    let d = leads_as args.s.now 46 c.next-in-Next-string_behind.result c.in-Next-string_behind-2.is c.string_behind-in-Next-string_behind.ensures in
-    (a.0, b.0, d.0, (takes_as args.s.now 41 c.next-in-Next-string_behind-2.result c.in-Next-take.is c.take.ensures).0.holds, a.1, b.1, d.1)
+pub returns-in_err-d : goal.returns-in_err-d
+returns-in_err-d c =
+    let p = err_from_is_err_and c.from_residual-in_err-d.result c.from_residual-in_err-d.ensures.1 in
+    rw (p.1, p.2) (index_close c.args.s.now c.args.place c.args.c c.in_ok-name.ensures c.next.ensures c.in_ok-from.ensures c.next-2.ensures c.in_ok-to.ensures c.next-3.ensures c.in_err-d.ensures)
 
-pub returns-in-Not : goal.returns-in-Not
-returns-in-Not c =
-    let args = c.args in
-    index_name args.s.now args.place args.c c.in-Not.is c.string_behind.ensures
-
-pub returns-in-Not-string_behind : goal.returns-in-Not-string_behind
-returns-in-Not-string_behind c =
-    let args = c.args in
-    index_from args.s.now args.place args.c c.in-Next.is c.string_behind.ensures c.next.ensures c.in-Not-string_behind.is c.string_behind-in-Next.ensures
-
-pub returns-in-Not-string_behind-2 : goal.returns-in-Not-string_behind-2
-returns-in-Not-string_behind-2 c =
-    let args = c.args in
-    index_to args.s.now args.place args.c c.in-Next.is c.string_behind.ensures c.next.ensures c.in-Next-string_behind.is c.string_behind-in-Next.ensures c.next-in-Next-string_behind.ensures c.in-Not-string_behind-2.is c.string_behind-in-Next-string_behind.ensures
-
-pub returns-in-Not-take : goal.returns-in-Not-take
-returns-in-Not-take c =
-    let args = c.args in
-    index_close args.s.now args.place args.c c.in-Next.is c.string_behind.ensures c.next.ensures c.in-Next-string_behind.is c.string_behind-in-Next.ensures c.next-in-Next-string_behind.ensures c.in-Next-string_behind-2.is c.string_behind-in-Next-string_behind.ensures c.next-in-Next-string_behind-2.ensures c.in-Not-take.is c.take.ensures
-
-pub returns-in-Next-take : goal.returns-in-Next-take
-returns-in-Next-take c =
-    let args = c.args in
-    leaf_as args.s.now c.rate.result (index_is args.s.now args.place args.c c.in-Next.is c.string_behind.ensures c.next.ensures c.in-Next-string_behind.is c.string_behind-in-Next.ensures c.next-in-Next-string_behind.ensures c.in-Next-string_behind-2.is c.string_behind-in-Next-string_behind.ensures c.next-in-Next-string_behind-2.ensures c.in-Next-take.is c.take.ensures) c.rate.ensures
+pub returns : goal.returns
+returns c = leaf_as c.args.s.now c.rate.result (index_is c.args.s.now c.args.place c.args.c c.in_ok-name.ensures c.next.ensures c.in_ok-from.ensures c.next-2.ensures c.in_ok-to.ensures c.next-3.ensures c.in_ok-d.ensures) c.rate.ensures

@@ -1,36 +1,27 @@
 -- Spot: its sign, its first string, what stands behind that, and the closing sign.
-use native.Mathlib.Omega.{arith}
+use mathlib.Core.Path.{ap, ◌∙◌}
 use mathlib.Core.List.{[]}
+use Rattle.std.proofs.lemmas.Result.{err_from_is_err_and}
 use Rattle.reading.specs.Meets.{words_in}
-use Rattle.reading.proofs.HoldLaws.{takes_as}
-use Rattle.reading.proofs.CallLaws.{leaf_as, leaf_holds, spot_no, spot_inner, spot_not, spot_is}
+use Rattle.grammar.specs.Readers.{bind}
+use Rattle.reading.specs.Calls.{ending}
+use Rattle.reading.proofs.CallLaws.{leaf_as, spot_no, spot_not, spot_is}
 use Rattle.reading.proofs.calls.spot_at.Goals as goal
 
-pub take-requires-in-Next : goal.take-requires-in-Next
-take-requires-in-Next c =
-    let args = c.args in
-    (spot_inner args.s.now (words_in [] args.currencies.now []) args.place args.c c.in-Next.is c.take.ensures, λ z. omega arith)
+pub returns-in_err-name : goal.returns-in_err-name
+returns-in_err-name c =
+    let p = err_from_is_err_and c.from_residual.result c.from_residual.ensures.1 in
+    rw (p.1, p.2) (spot_no c.args.s.now (words_in [] c.args.currencies.now []) c.args.place c.args.c c.in_err-name.ensures)
 
-pub spot_of-requires : goal.spot_of-requires
-spot_of-requires c =
-    let args = c.args in
-    let w = takes_as args.s.now 5 _ c.in-Next-take.is c.take-in-Next.ensures in
-    (spot_inner args.s.now (words_in [] args.currencies.now []) args.place args.c c.in-Next.is c.take.ensures, w.0, w.1, c.requires.1)
+pub returns-in_err-d : goal.returns-in_err-d
+returns-in_err-d c =
+    let p = err_from_is_err_and c.from_residual-in_err-d.result c.from_residual-in_err-d.ensures.1 in
+    rw (p.1, p.2) (spot_not c.args.s.now (words_in [] c.args.currencies.now []) c.args.place c.args.c c.in_ok-name.ensures c.in_err-d.ensures)
 
-pub closed-requires : goal.closed-requires
-closed-requires c = leaf_holds c.args.s.now _ c.spot_of.result c.spot_of.ensures
+pub returns-in_err-spot_of : goal.returns-in_err-spot_of
+returns-in_err-spot_of c =
+    let p = err_from_is_err_and c.from_residual-in_err-spot_of.result c.from_residual-in_err-spot_of.ensures.1 in
+    rw (p.1, p.2) (spot_is c.args.s.now (words_in [] c.args.currencies.now []) c.args.place c.args.c c.in_ok-name.ensures c.in_ok-d.ensures ∙ ap (bind ending) c.in_err-spot_of.ensures)
 
-pub returns-in-Not : goal.returns-in-Not
-returns-in-Not c =
-    let args = c.args in
-    spot_no args.s.now (words_in [] args.currencies.now []) args.place args.c c.in-Not.is c.take.ensures
-
-pub returns-in-Not-take : goal.returns-in-Not-take
-returns-in-Not-take c =
-    let args = c.args in
-    spot_not args.s.now (words_in [] args.currencies.now []) args.place args.c c.in-Next.is c.take.ensures c.in-Not-take.is c.take-in-Next.ensures
-
-pub returns-in-Next-take : goal.returns-in-Next-take
-returns-in-Next-take c =
-    let args = c.args in
-    leaf_as args.s.now c.closed.result (spot_is args.s.now (words_in [] args.currencies.now []) args.place args.c c.in-Next.is c.take.ensures c.in-Next-take.is c.take-in-Next.ensures) (c.closed.ensures _ c.spot_of.ensures)
+pub returns : goal.returns
+returns c = leaf_as c.args.s.now c.closed.result (spot_is c.args.s.now (words_in [] c.args.currencies.now []) c.args.place c.args.c c.in_ok-name.ensures c.in_ok-d.ensures) (c.closed.ensures _ c.in_ok-spot_of.ensures)

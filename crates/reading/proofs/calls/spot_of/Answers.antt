@@ -8,34 +8,25 @@ use Rattle.reading.proofs.CallLaws.{place_fits, leaf_as, spot_equity, spot_pair}
 use Rattle.reading.proofs.calls.spot_of.Goals as goal
 
 pub overflow_sub-e : goal.overflow_sub-e
-overflow_sub-e c =
-    let pre = c.requires in
-    omega (arith, string_wide pre.0 pre.2, end_in pre.0)
+overflow_sub-e c = omega (arith, string_wide c.requires.0 c.requires.2, end_in c.requires.0)
 
 pub slice_bounds-place_in-count : goal.slice_bounds-place_in-count
-slice_bounds-place_in-count c =
-    let pre = c.requires in
-    omega (arith, string_wide pre.0 pre.2, end_in pre.0)
+slice_bounds-place_in-count c = omega (arith, string_wide c.requires.0 c.requires.2, end_in c.requires.0)
 
 pub slice_bounds-place_in-start : goal.slice_bounds-place_in-start
-slice_bounds-place_in-start c =
-    let pre = c.requires in
-    omega (arith, string_wide pre.0 pre.2, end_in pre.0)
+slice_bounds-place_in-start c = omega (arith, string_wide c.requires.0 c.requires.2, end_in c.requires.0)
 
 pub slice_bounds-place_in-end : goal.slice_bounds-place_in-end
-slice_bounds-place_in-end c =
-    let pre = c.requires in
-    omega (arith, string_wide pre.0 pre.2, end_in pre.0)
-
-pub returns-then-number-eq0 : goal.returns-then-number-eq0
-returns-then-number-eq0 c =
-    let args = c.args in
-    leaf_as args.s.now c.equity_at.result (spot_equity c.requires.0 c.requires.2 (words_in [] args.currencies.now []) args.place _ c.place_in-number.ensures _ (words_in [] [] []) c.if-number-eq0.true) c.equity_at.ensures
+slice_bounds-place_in-end c = omega (arith, string_wide c.requires.0 c.requires.2, end_in c.requires.0)
 
 pub overflow_cast-number : goal.overflow_cast-number
-overflow_cast-number c = omega (arith, place_fits c.args.currencies.now c.requires.3 _ _ c.place_in-number.ensures)
+overflow_cast-number c = omega (arith, place_fits c.args.currencies.now c.requires.3 _ c.place_in.ensures c.in-Some.is)
 
-pub returns : goal.returns
-returns c =
-    let args = c.args in
-    leaf_as args.s.now c.pair_at.result (spot_pair c.requires.0 c.requires.2 (words_in [] args.currencies.now []) args.place _ c.place_in-number.ensures _ c.if-number-eq0.false) c.pair_at.ensures
+pub overflow_add-number : goal.overflow_add-number
+overflow_add-number c = omega (arith, place_fits c.args.currencies.now c.requires.3 _ c.place_in.ensures c.in-Some.is)
+
+pub returns-in-None : goal.returns-in-None
+returns-in-None c = leaf_as c.args.s.now c.equity_at.result (spot_equity c.requires.0 c.requires.2 (words_in [] c.args.currencies.now []) c.args.place c.place_in.ensures _ (words_in [] [] []) c.in-None.is) c.equity_at.ensures
+
+pub returns-in-Some : goal.returns-in-Some
+returns-in-Some c = leaf_as c.args.s.now c.pair_at.result (spot_pair c.requires.0 c.requires.2 (words_in [] c.args.currencies.now []) c.args.place c.place_in.ensures _ c.in-Some.is) c.pair_at.ensures

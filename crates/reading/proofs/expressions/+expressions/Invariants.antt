@@ -1,7 +1,7 @@
 -- The readers of expressions, which call one another: each meets the reader of its level.
 use Prim.Native.Nat.{ℕ, ◌<◌, ◌+◌, ◌*◌, ◌-◌}
 use lib.ListN.{length}
-use Rattle.reading.specs.Meets.{toks_at, language_in, Ready}
+use Rattle.reading.specs.Meets.{toks_at, language_of, Ready}
 use mathlib.Core.List.{List}
 use mathlib.Core.Path.{◌≡◌}
 use Rattle.grammar.specs.Trees.{Tree}
@@ -74,50 +74,50 @@ decreases-signed l = 32 * l.depth + 13
 abbrev pub decreases-sum : goal.decreases-sum
 decreases-sum l = 32 * l.depth + 8
 
-abbrev pub invariant-comparison-loop-c1 : goal.invariant-comparison-loop-c1
-invariant-comparison-loop-c1 l = (length l.out ≡ length l.initial.out) × Compares l.alone (sum_or l.alone (language_in l.two l.reserved l.currencies l.counters) l.depth) l.s l.initial.at l.n l.initial.out l.sign l.at l.m l.out
+abbrev pub invariant-comparison-loop-r : goal.invariant-comparison-loop-r
+invariant-comparison-loop-r l = (length l.out ≡ length l.initial.out) × Compares l.alone (sum_or l.alone (language_of l.language) l.depth) l.s l.initial.at l.n l.initial.out l.sign l.at l.m l.out
 
-abbrev pub decreases-comparison-loop-c1 : goal.decreases-comparison-loop-c1
-decreases-comparison-loop-c1 l = 1 - l.sign
+abbrev pub decreases-comparison-loop-r : goal.decreases-comparison-loop-r
+decreases-comparison-loop-r l = 1 - l.sign
 
-abbrev pub invariant-expression-loop-c1 : goal.invariant-expression-loop-c1
-invariant-expression-loop-c1 l = (length l.out ≡ length l.initial.out) × Nests (looser l.two l.alone) (tighter l.two l.alone) (looser_sign l.two l.alone) (tighter_sign l.two l.alone) (comparison_or l.alone (language_in l.two l.reserved l.currencies l.counters) l.depth) l.s l.initial.at.start (expression_or l.alone (language_in l.two l.reserved l.currencies l.counters) l.depth (toks_at l.s l.initial.at.start)) l.n l.initial.out l.sign l.tight l.from l.place l.at l.m l.out
+abbrev pub invariant-expression-loop-r : goal.invariant-expression-loop-r
+invariant-expression-loop-r l = (length l.out ≡ length l.initial.out) × Nests (looser l.language.two l.alone) (tighter l.language.two l.alone) (looser_sign l.language.two l.alone) (tighter_sign l.language.two l.alone) (comparison_or l.alone (language_of l.language) l.depth) l.s l.initial.at.start (expression_or l.alone (language_of l.language) l.depth (toks_at l.s l.initial.at.start)) l.n l.initial.out l.sign l.tight l.from l.place l.at l.m l.out
 
-abbrev pub decreases-expression-loop-c1 : goal.decreases-expression-loop-c1
-decreases-expression-loop-c1 l = length (toks_at l.s l.at.start)
+abbrev pub decreases-expression-loop-r : goal.decreases-expression-loop-r
+decreases-expression-loop-r l = length (toks_at l.s l.at.start)
 
 abbrev pub invariant-items-loop-at : goal.invariant-items-loop-at
-invariant-items-loop-at l = (length l.out ≡ length l.initial.out) × ItemChain (language_in l.two l.reserved l.currencies l.counters) l.close (G.primary (language_in l.two l.reserved l.currencies l.counters) l.depth) l.s (items_by (language_in l.two l.reserved l.currencies l.counters) l.close (G.primary (language_in l.two l.reserved l.currencies l.counters) l.depth) (toks_at l.s l.initial.at.start)) l.n l.initial.out l.at l.m l.count l.texts l.out
+invariant-items-loop-at l = (length l.out ≡ length l.initial.out) × ItemChain (language_of l.language) l.close (G.primary (language_of l.language) l.depth) l.s (items_by (language_of l.language) l.close (G.primary (language_of l.language) l.depth) (toks_at l.s l.initial.at.start)) l.n l.initial.out l.at l.m l.count l.texts l.out
 
 abbrev pub decreases-items-loop-at : goal.decreases-items-loop-at
 decreases-items-loop-at l = length (toks_at l.s l.at.start)
 
 abbrev pub invariant-pays-loop-out : goal.invariant-pays-loop-out
-invariant-pays-loop-out l = (length l.out ≡ length l.initial.out) × PayChain (language_in l.two l.reserved l.currencies l.counters) (G.primary (language_in l.two l.reserved l.currencies l.counters) (l.depth - 1)) l.s (G.payments (language_in l.two l.reserved l.currencies l.counters) (G.primary (language_in l.two l.reserved l.currencies l.counters) (l.depth - 1)) (toks_at l.s l.initial.at.start)) l.n l.initial.out l.at l.m l.count l.out
+invariant-pays-loop-out l = (length l.out ≡ length l.initial.out) × PayChain (language_of l.language) (G.primary (language_of l.language) (l.depth - 1)) l.s (G.payments (language_of l.language) (G.primary (language_of l.language) (l.depth - 1)) (toks_at l.s l.initial.at.start)) l.n l.initial.out l.at l.m l.count l.out
 
 abbrev pub decreases-pays-loop-out : goal.decreases-pays-loop-out
 decreases-pays-loop-out l = length (toks_at l.s l.at.start)
 
-abbrev pub invariant-postfixes-loop-at : goal.invariant-postfixes-loop-at
-invariant-postfixes-loop-at l = (length l.out ≡ length l.initial.out) × Ready l.s l.at l.k × (l.n < l.k) × ((R : Out Tree) (o : List ℕ) → PostChain (language_in l.two l.reserved l.currencies l.counters) (inner (language_in l.two l.reserved l.currencies l.counters) l.depth) l.place l.s R l.n o l.initial.at l.initial.k l.initial.out → PostChain (language_in l.two l.reserved l.currencies l.counters) (inner (language_in l.two l.reserved l.currencies l.counters) l.depth) l.place l.s R l.n o l.at l.k l.out)
+abbrev pub invariant-postfixes-loop-out : goal.invariant-postfixes-loop-out
+invariant-postfixes-loop-out l = (length l.out ≡ length l.initial.out) × Ready l.s l.at l.k × (l.n < l.k) × ((R : Out Tree) (o : List ℕ) → PostChain (language_of l.language) (inner (language_of l.language) l.depth) l.place l.s R l.n o l.initial.at l.initial.k l.initial.out → PostChain (language_of l.language) (inner (language_of l.language) l.depth) l.place l.s R l.n o l.at l.k l.out)
 
-abbrev pub decreases-postfixes-loop-at : goal.decreases-postfixes-loop-at
-decreases-postfixes-loop-at l = length (toks_at l.s l.at.start)
+abbrev pub decreases-postfixes-loop-out : goal.decreases-postfixes-loop-out
+decreases-postfixes-loop-out l = length (toks_at l.s l.at.start)
 
-abbrev pub invariant-power-loop-c1 : goal.invariant-power-loop-c1
-invariant-power-loop-c1 l = (length l.out ≡ length l.initial.out) × Powers l.two (G.primary (language_in l.two l.reserved l.currencies l.counters) l.depth) l.s l.initial.at.start (power_at (language_in l.two l.reserved l.currencies l.counters) l.depth (toks_at l.s l.initial.at.start)) l.n l.initial.out l.count l.fits l.at l.m l.out
+abbrev pub invariant-power-loop-r : goal.invariant-power-loop-r
+invariant-power-loop-r l = (length l.out ≡ length l.initial.out) × Powers l.language.two (G.primary (language_of l.language) l.depth) l.s l.initial.at.start (power_at (language_of l.language) l.depth (toks_at l.s l.initial.at.start)) l.n l.initial.out l.count l.fits l.at l.m l.out
 
-abbrev pub decreases-power-loop-c1 : goal.decreases-power-loop-c1
-decreases-power-loop-c1 l = length (toks_at l.s l.at.start)
+abbrev pub decreases-power-loop-r : goal.decreases-power-loop-r
+decreases-power-loop-r l = length (toks_at l.s l.at.start)
 
-abbrev pub invariant-product-loop-c1 : goal.invariant-product-loop-c1
-invariant-product-loop-c1 l = (length l.out ≡ length l.initial.out) × Pending (times_or_by l.alone) (product_sign l.alone) (power_at (language_in l.two l.reserved l.currencies l.counters) l.depth) l.s l.initial.at.start (product_or l.alone (language_in l.two l.reserved l.currencies l.counters) l.depth (toks_at l.s l.initial.at.start)) l.n l.initial.out l.sign l.at l.m l.out
+abbrev pub invariant-product-loop-r : goal.invariant-product-loop-r
+invariant-product-loop-r l = (length l.out ≡ length l.initial.out) × Pending (times_or_by l.alone) (product_sign l.alone) (power_at (language_of l.language) l.depth) l.s l.initial.at.start (product_or l.alone (language_of l.language) l.depth (toks_at l.s l.initial.at.start)) l.n l.initial.out l.sign l.at l.m l.out
 
-abbrev pub decreases-product-loop-c1 : goal.decreases-product-loop-c1
-decreases-product-loop-c1 l = length (toks_at l.s l.at.start)
+abbrev pub decreases-product-loop-r : goal.decreases-product-loop-r
+decreases-product-loop-r l = length (toks_at l.s l.at.start)
 
-abbrev pub invariant-sum-loop-c1 : goal.invariant-sum-loop-c1
-invariant-sum-loop-c1 l = (length l.out ≡ length l.initial.out) × Pending (plus_or_minus l.alone) (sum_sign l.alone) (product_or l.alone (language_in l.two l.reserved l.currencies l.counters) l.depth) l.s l.initial.at.start (sum_or l.alone (language_in l.two l.reserved l.currencies l.counters) l.depth (toks_at l.s l.initial.at.start)) l.n l.initial.out l.sign l.at l.m l.out
+abbrev pub invariant-sum-loop-r : goal.invariant-sum-loop-r
+invariant-sum-loop-r l = (length l.out ≡ length l.initial.out) × Pending (plus_or_minus l.alone) (sum_sign l.alone) (product_or l.alone (language_of l.language) l.depth) l.s l.initial.at.start (sum_or l.alone (language_of l.language) l.depth (toks_at l.s l.initial.at.start)) l.n l.initial.out l.sign l.at l.m l.out
 
-abbrev pub decreases-sum-loop-c1 : goal.decreases-sum-loop-c1
-decreases-sum-loop-c1 l = length (toks_at l.s l.at.start)
+abbrev pub decreases-sum-loop-r : goal.decreases-sum-loop-r
+decreases-sum-loop-r l = length (toks_at l.s l.at.start)

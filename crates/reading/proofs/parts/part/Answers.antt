@@ -1,8 +1,6 @@
 -- The numbers of a part say where it is cut.
-use mathlib.Core.Path.{refl}
 use native.Mathlib.Omega.{arith}
-use Rattle.reading.specs.Parts.{part_named}
-use Rattle.reading.proofs.PartLaws.{cut_part, hands_script, hands_list, ends_in_script, ends_in_list}
+use Rattle.reading.proofs.PartLaws.{ends_in_script, ends_in_list}
 use Rattle.reading.proofs.parts.part.Goals as goal
 
 pub overflow_add-result : goal.overflow_add-result
@@ -17,13 +15,6 @@ slice_bounds-result-end c =
     let p = c.place_of-place in
     ends_in_list a.script.now a.currencies.now a.«record».now a.start a.second p.result p.ensures c.if-place.true
 
-pub returns-then-place : goal.returns-then-place
-returns-then-place c =
-    let a = c.args in
-    let p = c.place_of-place in
-    let within = ends_in_list a.script.now a.currencies.now a.«record».now a.start a.second p.result p.ensures c.if-place.true in
-    hands_list a.script a.currencies _ p.result (part_named a.script.now a.currencies.now a.«record».now a.start a.second) p.ensures c.if-place.true (cut_part a.currencies _ p.result.from p.result.size _ refl within refl refl)
-
 pub overflow_add-result-2 : goal.overflow_add-result-2
 overflow_add-result-2 c =
     let a = c.args in
@@ -35,10 +26,3 @@ slice_bounds-result-end-2 c =
     let a = c.args in
     let p = c.place_of-place in
     ends_in_script a.script.now a.currencies.now a.«record».now a.start a.second p.result p.ensures c.if-place.false
-
-pub returns : goal.returns
-returns c =
-    let a = c.args in
-    let p = c.place_of-place in
-    let within = ends_in_script a.script.now a.currencies.now a.«record».now a.start a.second p.result p.ensures c.if-place.false in
-    hands_script a.script a.currencies _ p.result (part_named a.script.now a.currencies.now a.«record».now a.start a.second) p.ensures c.if-place.false (cut_part a.script _ p.result.from p.result.size _ refl within refl refl)

@@ -3,12 +3,8 @@ use mathlib.Core.Path.{refl, ◌∙◌}
 use Prim.Native.Nat.{◌-◌, ◌*◌, ◌%◌}
 use native.Mathlib.Omega.{arith}
 use lib.ListN.{length-set, get_or}
-use borrow.Author.Rules.{rules}
 use Rattle.reading.proofs.RaiseLaws.{walk_in, walk_more, walk_done}
 use Rattle.reading.proofs.powers.raise.Goals as goal
-
-pub loop-e-init : goal.loop-e-init
-loop-e-init c = (refl, search rules, omega (arith, c.requires), λ goal o h R. (h, R))
 
 pub returns-then-out-i : goal.returns-then-out-i
 returns-then-out-i c goal o h R = absurd (omega (arith, (walk_in c.loop-e.invariant.3 c.loop-e-test.true goal o h R).0, c.if-out-i.true, c.loop-e-test.true))

@@ -1,19 +1,28 @@
 -- The edition by its number, then the reading in it.
-use Rattle.reading.specs.Judging.{lists_in}
-use Rattle.reading.proofs.ReadLaws.{leaves_one, leaves_two, leaves_other}
+use mathlib.Core.Path.{◌≡◌, sym, ap, ◌∙◌}
+use mathlib.Core.Bool.{Bool}
+use native.Mathlib.Omega.{arith}
+use Rattle.tokens.specs.LentLists.{lists_of}
+use Rattle.grammar.specs.Script.{number_of}
+use Rattle.reading.specs.Meets.{edition_by}
+use Rattle.reading.proofs.ReadLaws.{leaves_named, leaves_other}
+use Rattle.reading.proofs.reading.read.Goals.{in-1, in-2, After-read_in}
 use Rattle.reading.proofs.reading.read.Goals as goal
 
-pub returns-in-1 : goal.returns-in-1
-returns-in-1 c =
-    let args = c.args in
-    leaves_one (lists_in args.reserved.now args.currencies.now args.counters.now) args.script.now _ _ c.in-1.is c.read_in.ensures
+named : (c : After-read_in) → c.args.edition ≡ number_of (edition_by c.match-edition.two)
+named c =
+    elim c.match-edition.branch [
+      | in-1 w ↦ w.in-1.is ∙ ap (λ (b : Bool). number_of (edition_by b)) (sym w.two-is)
+      | in-2 w ↦ w.in-2.is ∙ ap (λ (b : Bool). number_of (edition_by b)) (sym w.two-is)
+    ]
 
-pub returns-in-2 : goal.returns-in-2
-returns-in-2 c =
-    let args = c.args in
-    leaves_two (lists_in args.reserved.now args.currencies.now args.counters.now) args.script.now _ _ c.in-2.is c.read_in-in-2.ensures
+pub returns-in-Ok : goal.returns-in-Ok
+returns-in-Ok c = leaves_named (lists_of c.args.lists.now) c.args.script.now _ _ c.match-edition.two (named (goal.at.returns-in-Ok c).After-read_in) c.in-Ok.ensures
+
+pub returns-in-Err : goal.returns-in-Err
+returns-in-Err c =
+    rw (c.refusal-in-Err.ensures, c.number-in-Err.ensures) (leaves_named (lists_of c.args.lists.now) c.args.script.now _ _ c.match-edition.two (named (goal.at.returns-in-Err c).After-read_in) c.in-Err.ensures)
 
 pub returns-in_default : goal.returns-in_default
 returns-in_default c =
-    let args = c.args in
-    leaves_other (lists_in args.reserved.now args.currencies.now args.counters.now) args.script.now _ _ c.in_default.in_default-own.rest.0.1 c.in_default.in_default-own.rest.1 c.refusal.ensures
+    rw (c.refusal.ensures, c.number.ensures) (leaves_other (lists_of c.args.lists.now) c.args.script.now _ _ (λ z. omega arith) (λ z. omega arith))

@@ -1,14 +1,15 @@
 -- `date_of` reads the date that a text writes.
-use mathlib.Core.Path.{◌≡◌, refl, sym, ◌∙◌}
+use mathlib.Core.Path.{◌≡◌, refl, sym, ap, ◌∙◌}
 use mathlib.Core.Bool.{Bool, true, false, not, true≢false}
 use mathlib.Core.List.{List}
-use Prim.Native.Nat.{ℕ, ◌+◌, ◌*◌, ◌<◌}
+use Prim.Native.Nat.{ℕ, zero, suc, ◌+◌, ◌*◌, ◌<◌}
+use Rattle.std.specs.Prelude.{Option, Some}
 use native.Mathlib.Omega.{arith}
 use lib.Dec.{eqb}
 use lib.ListN.{length}
 use borrow.Author.Tests.{eqb-true, not-true, not-false}
 use Rattle.calendar.specs.Calendar.{dated, count_of}
-use Rattle.tokens.specs.Dates.{is_shape, date}
+use Rattle.tokens.specs.Dates.{pair, is_shape, date, unless_0}
 use Rattle.tokens.proofs.DateLaws.{date_shaped}
 use Rattle.tokens.proofs.dates.date_of.Goals as goal
 
@@ -35,7 +36,20 @@ pair_at-requires-3 c = inside c.args.s.now _ c.is_shape.ensures c.if-not-is_shap
 pub pair_at-requires-4 : goal.pair_at-requires-4
 pair_at-requires-4 c = inside c.args.s.now _ c.is_shape.ensures c.if-not-is_shape.false-raw 9 (omega arith)
 
-pub returns : goal.returns
-returns c = c.count_of.ensures
-    ∙ (λ i. count_of (dated (c.pair_at.ensures.0 i * 100 + c.pair_at-2.ensures.0 i) (c.pair_at-3.ensures.0 i) (c.pair_at-4.ensures.0 i)))
-    ∙ sym (date_shaped c.args.s.now (sym c.is_shape.ensures ∙ not-false _ c.if-not-is_shape.false-raw))
+-- what four pairs of digits count to is the text's date
+counted : (s : List ℕ) {n a b d e : ℕ} → n ≡ count_of (dated (a * 100 + b) d e) → a ≡ pair s 0 → b ≡ pair s 2 → d ≡ pair s 5 → e ≡ pair s 8 → is_shape s ≡ true → n ≡ date s
+counted s h p q r t w = h ∙ (λ i. count_of (dated (p i * 100 + q i) (r i) (t i))) ∙ sym (date_shaped s w)
+
+some_day : (n : ℕ) → (n ≡ 0 → ⊥) → ◌≡◌ {A = Option ℕ} (Some n) (unless_0 n)
+some_day zero h = absurd (h refl)
+some_day (suc n) h = refl
+
+pub returns-then-day-eq0 : goal.returns-then-day-eq0
+returns-then-day-eq0 c =
+    let day = counted c.args.s.now c.count_of-day.ensures c.pair_at.ensures.0 c.pair_at-2.ensures.0 c.pair_at-3.ensures.0 c.pair_at-4.ensures.0 (sym c.is_shape.ensures ∙ not-false _ c.if-not-is_shape.false-raw) in
+    sym (ap unless_0 (sym day ∙ c.if-day-eq0.true))
+
+pub returns-else-day-eq0 : goal.returns-else-day-eq0
+returns-else-day-eq0 c =
+    let day = counted c.args.s.now c.count_of-day.ensures c.pair_at.ensures.0 c.pair_at-2.ensures.0 c.pair_at-3.ensures.0 c.pair_at-4.ensures.0 (sym c.is_shape.ensures ∙ not-false _ c.if-not-is_shape.false-raw) in
+    some_day c.count_of-day.result c.if-day-eq0.false ∙ ap unless_0 day

@@ -13,47 +13,14 @@ loop-at-init c = passed_first _ _ _ refl
 pub returns-then-k-eq-MOST_NAMES : goal.returns-then-k-eq-MOST_NAMES
 returns-then-k-eq-MOST_NAMES c = sym (passed_many c.args.money c.args.list.now c.loop-at.slots c.loop-at.at _ c.loop-at.k (omega arith) refl c.loop-at.invariant c.if-k-eq-MOST_NAMES.true)
 
-pub slice_bounds-is_good_name-count : goal.slice_bounds-is_good_name-count
-slice_bounds-is_good_name-count c = omega (arith, line_fits c.args.list.now c.loop-at.at c.find-e.result (omega arith) c.find-e.ensures)
-
-pub slice_bounds-is_good_name-start : goal.slice_bounds-is_good_name-start
-slice_bounds-is_good_name-start c = omega (arith, line_fits c.args.list.now c.loop-at.at c.find-e.result (omega arith) c.find-e.ensures)
-
 pub slice_bounds-is_good_name-end : goal.slice_bounds-is_good_name-end
 slice_bounds-is_good_name-end c = omega (arith, line_fits c.args.list.now c.loop-at.at c.find-e.result (omega arith) c.find-e.ensures)
 
 pub returns-then-not-is_good_name : goal.returns-then-not-is_good_name
 returns-then-not-is_good_name c = sym (passed_bad c.args.money c.args.list.now c.loop-at.slots c.loop-at.at c.find-e.result c.loop-at.k (omega arith) c.find-e.ensures c.loop-at.invariant (sym c.is_good_name.ensures ∙ not-true _ c.if-not-is_good_name.true-raw))
 
-pub slice_bounds-slot_of-count : goal.slice_bounds-slot_of-count
-slice_bounds-slot_of-count c = omega (arith, line_fits c.args.list.now c.loop-at.at c.find-e.result (omega arith) c.find-e.ensures)
-
-pub slice_bounds-slot_of-start : goal.slice_bounds-slot_of-start
-slice_bounds-slot_of-start c = omega (arith, line_fits c.args.list.now c.loop-at.at c.find-e.result (omega arith) c.find-e.ensures)
-
-pub slice_bounds-slot_of-end : goal.slice_bounds-slot_of-end
-slice_bounds-slot_of-end c = omega (arith, line_fits c.args.list.now c.loop-at.at c.find-e.result (omega arith) c.find-e.ensures)
-
-pub bounds-slots-h : goal.bounds-slots-h
-bounds-slots-h c = c.slot_of-h.ensures.1
-
-pub is_double-requires : goal.is_double-requires
-is_double-requires c = omega (arith, line_fits c.args.list.now c.loop-at.at c.find-e.result (omega arith) c.find-e.ensures)
-
 pub returns-then-is_double : goal.returns-then-is_double
 returns-then-is_double c = sym (passed_double c.args.money c.args.list.now c.loop-at.slots c.loop-at.at c.find-e.result c.loop-at.k (omega arith) c.find-e.ensures c.loop-at.invariant (get_or c.loop-at.slots c.slot_of-h.result 0) (sym c.is_double.ensures ∙ c.if-is_double.true))
-
-pub bounds-slots-h-in-loop-at : goal.bounds-slots-h-in-loop-at
-bounds-slots-h-in-loop-at c = c.slot_of-h.ensures.1
-
-pub overflow_add-k : goal.overflow_add-k
-overflow_add-k c = omega arith
-
-pub overflow_add-at : goal.overflow_add-at
-overflow_add-at c = omega (arith, line_fits c.args.list.now c.loop-at.at c.find-e.result (omega arith) c.find-e.ensures)
-
-pub loop-at-smaller : goal.loop-at-smaller
-loop-at-smaller c = omega (arith, line_fits c.args.list.now c.loop-at.at c.find-e.result (omega arith) c.find-e.ensures)
 
 pub loop-at-preserved : goal.loop-at-preserved
 loop-at-preserved c = passed_turn c.args.money c.args.list.now c.loop-at.slots c.loop-at.at c.find-e.result c.loop-at.k (omega arith) c.find-e.ensures c.loop-at.invariant c.slot_of-h.result c.slot_of-h.ensures.0 c.slot_of-h.ensures.1 c.if-k-eq-MOST_NAMES.false (sym c.is_good_name.ensures ∙ not-false _ c.if-not-is_good_name.false-raw) (sym c.is_double.ensures ∙ c.if-is_double.false)

@@ -7,15 +7,6 @@ use lib.ListN.{length}
 use Rattle.tokens.proofs.SieveLaws.{sifted}
 use Rattle.tokens.proofs.names.may_hold.Goals as goal
 
-pub returns-then-n-eq0 : goal.returns-then-n-eq0
-returns-then-n-eq0 c = λ z. absurd (true≢false z)
-
-pub returns-then-list-n : goal.returns-then-list-n
-returns-then-list-n c = λ z. absurd (true≢false z)
-
-pub returns-then-list-ne10 : goal.returns-then-list-ne10
-returns-then-list-ne10 c = λ z. absurd (true≢false z)
-
 pub returns : goal.returns
 returns c =
     let a = c.args in

@@ -5,11 +5,6 @@ use Rattle.tokens.proofs.numbers.bits_of.Goals as goal
 pub parted-requires : goal.parted-requires
 parted-requires c = rw c.value_of-x.ensures (neg_number _ (value_number _))
 
-pub returns-then-minus : goal.returns-then-minus
-returns-then-minus c = rw (c.if-minus.true, ← c.value_of-x.ensures) c.parted.ensures
+pub parted-requires-else-minus : goal.parted-requires-else-minus
+parted-requires-else-minus c = rw c.value_of-x.ensures (value_number _)
 
-pub parted-requires-2 : goal.parted-requires-2
-parted-requires-2 c = rw c.value_of-x.ensures (value_number _)
-
-pub returns : goal.returns
-returns c = rw (c.if-minus.false, ← c.value_of-x.ensures) c.parted-2.ensures

@@ -1,14 +1,13 @@
--- `measured` meets its contract. What is ahead, fed to what is kept, gives what all the bytes give.
-use mathlib.Core.Path.{refl, sym, ◌∙◌}
-use native.Mathlib.Omega.{arith}
-use Rattle.tokens.proofs.NumberLaws.{feed_turn, feed_over}
+-- `measured` feeds the bytes one by one, as the definition does.
+use mathlib.Core.Path.{sym, ◌∙◌}
+use borrow.Author.Rules.{rules}
+use Rattle.std.proofs.lemmas.Iterator.{YieldsList-from_slice}
+use Rattle.std.proofs.lemmas.Iterator.Consumers.{fold_from_yields_List}
+use Rattle.tokens.specs.Runs.{feed, begin}
+use Rattle.tokens.proofs.Chains.{feed_all_is}
 use Rattle.tokens.proofs.numbers.measured.Goals as goal
 
-pub loop-i-init : goal.loop-i-init
-loop-i-init c = (omega arith, refl)
-
-pub loop-i-preserved : goal.loop-i-preserved
-loop-i-preserved c = (omega arith, rw c.fed-run.ensures (feed_turn _ _ _ c.loop-i-test.true ∙ c.loop-i.invariant.1))
-
 pub returns : goal.returns
-returns c = sym (feed_over _ _ _ c.loop-i-test.false) ∙ c.loop-i.invariant.1
+returns c =
+    fold_from_yields_List _ feed begin c.fold.result c.fold.ensures.ran (YieldsList-from_slice c.args.w.now (cc)) (λ a x b q k. search rules)
+    ∙ sym (feed_all_is c.args.w.now begin)

@@ -3,32 +3,21 @@ use mathlib.Core.Path.{sym, ◌∙◌}
 use native.Mathlib.Omega.{arith}
 use lib.Dec.{le→leb}
 use lib.Ieee.{in_float}
+use Rattle.tokens.proofs.RefusalLaws.{number_in}
 use Rattle.tokens.proofs.NumberLaws.{fault_none, value_said, value_none}
 use Rattle.tokens.proofs.TableLaws.{tens_small}
 use Rattle.tokens.proofs.FloatLaws.{zero_is}
 use Rattle.tokens.proofs.numbers.value_of.Goals as goal
 
-pub returns-then-judged-ne0 : goal.returns-then-judged-ne0
-returns-then-judged-ne0 c = zero_is ∙ value_none _ _ c.measured-run.ensures (λ z. c.if-judged-ne0.true (c.judged.ensures ∙ z))
+pub returns-in-Err : goal.returns-in-Err
+returns-in-Err c = zero_is ∙ value_none _ _ c.measured-run.ensures (λ z. omega (arith, number_in c.in-Err.field-0, c.in-Err.ensures, z))
 
-pub ten_to-tens-requires : goal.ten_to-tens-requires
-ten_to-tens-requires c =
-    let m = c.measured-run.result in
-    omega (arith, fault_none m.dots m.digits m.decimals (sym c.judged.ensures ∙ c.if-judged-ne0.false))
-
-pub int_to_float-result : goal.int_to_float-result
+pub int_to_float-result-in-Ok : goal.int_to_float-result-in-Ok
 unfolding in_float
-int_to_float-result c =
+int_to_float-result-in-Ok c =
     let m = c.measured-run.result in
-    le→leb _ _ (fault_none m.dots m.digits m.decimals (sym c.judged.ensures ∙ c.if-judged-ne0.false)).0
+    let l = fault_none m.dots m.digits m.decimals (sym c.in-Ok.ensures) in
+    rw c.ten_to.ensures (le→leb _ _ (tens_small m.decimals (omega arith)))
 
-pub int_to_float-result-2 : goal.int_to_float-result-2
-unfolding in_float
-int_to_float-result-2 c =
-    let m = c.measured-run.result in
-    let l = fault_none m.dots m.digits m.decimals (sym c.judged.ensures ∙ c.if-judged-ne0.false) in
-    rw c.ten_to-tens.ensures (le→leb _ _ (tens_small m.decimals (omega arith)))
-
-pub returns : goal.returns
-returns c = rw c.ten_to-tens.ensures
-    (value_said _ _ c.measured-run.ensures (sym c.judged.ensures ∙ c.if-judged-ne0.false))
+pub returns-in-Ok : goal.returns-in-Ok
+returns-in-Ok c = rw c.ten_to.ensures (value_said _ _ c.measured-run.ensures (sym c.in-Ok.ensures))

@@ -1,31 +1,27 @@
--- `column_of` goes back to the line feed before the place: so far it has the column behind the bytes that it has passed.
-use mathlib.Core.Path.{sym, ◌∙◌}
-use Prim.Native.Nat.{◌-◌}
-use native.Mathlib.Omega.{arith}
-use Rattle.tokens.proofs.PlaceLaws.{ends_none, ends_on, column_fed, column_first, column_whole}
-use borrow.Author.Tests.{not-true, not-false}
+-- `column_of` counts the characters that begin between the place and the line feed before it.
+use mathlib.Core.Path.{◌≡◌, sym, ◌∙◌}
+use mathlib.Core.List.{reverse}
+use lib.ListN.{length, take}
+use borrow.Author.Tests.{tests}
+use Rattle.std.specs.List.{filter, take_while}
 use borrow.Author.Rules.{rules}
+use Rattle.std.proofs.lemmas.Iterator.Adapters.{YieldsList-from_rev_slice}
+use Rattle.std.proofs.lemmas.Iterator.Search.{YieldsList-from_take_while}
+use Rattle.std.proofs.lemmas.Iterator.Consumers.{YieldsList-at, YieldsList-from_filter, count_from_yields_List}
+use Rattle.std.proofs.lemmas.List.Sums.{length-filter}
+use Rattle.tokens.proofs.Chains.{count_is}
+use Rattle.tokens.proofs.PlaceLaws.{in_line, starts, column_counted}
 use Rattle.tokens.proofs.places.column_of.Goals as goal
-
-pub loop-i-init : goal.loop-i-init
-loop-i-init c = (search rules, search rules, ends_none c.args.s.now c.least-i.result)
-
-pub returns-then-b-eq10 : goal.returns-then-b-eq10
-returns-then-b-eq10 c =
-    let l = c.loop-i in
-    let a = c.args in
-    let e = c.least-i in
-    column_fed a.s.now l.i _ e.result l.column (omega arith) (search rules) (search rules) l.invariant.2 c.if-b-eq10.true ∙ column_whole a.s.now a.at _ e.ensures
-
-pub loop-i-preserved-then-not-is_continuation : goal.loop-i-preserved-then-not-is_continuation
-loop-i-preserved-then-not-is_continuation c = (search rules, search rules, ends_on c.args.s.now c.loop-i.i (c.loop-i.i - 1) c.least-i.result c.loop-i.column (omega arith) (search rules) (search rules) c.loop-i.invariant.2 c.if-b-eq10.false (sym (not-true _ c.if-not-is_continuation.true-raw) ∙ c.is_continuation.ensures))
-
-pub loop-i-preserved : goal.loop-i-preserved
-loop-i-preserved c = (search rules, search rules, ends_on c.args.s.now c.loop-i.i (c.loop-i.i - 1) c.least-i.result c.loop-i.column (omega arith) (search rules) (search rules) c.loop-i.invariant.2 c.if-b-eq10.false (sym (not-false _ c.if-not-is_continuation.false-raw) ∙ c.is_continuation.ensures))
 
 pub returns : goal.returns
 returns c =
-    let l = c.loop-i in
-    let a = c.args in
-    let e = c.least-i in
-    column_first a.s.now l.i e.result l.column (omega arith) l.invariant.2 ∙ column_whole a.s.now a.at _ e.ensures
+    let before = take c.min.result c.args.s.now in
+    let line = take_while in_line (reverse before) in
+    let e : c.count.result ≡ length (filter starts line) =
+        count_from_yields_List c.filter.result c.count.result c.count.ensures.ran
+        (YieldsList-from_filter _ starts
+        (YieldsList-at c.filter.ensures.source
+        (YieldsList-from_take_while _ in_line (YieldsList-from_rev_slice before (cc)) c.take_while-line.ensures.closure c.take_while-line.ensures.done (λ x b q k. search (rules, tests))))
+        c.filter.ensures.closure (λ x b q k. search (rules, tests)))
+    in
+    column_counted c.args.s.now c.args.at _ _ c.min.ensures (e ∙ length-filter starts line ∙ sym (count_is starts line))

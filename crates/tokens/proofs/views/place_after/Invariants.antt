@@ -1,10 +1,8 @@
--- From the place reached, what is left of the tokens leads to where all of them lead from the first place.
+-- `place_after` walks a step at a time: where it has got, the rest of the tokens leads where all of them lead from the start.
 use mathlib.Core.Path.{◌≡◌}
+use Prim.Native.Nat.{◌-◌}
 use Rattle.tokens.specs.Views.{place_after}
 use Rattle.tokens.proofs.views.place_after.Given as goal
 
-abbrev pub invariant-loop-left : goal.invariant-loop-left
-invariant-loop-left l = place_after l.s l.i l.left ≡ place_after l.s l.at l.tokens
-
-abbrev pub decreases-loop-left : goal.decreases-loop-left
-decreases-loop-left l = l.left
+abbrev pub invariant-loop : goal.invariant-loop
+invariant-loop l = place_after l.s l.i (l.tokens - l.counter) ≡ place_after l.s l.at l.tokens

@@ -1,9 +1,0 @@
--- No sign stands before the first operand.
-use borrow.Author.Tests.{eq-eqb, ne_eqb}
-use Rattle.reading.proofs.powers.sign_of.Goals as goal
-
-pub returns-then-count-eq0 : goal.returns-then-count-eq0
-returns-then-count-eq0 c = rw (eq-eqb _ 0 c.if-count-eq0.true)
-
-pub returns-else-count-eq0 : goal.returns-else-count-eq0
-returns-else-count-eq0 c = rw (ne_eqb _ 0 c.if-count-eq0.false)
