@@ -7,6 +7,7 @@ use crate::lines::{put_line, put_records};
 use reading::reading::{Answer, read};
 use reading::rooms::{ENTRY_WIDTH, MOST_RECORDS, MOST_STATEMENTS, RECORD_WIDTH};
 use std::alloc::{AllocError, Global};
+use tokens::lists::Lists;
 
 // Room for all records and statements that the capacities allow.
 const RECORD_WORDS: usize = RECORD_WIDTH * MOST_RECORDS;
@@ -65,15 +66,12 @@ pub fn list(alloc: Global, script: &[u8]) -> Result<String, AllocError>
     let mut text = String::new(alloc);
     let mut records = [0u32; RECORD_WORDS];
     let mut directory = [0u32; DIRECTORY_WORDS];
-    let a = read(
-        script,
-        1,
-        b"",
-        b"USD\nEUR\n",
-        b"",
-        &mut records,
-        &mut directory,
-    );
+    let lists = Lists {
+        reserved: b"",
+        currencies: b"USD\nEUR\n",
+        counters: b"",
+    };
+    let a = read(script, 1, &lists, &mut records, &mut directory);
     put_answer(&mut text, a, &records)?;
     Ok(text)
 }

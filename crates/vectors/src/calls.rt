@@ -5,6 +5,7 @@ ghost use Rattle.vectors.specs.Comparing.{slices_same};
 use crate::case::{Case, Slices};
 use amending::amending::amend;
 use amending::held::Held;
+use amending::memory::Memory;
 use reading::reading::{Answer, read};
 
 impl<'a> Case<'a> {
@@ -29,13 +30,10 @@ impl<'a> Case<'a> {
         ensures { self.new.changed ≡ Some (not (slices_same self.new.slices self.old.slices)) }
     {
         let before = self.slices;
-        let lists = self.names.lent();
         let given = read(
             self.slices.script.lent(),
             self.edition,
-            lists.reserved,
-            lists.currencies,
-            lists.counters,
+            &self.names.lent(),
             self.slices.records.lent_mut(),
             self.slices.directory.lent_mut(),
         );
@@ -47,18 +45,12 @@ impl<'a> Case<'a> {
         ensures { self.new.changed ≡ Some (not (slices_same self.new.slices self.old.slices)) }
     {
         let before = self.slices;
-        let lists = self.names.lent();
-        let given = amend(
-            self.slices.script.lent_mut(),
-            self.held,
-            statement,
-            text,
-            lists.reserved,
-            lists.currencies,
-            lists.counters,
-            self.slices.records.lent_mut(),
-            self.slices.directory.lent_mut(),
-        );
+        let mut memory = Memory {
+            script: self.slices.script.lent_mut(),
+            records: self.slices.records.lent_mut(),
+            directory: self.slices.directory.lent_mut(),
+        };
+        let given = amend(&mut memory, self.held, statement, text, &self.names.lent());
         self.note(&before, given);
         given
     }
