@@ -1,5 +1,6 @@
 -- Laws of lines and of the listing.
 pub mod InputLaws
+pub mod HexLaws
 pub mod LineLaws
 pub mod ListingLaws
 pub mod CutLaws

@@ -1,24 +1,12 @@
--- What the lines of a case lend, and when a call gave and left what is stored.
-use Rattle.std.specs.Prelude.{Bool, true, false, ◌&&◌, List, [], ◌∷◌, ℕ, suc, ◌%◌, ◌^◌, eqb, leb, length, get_or, take, drop}
+-- When a call gave and left what is stored.
+use Rattle.std.specs.Prelude.{Bool, true, false, ◌&&◌, List, [], ◌∷◌, ℕ, suc, eqb, leb, length, get_or, take, drop, min, Result, Ok, Err}
 use Rattle.std.specs.Bool.{beq}
-use Rattle.tokens.specs.Text.{same, within}
+use Rattle.tokens.specs.Text.{same}
 use Rattle.reading.specs.declared.reading.Answer.{Answer}
+use Rattle.vectors.specs.declared.trouble.Trouble.{Trouble}
+use Rattle.vectors.specs.declared.memory.Memory.{Memory}
+use Rattle.vectors.specs.declared.«case».Slices.{Slices}
 use Rattle.reading.specs.declared.parts.Place.{Place}
-use Rattle.amending.specs.declared.held.Held.{Held}
-
--- ---- lines
-
--- the kinds that say what a call must have left: script, records, directory, same
-abbrev pub left_kind : ℕ → Bool
-left_kind k = within 4 7 k
-
--- a number as a word
-abbrev pub word : ℕ → ℕ
-word n = n % 2 ^ 32
-
--- the counts, the latest date and the edition that are lent to the next call stand at 6 to 11 of what is known of a case
-abbrev pub held_in : List ℕ → Held
-held_in l = record { bytes = get_or l 6 0; statements = get_or l 7 0; records = get_or l 8 0; tokens = get_or l 9 0; latest = get_or l 10 0; edition = word (get_or l 11 0) }
 
 -- ---- answers: the ten stored numbers are l
 
@@ -41,6 +29,20 @@ abbrev pub answer_stored : List ℕ → Answer → Bool
 answer_stored l a = ground_stored l a && (counts_stored l a && edition_stored l a)
 
 -- ---- memory
+
+-- what is lent of a memory: as much of its room as a line filled, or all where a line was not taken
+abbrev pub size_of : Result ℕ Trouble → ℕ
+size_of (Ok n) = min n 32768
+size_of (Err t) = 32768
+
+abbrev pub lent_of : {T : Type 0} → Memory T → List T
+lent_of m = take (size_of m.size) m.room
+
+-- each lent byte and word of two is the same
+abbrev pub slices_same : Slices → Slices → Bool
+slices_same a b =
+    same (lent_of a.script) (lent_of b.script)
+    && (same (lent_of a.records) (lent_of b.records) && same (lent_of a.directory) (lent_of b.directory))
 
 -- how many elements at the start of two lists are equal: the place of the first that differ
 unfoldable pub common : List ℕ → List ℕ → ℕ

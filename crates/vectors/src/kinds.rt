@@ -1,84 +1,48 @@
 // The kinds of lines.
-use tokens::text::equal;
+use crate::trouble::Trouble;
 
-pub const NOTHING: usize = 0;
+// What a line says that a call must have left, or lends to the first one.
+#[derive(Clone, Copy)]
+pub enum Left {
+    Script,
+    Records,
+    Directory,
+    Same,
+}
 
-pub const DEFINE: usize = 1;
-
-pub const CASE: usize = 2;
-
-pub const LISTS: usize = 3;
-
-pub const SCRIPT: usize = 4;
-
-pub const RECORDS: usize = 5;
-
-pub const DIRECTORY: usize = 6;
-
-pub const SAME: usize = 7;
-
-pub const COUNTS: usize = 8;
-
-pub const EDITION: usize = 9;
-
-pub const READ: usize = 10;
-
-pub const AMEND: usize = 11;
-
-pub const PART: usize = 12;
-
-pub const END: usize = 13;
-
-pub const UNKNOWN: usize = 14;
-
-// The kinds that say what memory holds, and the edition.
-fn memory_kind(word: &[u8]) -> usize {
-    if equal(word, b"lists") {
-        return LISTS;
-    }
-    if equal(word, b"script") {
-        return SCRIPT;
-    }
-    if equal(word, b"records") {
-        return RECORDS;
-    }
-    if equal(word, b"directory") {
-        return DIRECTORY;
-    }
-    if equal(word, b"same") {
-        return SAME;
-    }
-    if equal(word, b"counts") {
-        return COUNTS;
-    }
-    if equal(word, b"edition") {
-        return EDITION;
-    }
-    UNKNOWN
+#[derive(Clone, Copy)]
+pub enum Kind {
+    // It asks nothing of a program.
+    Nothing,
+    Case,
+    Lists,
+    Left(Left),
+    Counts,
+    Edition,
+    Read,
+    Amend,
+    Part,
 }
 
 // The kind of a line, by its first field.
-pub fn kind_of(word: &[u8]) -> usize {
-    if equal(word, b"read") {
-        return READ;
+impl TryFrom<&[u8]> for Kind {
+    type Error = Trouble;
+
+    fn try_from(word: &[u8]) -> Result<Kind, Trouble> {
+        match word {
+            b"define" | b"end" | b"step" => Ok(Kind::Nothing),
+            b"case" => Ok(Kind::Case),
+            b"lists" => Ok(Kind::Lists),
+            b"script" => Ok(Kind::Left(Left::Script)),
+            b"records" => Ok(Kind::Left(Left::Records)),
+            b"directory" => Ok(Kind::Left(Left::Directory)),
+            b"same" => Ok(Kind::Left(Left::Same)),
+            b"counts" => Ok(Kind::Counts),
+            b"edition" => Ok(Kind::Edition),
+            b"read" => Ok(Kind::Read),
+            b"amend" => Ok(Kind::Amend),
+            b"part" => Ok(Kind::Part),
+            _ => Err(Trouble::Malformed),
+        }
     }
-    if equal(word, b"amend") {
-        return AMEND;
-    }
-    if equal(word, b"part") {
-        return PART;
-    }
-    if equal(word, b"case") {
-        return CASE;
-    }
-    if equal(word, b"end") {
-        return END;
-    }
-    if equal(word, b"define") {
-        return DEFINE;
-    }
-    if equal(word, b"step") {
-        return NOTHING;
-    }
-    memory_kind(word)
 }

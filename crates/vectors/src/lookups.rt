@@ -1,192 +1,133 @@
 // The lookup of a record's name, run and compared.
-ghost use Rattle.std.specs.Prelude.{◌≡◌, ◌≤◌, length};
+ghost use Rattle.std.specs.Prelude.{◌≡◌};
 ghost use Rattle.vectors.specs.Comparing.{place_stored, part_stored};
 
-use crate::comparing::DIFFERS;
-use crate::fields::{LARGEST, MALFORMED, NUMBERS, after, behind, numbers, seek};
-use crate::memory::{Bytes, Words, front, load_words};
+use crate::case::Case;
+use crate::fields::{first_field, number, numbers};
+use crate::memory::{Memory, front};
 use crate::report::{say_part, say_place};
-use crate::state::{CURRENCIES_SIZE, SCRIPT_SIZE, State, held};
+use crate::trouble::Trouble;
 use reading::parts::{Place, part, place_of};
 use reading::rooms::RECORD_WIDTH;
 use std::io::Stdout;
-use tokens::text::equal;
 
-// Whether a part begins at this place of this source, and is so long.
-fn is_placed(found: Place, in_list: bool, place: usize, size: usize) -> bool
-    ensures { result ≡ place_stored found in_list place size }
+// What a lookup is asked: a name of a record, first or second, in a script and a list of currencies.
+#[derive(Clone, Copy)]
+struct Asked<'a> {
+    out: Stdout,
+    script: &'a [u8],
+    currencies: &'a [u8],
+    record: &'a [u32],
+    start: u32,
+    second: bool,
+}
+
+// Whether a part begins at the stored place of the stored source, and is so long.
+#[tactic(auto, unfolding(crate::specs::Comparing::place_stored))]
+fn is_placed(found: Place, stored: Place) -> bool
+    ensures { result ≡ place_stored found stored.in_list stored.from stored.size }
 {
-    if found.in_list != in_list {
-        return false;
-    }
-    found.from == place && found.size == size
+    found.in_list == stored.in_list && found.from == stored.from && found.size == stored.size
 }
 
-// Whether a part has the length and the bytes of the one of `size` bytes at `place` of a source.
-fn is_part(given: &[u8], source: &[u8], place: usize, size: usize) -> bool
-    ensures { result ≡ part_stored given.now source.now place size }
+// Whether a part has the length and the bytes of the stored one of its source.
+#[tactic(auto, using(crate::proofs::ComparingLaws::pointwise_same, crate::proofs::ComparingLaws::part_bytes), unfolding(crate::specs::Comparing::part_stored))]
+fn is_part(given: &[u8], source: &[u8], stored: Place) -> bool
+    ensures { result ≡ part_stored given.now source.now stored.from stored.size }
 {
-    if given.len() != size {
-        return false;
-    }
-    if source.len() < place {
-        return false;
-    }
-    equal(given, front(&source[place..], size))
+    given.len() == stored.size
+        && stored.from <= source.len()
+        && given == front(&source[stored.from..], stored.size)
 }
 
-// The record at the start of words, with no word behind it.
-fn record_in(words: &[u32]) -> &[u32] {
-    if words.len() < RECORD_WIDTH {
-        return words;
+// Which name a field asks for: the first, or a Spot's second.
+fn is_second(field: &[u8]) -> Result<bool, Trouble> {
+    match number(field, 10) {
+        Some(1) => Ok(false),
+        Some(2) => Ok(true),
+        _ => Err(Trouble::Malformed),
     }
-    &words[..RECORD_WIDTH]
 }
 
-// Runs the lookup by numbers, and compares.
-fn is_found(
-    out: Stdout,
-    script: &[u8],
-    currencies: &[u8],
-    record: &[u32],
-    start: u32,
-    second: bool,
-    in_list: bool,
-    place: usize,
-    size: usize,
-) -> bool {
-    let found = place_of(script, currencies, record, start, second);
-    if is_placed(found, in_list, place, size) {
-        return true;
+// Which source a field names: the script, or the list of currencies.
+fn is_list(field: &[u8]) -> Result<bool, Trouble> {
+    match field {
+        b"s" => Ok(false),
+        b"c" => Ok(true),
+        _ => Err(Trouble::Malformed),
     }
-    say_place(out, found);
-    false
 }
 
-// Runs the lookup that hands back a slice, and compares the bytes. Where they begin no run can tell, since the language
-// compares no addresses: the contract of `part` ties that to the lookup by numbers.
-fn is_handed_back<'a>(
-    out: Stdout,
-    script: &'a [u8],
-    currencies: &'a [u8],
-    record: &[u32],
-    start: u32,
-    second: bool,
-    in_list: bool,
-    place: usize,
-    size: usize,
-) -> bool {
-    let given = part(script, currencies, record, start, second);
-    let same = if in_list {
-        is_part(given, currencies, place, size)
-    } else {
-        is_part(given, script, place, size)
-    };
-    if !same {
-        say_part(out, given);
+impl<'a> Asked<'a> {
+    // Runs the lookup by numbers, and compares.
+    fn is_found(&self, stored: Place) -> bool {
+        let found = place_of(
+            self.script,
+            self.currencies,
+            self.record,
+            self.start,
+            self.second,
+        );
+        let same = is_placed(found, stored);
+        if !same {
+            say_place(self.out, found);
+        }
+        same
     }
-    same
-}
 
-// Runs both, and each tells of what differs.
-fn is_stored<'a>(
-    out: Stdout,
-    script: &'a [u8],
-    currencies: &'a [u8],
-    record: &[u32],
-    start: u32,
-    second: bool,
-    in_list: bool,
-    place: usize,
-    size: usize,
-) -> bool {
-    let found = is_found(
-        out, script, currencies, record, start, second, in_list, place, size,
-    );
-    let same = is_handed_back(
-        out, script, currencies, record, start, second, in_list, place, size,
-    );
-    found && same
-}
-
-// Whether fields name a first or second name, and a source that there is. A source is taken with the space behind it.
-fn is_asked(which: usize, source: &[u8]) -> bool {
-    (which == 1 || which == 2) && (equal(source, b"c ") || equal(source, b"s "))
-}
-
-// Looks up the name `which` of the record that words begin with, and compares.
-fn look_up<'a>(
-    out: Stdout,
-    script: &'a [u8],
-    currencies: &'a [u8],
-    words: &Words,
-    start: usize,
-    which: usize,
-    source: &[u8],
-    place: usize,
-    size: usize,
-) -> usize {
-    if LARGEST < start {
-        return MALFORMED;
+    // Runs the lookup that hands back a slice, and compares the bytes. Where they begin no run can tell, since the language
+    // compares no addresses: the contract of `part` ties that to the lookup by numbers.
+    fn is_handed_back(&self, stored: Place) -> bool {
+        let given = part(
+            self.script,
+            self.currencies,
+            self.record,
+            self.start,
+            self.second,
+        );
+        let source = if stored.in_list {
+            self.currencies
+        } else {
+            self.script
+        };
+        let same = is_part(given, source, stored);
+        if !same {
+            say_part(self.out, given);
+        }
+        same
     }
-    if !is_asked(which, source) {
-        return MALFORMED;
-    }
-    let in_list = equal(source, b"c ");
-    if is_stored(
-        out,
-        script,
-        currencies,
-        record_in(words),
-        start as u32,
-        which == 2,
-        in_list,
-        place,
-        size,
-    ) {
-        return 0;
-    }
-    DIFFERS
 }
 
 // Takes a line that asks for a part: the words of a record, its statement's start, which name, and the part that is expected.
-pub fn take_part<'a>(
-    out: Stdout,
-    s: &[u8],
-    at: usize,
-    end: usize,
-    script: &'a Bytes,
-    currencies: &'a Bytes,
-    state: &State,
-) -> usize
-    requires { (at ≤ end) × (end ≤ length s.now) }
-{
-    let f = seek(s, at, end, b' ');
-    let g = behind(f, end);
-    let h = after(s, after(s, g, end), end);
-    let i = after(s, h, end);
-    let source = &s[h..i];
-    let mut words = [0u32; 32768];
-    if load_words(s, at, f, &mut words) != RECORD_WIDTH {
-        return MALFORMED;
+// Runs both lookups, and each tells of what differs.
+pub fn take_part(case: &Case, fields: &[u8]) -> Result<(), Trouble> {
+    let (words, fields) = first_field(fields);
+    let (start, fields) = first_field(fields);
+    let (which, fields) = first_field(fields);
+    let (source, fields) = first_field(fields);
+    let mut record = Memory::new(0);
+    if record.load_words(words).is_err() || record.lent().len() != RECORD_WIDTH {
+        return Err(Trouble::Malformed);
     }
-    let mut asked = [0usize; NUMBERS];
-    if numbers(s, g, h, &mut asked) != 2 {
-        return MALFORMED;
+    let [from, size] = numbers::<2>(fields).ok_or(Trouble::Malformed)?;
+    let asked = Asked {
+        out: case.out,
+        script: front(case.slices.script.lent(), case.held.bytes),
+        currencies: case.names.currencies.lent(),
+        record: record.lent(),
+        start: number(start, 10).ok_or(Trouble::Malformed)?,
+        second: is_second(which)?,
+    };
+    let stored = Place {
+        in_list: is_list(source)?,
+        from: from as usize,
+        size: size as usize,
+    };
+    let found = asked.is_found(stored);
+    let same = asked.is_handed_back(stored);
+    if found && same {
+        Ok(())
+    } else {
+        Err(Trouble::Differs)
     }
-    let mut told = [0usize; NUMBERS];
-    if numbers(s, i, end, &mut told) != 2 {
-        return MALFORMED;
-    }
-    look_up(
-        out,
-        front(front(script, state[SCRIPT_SIZE]), held(state).bytes),
-        front(currencies, state[CURRENCIES_SIZE]),
-        &words,
-        asked[0],
-        asked[1],
-        source,
-        told[0],
-        told[1],
-    )
 }

@@ -6,6 +6,7 @@
 #![tactic(auto)]
 
 mod calls;
+mod case;
 mod comparing;
 mod fields;
 mod kinds;
@@ -13,19 +14,16 @@ mod lookups;
 mod memory;
 mod replay;
 mod report;
-mod state;
 mod tally;
-
-ghost use Rattle.std.specs.Prelude.{◌≡◌, ◌≤◌, length};
+mod trouble;
 
 use crate::replay::replay;
 use crate::report::{say, say_tally, say_wrong};
-use crate::tally::{TALLIES, Tallies};
+use crate::tally::Tally;
 use std::env::{Env, FillError};
 use std::fs::File;
-use std::io::Read;
+use std::io::{ErrorKind, Read};
 use std::str;
-use tokens::text::equal;
 
 // More than the longest file has, so that a file that fills it was cut.
 const TEXT: usize = 524288;
@@ -39,88 +37,62 @@ fn opened(rt: &HostRuntime, path: &[u8]) -> Option<File> {
     File::open(rt, name).ok()
 }
 
-// Fills `out` from its start, until it is full, the input ends or a read fails. Answers how many bytes came.
-fn read_full<R: Read>(input: &mut R, out: &mut [u8]) -> usize
-    ensures { result ≤ length out.new }
-{
-    let mut n: usize = 0;
-    while n < out.len() {
-        let Ok(more) = input.read(&mut out[n..]) else {
-            return n;
-        };
-        if more == 0 {
-            return n;
-        }
-        n += more;
+// What a file has, up to its end or to where a read of it fails, if there is room for it.
+fn contents(rt: &HostRuntime, file: File) -> Option<Vec<u8>> {
+    let mut text = Vec::new(rt.alloc());
+    if let Err(error) = file.take(TEXT as u64).read_to_end(&mut text)
+        && error.kind() == ErrorKind::OutOfMemory
+    {
+        return None;
     }
-    n
+    (text.len() < TEXT).then_some(text)
 }
 
-// Zeros, for the text of a file. Only their number is known, so that no proof goes over them.
-fn room() -> [u8; TEXT]
-    ensures { 524288 ≡ length result }
-{
-    [0; TEXT]
-}
-
-fn replay_file(rt: &HostRuntime, path: &[u8], tally: &mut Tallies) {
+fn replay_file(rt: &HostRuntime, path: &[u8], tally: &mut Tally) {
     let out = rt.stdout();
-    let Some(mut file) = opened(rt, path) else {
+    let Some(file) = opened(rt, path) else {
         say(out, path);
         say(out, b": cannot be opened\n");
         return;
     };
-    let mut text = room();
-    let n = read_full(&mut file, &mut text);
-    if n == TEXT {
+    let Some(text) = contents(rt, file) else {
         say(out, path);
         say(out, b": no room\n");
         return;
-    }
-    replay(out, path, &text[..n], tally);
-}
-
-// What an argument is: the name of a file, which is replayed, or the word `wrong:`; or there is none.
-#[derive(Clone, Copy)]
-enum Argument {
-    File,
-    Wrong,
-    Missing,
-}
-
-// Replays the file that an argument names. One that is too long for a path names no file that can be opened.
-fn replay_argument(rt: &HostRuntime, i: usize, tally: &mut Tallies) -> Argument {
-    let mut path = [0u8; PATH];
-    let n = match rt.arg(i, &mut path) {
-        Ok(n) => n,
-        Err(FillError::TooLong) => 0,
-        Err(FillError::NotPresent) => return Argument::Missing,
     };
-    if equal(&path[..n], b"wrong:") {
-        return Argument::Wrong;
-    }
-    replay_file(rt, &path[..n], tally);
-    Argument::File
+    replay(out, path, text.as_slice(), tally);
 }
 
-// Replays from an argument on, up to that word. Answers where the arguments go on.
-fn replay_arguments(rt: &HostRuntime, first: usize, tally: &mut Tallies) -> usize {
+// An argument, if there is one. Each is asked for by its place, since `env::args` has none where one is not UTF-8. One that is too long for a path is none of a file that can be opened.
+fn argument<'a>(rt: &HostRuntime, i: usize, path: &'a mut [u8]) -> Option<&'a [u8]> {
+    match rt.arg(i, path) {
+        Ok(n) => Some(&path[..n]),
+        Err(FillError::TooLong) => Some(&[]),
+        Err(FillError::NotPresent) => None,
+    }
+}
+
+// Replays the files that the arguments name, up to the word `wrong:`. Answers where the arguments go on.
+fn replay_arguments(rt: &HostRuntime, first: usize, tally: &mut Tally) -> usize {
+    let mut path = [0u8; PATH];
     for i in first..usize::MAX {
-        match replay_argument(rt, i, tally) {
-            Argument::File => {}
-            Argument::Wrong => return i + 1,
-            Argument::Missing => return i,
+        let Some(name) = argument(rt, i, &mut path) else {
+            return i;
+        };
+        if name == b"wrong:".as_slice() {
+            return i + 1;
         }
+        replay_file(rt, name, tally);
     }
     usize::MAX
 }
 
 fn main(rt: HostRuntime) {
     let out = rt.stdout();
-    let mut tally = [0usize; TALLIES];
+    let mut tally = Tally::new();
     let behind = replay_arguments(&rt, 1, &mut tally);
     say_tally(out, &tally);
-    let mut wrong = [0usize; TALLIES];
+    let mut wrong = Tally::new();
     replay_arguments(&rt, behind, &mut wrong);
     say_wrong(out, &wrong);
 }

@@ -1,230 +1,174 @@
-// The memory of a case, filled from the fields of a text. What does not fit or is not in the format gives a size above the room.
-ghost use Rattle.std.specs.Prelude.{◌≡◌, ◌≤◌, length, take};
+// The memory of a case, filled from the fields of a text.
+ghost use Rattle.std.specs.Prelude.{◌≡◌, take};
+ghost use Rattle.vectors.specs.Comparing.{size_of, lent_of};
 
-use crate::fields::{LARGEST, MALFORMED, number, seek, worth};
-use tokens::text::equal;
+use crate::fields::{number, split_once};
+use crate::trouble::Trouble;
 
 // The room for the bytes of a script or a list, and for the words of the records or the directory: more than any case uses.
 pub const ROOM: usize = 32768;
 
-// What stands for a size where there is no room.
-pub const NO_ROOM: usize = 32769;
-
-pub type Bytes = [u8; ROOM];
-
-pub type Words = [u32; ROOM];
-
-fn put(out: &mut Bytes, n: usize, b: u8) -> usize {
-    if n < ROOM {
-        out[n] = b;
-        return n + 1;
-    }
-    if n == MALFORMED { n } else { NO_ROOM }
+// What a line says, at the start of a room, or why it was not taken. Behind it stands what lines before it left, so that a call
+// behind a line that was not taken is lent the whole room: a Vec, which ends at its length, would lose that.
+#[derive(Clone, Copy)]
+pub struct Memory<T> {
+    room: [T; ROOM],
+    size: Result<usize, Trouble>,
 }
 
-fn put_pair(out: &mut Bytes, n: usize, high: u8, low: u8) -> usize {
-    let h = worth(high);
-    let l = worth(low);
-    if h == 16 {
-        return MALFORMED;
-    }
-    if l == 16 {
-        return MALFORMED;
-    }
-    put(out, n, (h * 16 + l) as u8)
-}
-
-// Puts the bytes of hex digits behind the `n` bytes of `out`, and answers how many there are then.
-fn append_once(s: &[u8], at: usize, end: usize, out: &mut Bytes, n: usize) -> usize
-    requires { (at ≤ end) × (end ≤ length s.now) }
-{
-    let mut i = at;
-    let mut k = n;
-    while 1 < end - i {
-        k = put_pair(out, k, s[i], s[i + 1]);
-        i += 2;
-    }
-    if i == end { k } else { MALFORMED }
-}
-
-// How often a run stands: once, or the number behind its star.
-fn times(s: &[u8], star: usize, end: usize) -> usize
-    requires { (star ≤ end) × (end ≤ length s.now) }
-{
-    if star == end {
-        return 1;
-    }
-    number(s, star + 1, end, false)
-}
-
-fn append_run(s: &[u8], at: usize, end: usize, out: &mut Bytes, n: usize) -> usize
-    requires { (at ≤ end) × (end ≤ length s.now) }
-{
-    let star = seek(s, at, end, b'*');
-    let mut left = times(s, star, end);
-    if star == at {
-        return MALFORMED;
-    }
-    if left == MALFORMED {
-        return MALFORMED;
-    }
-    let mut k = n;
-    while 0 < left {
-        k = append_once(s, at, star, out, k);
-        if ROOM < k {
-            return k;
+impl<T: Copy> Memory<T> {
+    pub fn new(zero: T) -> Memory<T> {
+        Memory {
+            room: [zero; ROOM],
+            size: Ok(0),
         }
-        left -= 1;
     }
-    k
-}
 
-fn is_none(s: &[u8], at: usize, end: usize) -> bool
-    requires { (at ≤ end) × (end ≤ length s.now) }
-{
-    equal(&s[at..end], b"-")
-}
+    pub fn clear(&mut self) {
+        self.size = Ok(0);
+    }
 
-fn append_runs(s: &[u8], at: usize, end: usize, out: &mut Bytes) -> usize
-    requires { (at ≤ end) × (end ≤ length s.now) }
-{
-    let mut i = at;
-    let mut k: usize = 0;
-    while i < end {
-        let comma = seek(s, i, end, b',');
-        k = append_run(s, i, comma, out, k);
-        if comma == end {
-            return k;
+    pub fn size(&self) -> Result<usize, Trouble> {
+        self.size
+    }
+
+    fn lent_size(&self) -> usize
+        ensures { result ≡ size_of self.now.size }
+    {
+        self.size.unwrap_or(ROOM).min(ROOM)
+    }
+
+    // What a call is lent.
+    pub fn lent(&self) -> &[T]
+        ensures { result.now ≡ lent_of self.now }
+    {
+        &self.room[..self.lent_size()]
+    }
+
+    pub fn lent_mut(&mut self) -> &mut [T] {
+        let n = self.lent_size();
+        let room = &mut self.room;
+        &mut room[..n]
+    }
+
+    // Puts an item behind those that are there, unless there was trouble.
+    fn push(&mut self, item: T) {
+        if let Ok(n) = self.size {
+            if n < ROOM {
+                self.room[n] = item;
+                self.size = Ok(n + 1);
+            } else {
+                self.size = Err(Trouble::NoRoom);
+            }
         }
-        i = comma + 1;
     }
-    MALFORMED
+
+    fn taken(&self) -> Result<(), Trouble> {
+        self.size.map(|_| ())
+    }
 }
 
-// Where the bytes begin that a line names, if the line defines the name from `name` to `past`; else 0.
-fn value_in(s: &[u8], at: usize, end: usize, name: usize, past: usize) -> usize
-    requires at_le_end { (at ≤ end) × (end ≤ length s.now) }
-    requires name_le_past { (name ≤ past) × (past ≤ length s.now) }
-    ensures { result ≤ end }
-{
-    let w = seek(s, at, end, b' ');
-    if w == end {
-        return 0;
+// What a run repeats, and how often: once, or the number behind its star.
+fn repeated(run: &[u8]) -> Option<(&[u8], u32)> {
+    match split_once(run, b'*') {
+        Some((item, times)) => Some((item, number(times, 10)?)),
+        None => Some((run, 1)),
     }
-    if !equal(&s[at..w], b"define") {
-        return 0;
-    }
-    let n = w + 1;
-    let f = seek(s, n, end, b' ');
-    if f == end {
-        return 0;
-    }
-    if !equal(&s[n..f], &s[name..past]) {
-        return 0;
-    }
-    f + 1
 }
 
-// Where the bytes begin that the first line to define a name gives it, or else the end of the text. Definitions stand at a
-// file's start, so this is a short way and saves a table.
-fn defined(s: &[u8], name: usize, past: usize) -> usize
-    requires { (name ≤ past) × (past ≤ length s.now) }
-    ensures { result ≤ length s.now }
-{
-    let mut at: usize = 0;
-    while at < s.len() {
-        let end = seek(s, at, s.len(), b'\n');
-        let v = value_in(s, at, end, name, past);
-        if 0 < v {
-            return v;
-        }
-        if end == s.len() {
-            return end;
-        }
-        at = end + 1;
+// The byte that two hex digits spell.
+fn byte(pair: &[u8]) -> Option<u8> {
+    if pair.len() == 2 {
+        u8::try_from(number(pair, 16)?).ok()
+    } else {
+        None
     }
-    s.len()
 }
 
-// Fills `out` with the bytes of a field, and answers how many there are.
-pub fn load_bytes(s: &[u8], at: usize, end: usize, out: &mut Bytes) -> usize
-    requires { (at ≤ end) × (end ≤ length s.now) }
-{
-    if at == end {
-        return MALFORMED;
-    }
-    if s[at] == b'@' {
-        let v = defined(s, at + 1, end);
-        let e = seek(s, v, s.len(), b'\n');
-        if is_none(s, v, e) {
-            return 0;
-        }
-        return append_runs(s, v, e, out);
-    }
-    if is_none(s, at, end) {
-        return 0;
-    }
-    append_runs(s, at, end, out)
+// The bytes that a line names, if it defines this name.
+fn value_in<'a>(line: &'a [u8], name: &[u8]) -> Option<&'a [u8]> {
+    let (defined, value) = split_once(line.strip_prefix(b"define ")?, b' ')?;
+    (defined == name).then_some(value)
 }
 
-fn fill(out: &mut Words, n: usize, word: u32, count: usize) -> usize {
-    let mut left = count;
-    let mut k = n;
-    while 0 < left {
-        if ROOM <= k {
-            return NO_ROOM;
-        }
-        out[k] = word;
-        k += 1;
-        left -= 1;
-    }
-    k
+// The bytes that the first line to define a name gives it. Definitions stand at a file's start, so this is a short way and
+// saves a table.
+fn defined<'a>(file: &'a [u8], name: &[u8]) -> Option<&'a [u8]> {
+    file.split(|b| *b == b'\n')
+        .find_map(|line| value_in(line, name))
 }
 
-fn word_run(s: &[u8], at: usize, end: usize, out: &mut Words, n: usize) -> usize
-    requires { (at ≤ end) × (end ≤ length s.now) }
-{
-    let star = seek(s, at, end, b'*');
-    let word = number(s, at, star, true);
-    let count = times(s, star, end);
-    if LARGEST < word {
-        return MALFORMED;
+impl Memory<u8> {
+    fn append_once(&mut self, digits: &[u8]) {
+        for pair in digits.chunks(2) {
+            match byte(pair) {
+                Some(b) => self.push(b),
+                None => self.size = Err(Trouble::Malformed),
+            }
+        }
     }
-    if count == MALFORMED {
-        return MALFORMED;
+
+    fn append_run(&mut self, run: &[u8]) {
+        match repeated(run) {
+            Some((digits, times)) if !digits.is_empty() => {
+                for _ in 0..times {
+                    self.append_once(digits);
+                    if self.size.is_err() {
+                        return;
+                    }
+                }
+            }
+            _ => self.size = Err(Trouble::Malformed),
+        }
     }
-    fill(out, n, word as u32, count)
+
+    // Fills it with the bytes of a field, in a file that may define them. All runs are read, so that a field which is not in
+    // the format is told as that, also where there is no room.
+    pub fn load_bytes(&mut self, file: &[u8], field: &[u8]) -> Result<(), Trouble> {
+        let value = match field.strip_prefix(b"@") {
+            Some(name) => defined(file, name).unwrap_or(&[]),
+            None => field,
+        };
+        self.clear();
+        if value != b"-".as_slice() {
+            for run in value.split(|b| *b == b',') {
+                self.append_run(run);
+            }
+        }
+        self.taken()
+    }
 }
 
-// Fills `out` with the words of a field, and answers how many there are.
-pub fn load_words(s: &[u8], at: usize, end: usize, out: &mut Words) -> usize
-    requires { (at ≤ end) × (end ≤ length s.now) }
-{
-    if is_none(s, at, end) {
-        return 0;
-    }
-    let mut i = at;
-    let mut k: usize = 0;
-    while i < end {
-        let comma = seek(s, i, end, b',');
-        k = word_run(s, i, comma, out, k);
-        if ROOM < k {
-            return k;
+impl Memory<u32> {
+    fn append_run(&mut self, run: &[u8]) -> Result<(), Trouble> {
+        let (digits, times) = repeated(run).ok_or(Trouble::Malformed)?;
+        let word = number(digits, 16).ok_or(Trouble::Malformed)?;
+        for _ in 0..times {
+            self.push(word);
+            self.taken()?;
         }
-        if comma == end {
-            return k;
-        }
-        i = comma + 1;
+        Ok(())
     }
-    MALFORMED
+
+    // Fills it with the words of a field, up to the first run that is trouble.
+    pub fn load_words(&mut self, field: &[u8]) -> Result<(), Trouble> {
+        self.clear();
+        if field == b"-".as_slice() {
+            return Ok(());
+        }
+        for run in field.split(|b| *b == b',') {
+            if let Err(trouble) = self.append_run(run) {
+                self.size = Err(trouble);
+                return Err(trouble);
+            }
+        }
+        Ok(())
+    }
 }
 
 // The first `n` bytes, or all where there are fewer.
 pub fn front(s: &[u8], n: usize) -> &[u8]
     ensures { result.now ≡ take n s.now }
 {
-    if n < s.len() {
-        return &s[..n];
-    }
-    s
+    s.get(..n).unwrap_or(s)
 }

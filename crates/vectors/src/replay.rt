@@ -1,279 +1,157 @@
 // The lines of a file, one after the other.
-ghost use Rattle.std.specs.Prelude.{◌≤◌, length};
-
-use crate::calls::run;
-use crate::comparing::{DIFFERS, agrees, compare_left, is_left};
-use crate::fields::{MALFORMED, NUMBERS, Numbers, after, behind, number, numbers, seek};
-use crate::kinds::{
-    AMEND, CASE, COUNTS, DIRECTORY, EDITION, LISTS, NOTHING, PART, READ, RECORDS, SCRIPT, UNKNOWN,
-    kind_of,
-};
+use crate::case::Case;
+use crate::comparing::{agrees, compare_script, compare_words};
+use crate::fields::{first_field, number, numbers};
+use crate::kinds::{Kind, Left};
 use crate::lookups::take_part;
-use crate::memory::{Bytes, ROOM, Words, load_bytes, load_words};
-use crate::report::{say_answer, say_outcome};
-use crate::state::{
-    ASKED, CASE_AT, CURRENCIES_SIZE, DAYS_SIZE, DIRECTORY_SIZE, NAMED, RAN, RECORDS_SIZE,
-    RESERVED_SIZE, SCRIPT_SIZE, STATE, State, begin, keep_counts,
-};
-use crate::tally::{
-    GROUNDS, Tallies, count, count_compared, count_difference, count_line, count_outcome,
-};
+use crate::memory::Memory;
+use crate::report::{say_answer, say_trouble};
+use crate::tally::{Tally, count};
+use crate::trouble::Trouble;
+use amending::held::Held;
 use reading::reading::Answer;
 use std::io::Stdout;
 
-// The first of three sizes that is above the room, or else the last.
-fn worst(a: usize, b: usize, c: usize) -> usize {
-    if ROOM < a {
-        return a;
+impl<'a> Case<'a> {
+    fn take_lists(&mut self, fields: &[u8]) -> Result<(), Trouble> {
+        let (reserved, fields) = first_field(fields);
+        let (currencies, counters) = first_field(fields);
+        let reserved = self.names.reserved.load_bytes(self.file, reserved);
+        let currencies = self.names.currencies.load_bytes(self.file, currencies);
+        let counters = self.names.counters.load_bytes(self.file, counters);
+        reserved.and(currencies).and(counters)
     }
-    if ROOM < b { b } else { c }
-}
 
-fn take_lists(
-    s: &[u8],
-    at: usize,
-    end: usize,
-    reserved: &mut Bytes,
-    currencies: &mut Bytes,
-    days: &mut Bytes,
-    state: &mut State,
-) -> usize
-    requires { (at ≤ end) × (end ≤ length s.now) }
-{
-    let f = seek(s, at, end, b' ');
-    let g = behind(f, end);
-    let h = seek(s, g, end, b' ');
-    let i = behind(h, end);
-    let a = load_bytes(s, at, f, reserved);
-    let b = load_bytes(s, g, h, currencies);
-    let c = load_bytes(s, i, end, days);
-    state[RESERVED_SIZE] = a;
-    state[CURRENCIES_SIZE] = b;
-    state[DAYS_SIZE] = c;
-    worst(a, b, c)
-}
-
-fn take_counts(s: &[u8], at: usize, end: usize, state: &mut State) -> usize
-    requires { (at ≤ end) × (end ≤ length s.now) }
-{
-    let mut n = [0usize; NUMBERS];
-    if numbers(s, at, end, &mut n) != 6 {
-        return MALFORMED;
+    fn take_counts(&mut self, fields: &[u8]) -> Result<(), Trouble> {
+        let [bytes, statements, records, tokens, latest, edition] = numbers::<6>(fields).ok_or(
+            Trouble::Malformed,
+        )?;
+        self.held = Held {
+            bytes: bytes as usize,
+            statements: statements as usize,
+            records: records as usize,
+            tokens: tokens as usize,
+            latest: latest as usize,
+            edition,
+        };
+        Ok(())
     }
-    keep_counts(state, n[0], n[1], n[2], n[3], n[4], n[5]);
-    0
-}
 
-fn take_edition(s: &[u8], at: usize, end: usize, state: &mut State) -> usize
-    requires { (at ≤ end) × (end ≤ length s.now) }
-{
-    let n = number(s, at, end, false);
-    state[NAMED] = n;
-    if n == MALFORMED { n } else { 0 }
-}
+    // What spells no number names the edition 0, which there is not.
+    fn take_edition(&mut self, field: &[u8]) -> Result<(), Trouble> {
+        let named = number(field, 10);
+        self.edition = named.unwrap_or(0);
+        named.map(|_| ()).ok_or(Trouble::Malformed)
+    }
 
-fn compared(out: Stdout, answer: &Numbers, given: Answer, tally: &mut Tallies) -> usize {
-    let ground = answer[0];
-    count(tally, ground);
-    if agrees(answer, given) {
-        return 0;
-    }
-    count_difference(tally, ground);
-    say_answer(out, given);
-    DIFFERS
-}
-
-// Where the answer of a call begins: an amend's behind its statement and its text.
-fn answer_at(kind: usize, s: &[u8], at: usize, end: usize) -> usize
-    requires { (at ≤ end) × (end ≤ length s.now) }
-    ensures { (at ≤ result) × (result ≤ end) }
-{
-    if kind == READ {
-        return at;
-    }
-    after(s, after(s, at, end), end)
-}
-
-// Compares what a call gave, whose counts, latest date and edition are those of the calls that follow, with the stored answer.
-fn take_answer(
-    out: Stdout,
-    s: &[u8],
-    at: usize,
-    end: usize,
-    given: Answer,
-    state: &mut State,
-    tally: &mut Tallies,
-) -> usize
-    requires { (at ≤ end) × (end ≤ length s.now) }
-{
-    keep_counts(
-        state,
-        given.bytes,
-        given.statements,
-        given.records,
-        given.tokens,
-        given.latest,
-        given.edition as usize,
-    );
-    if ROOM < state[ASKED] {
-        return state[ASKED];
-    }
-    let mut answer = [0usize; NUMBERS];
-    if numbers(s, at, end, &mut answer) != NUMBERS {
-        return MALFORMED;
-    }
-    if GROUNDS <= answer[0] {
-        return MALFORMED;
-    }
-    compared(out, &answer, given, tally)
-}
-
-// Takes a line that begins a case, or says what memory holds or which edition is named.
-fn take_memory(
-    kind: usize,
-    s: &[u8],
-    at: usize,
-    end: usize,
-    script: &mut Bytes,
-    records: &mut Words,
-    directory: &mut Words,
-    state: &mut State,
-) -> usize
-    requires { (at ≤ end) × (end ≤ length s.now) }
-{
-    match kind {
-        CASE => {
-            begin(state, at);
-            0
+    // Takes a line that says what the first call is lent.
+    fn take_memory(&mut self, what: Left, field: &[u8]) -> Result<(), Trouble> {
+        match what {
+            Left::Script => self.slices.script.load_bytes(self.file, field),
+            Left::Records => self.slices.records.load_words(field),
+            Left::Directory => self.slices.directory.load_words(field),
+            Left::Same => Ok(()),
         }
-        SCRIPT => {
-            let n = load_bytes(s, at, end, script);
-            state[SCRIPT_SIZE] = n;
-            n
+    }
+
+    // Compares memory with what a line says that the call before must have left. `changed` is whether that changed any.
+    fn compare_left(&self, what: Left, field: &[u8], changed: bool) -> Result<(), Trouble> {
+        match what {
+            Left::Script => compare_script(self.out, self.file, field, &self.slices.script),
+            Left::Records => compare_words(self.out, field, &self.slices.records),
+            Left::Directory => compare_words(self.out, field, &self.slices.directory),
+            Left::Same if changed => Err(Trouble::Differs),
+            Left::Same => Ok(()),
         }
-        RECORDS => {
-            let n = load_words(s, at, end, records);
-            state[RECORDS_SIZE] = n;
-            n
+    }
+
+    // Compares what a call gave with the stored answer.
+    fn compare_answer(
+        &self,
+        stored: &[u8],
+        given: Answer,
+        tally: &mut Tally,
+    ) -> Result<(), Trouble> {
+        let stored = numbers(stored).ok_or(Trouble::Malformed)?;
+        let answered = tally
+            .grounds
+            .get_mut(stored[0] as usize)
+            .ok_or(Trouble::Malformed)?;
+        count(&mut answered.ran);
+        if agrees(&stored, given) {
+            return Ok(());
         }
-        DIRECTORY => {
-            let n = load_words(s, at, end, directory);
-            state[DIRECTORY_SIZE] = n;
-            n
+        count(&mut answered.differ);
+        say_answer(self.out, given);
+        Err(Trouble::Differs)
+    }
+
+    // Runs an amend with the statement and the text of a line. Where they are not in the format, it is run all the same, with a
+    // statement that no script has or the whole room; but its answer is not compared.
+    fn take_amend(&mut self, fields: &[u8], tally: &mut Tally) -> Result<(), Trouble> {
+        let (statement, fields) = first_field(fields);
+        let (text, answer) = first_field(fields);
+        let statement = number(statement, 10);
+        let mut lent = Memory::new(0);
+        let loaded = lent.load_bytes(self.file, text);
+        let given = self.amend(statement.map_or(usize::MAX, |n| n as usize), lent.lent());
+        statement.ok_or(Trouble::Malformed)?;
+        loaded?;
+        self.compare_answer(answer, given, tally)
+    }
+
+    // Takes the fields of a line.
+    fn take(&mut self, kind: Kind, fields: &'a [u8], tally: &mut Tally) -> Result<(), Trouble> {
+        match kind {
+            Kind::Nothing => {}
+            Kind::Case => {
+                count(&mut tally.cases);
+                self.begin(fields);
+            }
+            Kind::Lists => self.take_lists(fields)?,
+            Kind::Left(what) => match self.changed {
+                None => self.take_memory(what, fields)?,
+                Some(changed) => {
+                    count(&mut tally.compared);
+                    self.compare_left(what, fields, changed)?;
+                }
+            },
+            Kind::Counts => self.take_counts(fields)?,
+            Kind::Edition => self.take_edition(fields)?,
+            Kind::Read => {
+                count(&mut tally.reads);
+                let given = self.read();
+                self.compare_answer(fields, given, tally)?;
+            }
+            Kind::Amend => {
+                count(&mut tally.amends);
+                self.take_amend(fields, tally)?;
+            }
+            Kind::Part => {
+                count(&mut tally.parts);
+                take_part(self, fields)?;
+            }
         }
-        COUNTS => take_counts(s, at, end, state),
-        EDITION => take_edition(s, at, end, state),
-        UNKNOWN => MALFORMED,
-        _ => 0,
+        Ok(())
+    }
+
+    // Takes a line. An empty one and a comment mean nothing.
+    fn take_line(&mut self, line: &'a [u8], tally: &mut Tally) -> Result<(), Trouble> {
+        if line.is_empty() || line.starts_with(b"#") {
+            return Ok(());
+        }
+        let (word, fields) = first_field(line);
+        self.take(Kind::try_from(word)?, fields, tally)
     }
 }
 
-// Takes any other line. What the calls before must have left is compared.
-fn take_other(
-    out: Stdout,
-    kind: usize,
-    s: &[u8],
-    at: usize,
-    end: usize,
-    script: &mut Bytes,
-    records: &mut Words,
-    directory: &mut Words,
-    state: &mut State,
-    tally: &mut Tallies,
-) -> usize
-    requires { (at ≤ end) × (end ≤ length s.now) }
-{
-    if state[RAN] == 1 && is_left(kind) {
-        count_compared(tally);
-        return compare_left(out, kind, s, at, end, script, records, directory, state);
-    }
-    take_memory(kind, s, at, end, script, records, directory, state)
-}
-
-// The kind of a line. An empty one and a comment mean nothing.
-fn kind_at(s: &[u8], at: usize, end: usize) -> usize
-    requires { (at ≤ end) × (end ≤ length s.now) }
-{
-    if at == end {
-        return NOTHING;
-    }
-    if s[at] == b'#' {
-        return NOTHING;
-    }
-    let w = seek(s, at, end, b' ');
-    kind_of(&s[at..w])
-}
-
-// Takes the fields of a line. What it comes to is above the room where it differs, is not in the format or has no room.
-fn take_line(
-    out: Stdout,
-    kind: usize,
-    s: &[u8],
-    at: usize,
-    end: usize,
-    script: &mut Bytes,
-    records: &mut Words,
-    directory: &mut Words,
-    reserved: &mut Bytes,
-    currencies: &mut Bytes,
-    days: &mut Bytes,
-    state: &mut State,
-    tally: &mut Tallies,
-) -> usize
-    requires { (at ≤ end) × (end ≤ length s.now) }
-{
-    match kind {
-        READ | AMEND => {
-            let from = answer_at(kind, s, at, end);
-            let given = run(
-                kind, s, at, end, script, records, directory, reserved, currencies, days, state,
-            );
-            take_answer(out, s, from, end, given, state, tally)
+// Replays the lines of a file, and tells of each that differs or was not taken, so that nothing is passed over.
+pub fn replay(out: Stdout, path: &[u8], file: &[u8], tally: &mut Tally) {
+    let mut case = Case::new(out, file);
+    for line in file.split(|b| *b == b'\n') {
+        if let Err(trouble) = case.take_line(line, tally) {
+            tally.count_trouble(trouble);
+            say_trouble(out, path, case.text, line, trouble);
         }
-        LISTS => take_lists(s, at, end, reserved, currencies, days, state),
-        PART => take_part(out, s, at, end, script, currencies, state),
-        _ => take_other(
-            out, kind, s, at, end, script, records, directory, state, tally,
-        ),
-    }
-}
-
-// Replays the lines of a file.
-pub fn replay(out: Stdout, path: &[u8], s: &[u8], tally: &mut Tallies) {
-    let mut script = [0u8; 32768];
-    let mut records = [0u32; 32768];
-    let mut directory = [0u32; 32768];
-    let mut reserved = [0u8; 32768];
-    let mut currencies = [0u8; 32768];
-    let mut days = [0u8; 32768];
-    let mut state = [0usize; STATE];
-    let mut at: usize = 0;
-    while at < s.len() {
-        let end = seek(s, at, s.len(), b'\n');
-        let kind = kind_at(s, at, end);
-        count_line(tally, kind);
-        let outcome = take_line(
-            out,
-            kind,
-            s,
-            after(s, at, end),
-            end,
-            &mut script,
-            &mut records,
-            &mut directory,
-            &mut reserved,
-            &mut currencies,
-            &mut days,
-            &mut state,
-            tally,
-        );
-        if ROOM < outcome {
-            count_outcome(tally, outcome);
-            say_outcome(out, path, s, state[CASE_AT], at, outcome);
-        }
-        if end == s.len() {
-            return;
-        }
-        at = end + 1;
     }
 }

@@ -1,85 +1,46 @@
-// What the program writes.
-use crate::comparing::DIFFERS;
-use crate::fields::seek;
-use crate::kinds::{AMEND, CASE, PART, READ};
-use crate::memory::NO_ROOM;
-use crate::tally::{COMPARED, DIFFERENCES, GROUNDS, LINES, REFUSED, Tallies};
+// What the program writes. What fails to be written is passed over, so that a run whose output is closed still ends.
+use crate::tally::Tally;
+use crate::trouble::Trouble;
 use reading::parts::Place;
 use reading::reading::Answer;
 use std::io::Stdout;
 
-// What fails to be written is passed over, so that a run whose output is closed still ends.
 pub fn say(out: Stdout, text: &[u8]) {
     let _ = out.write_all(text);
 }
 
-fn say_number(out: Stdout, n: usize) {
-    let _ = out.print(n);
-}
-
-// The line of a text that a place is in, from that place on.
-fn say_line(out: Stdout, s: &[u8], at: usize) {
-    if at <= s.len() {
-        let end = seek(s, at, s.len(), b'\n');
-        say(out, &s[at..end]);
-    }
-}
-
-// What a call gave that differs. `say_outcome` goes on with the file, the case and the line, which has the stored answer.
+// What a call gave that differs. `say_trouble` goes on with the file, the case and the line, which has the stored answer.
 pub fn say_answer(out: Stdout, a: Answer) {
-    say(out, b"given ");
-    say_number(out, a.number as usize);
-    say(out, b" ");
-    say_number(out, a.byte);
-    say(out, b" ");
-    say_number(out, a.line);
-    say(out, b" ");
-    say_number(out, a.column);
-    say(out, b" bytes ");
-    say_number(out, a.bytes);
-    say(out, b" statements ");
-    say_number(out, a.statements);
-    say(out, b" records ");
-    say_number(out, a.records);
-    say(out, b" tokens ");
-    say_number(out, a.tokens);
-    say(out, b" latest ");
-    say_number(out, a.latest);
-    say(out, b" edition ");
-    say_number(out, a.edition as usize);
-    say(out, b" for ");
-}
-
-fn say_byte(out: Stdout, b: u8) {
-    let _ = print!(out; "{b:02x}");
+    let _ = print!(out;
+        "given {} {} {} {} bytes {} statements {} records {} tokens {} latest {} edition {} for ",
+        a.number,
+        a.byte,
+        a.line,
+        a.column,
+        a.bytes,
+        a.statements,
+        a.records,
+        a.tokens,
+        a.latest,
+        a.edition
+    );
 }
 
 fn say_bytes(out: Stdout, bytes: &[u8]) {
-    let mut i: usize = 0;
-    while i < bytes.len() {
-        say_byte(out, bytes[i]);
-        i += 1;
+    for b in bytes {
+        let _ = print!(out; "{b:02x}");
     }
 }
 
 // Where a lookup found a part, if not at the stored place: its source, place and length.
 pub fn say_place(out: Stdout, p: Place) {
-    if p.in_list {
-        say(out, b"found c ");
-    } else {
-        say(out, b"found s ");
-    }
-    say_number(out, p.from);
-    say(out, b" ");
-    say_number(out, p.size);
-    say(out, b" for ");
+    let source = if p.in_list { 'c' } else { 's' };
+    let _ = print!(out; "found {source} {} {} for ", p.from, p.size);
 }
 
 // A part that a lookup handed back and that differs.
 pub fn say_part(out: Stdout, part: &[u8]) {
-    say(out, b"given ");
-    say_number(out, part.len());
-    say(out, b" bytes ");
+    let _ = print!(out; "given {} bytes ", part.len());
     say_bytes(out, part);
     say(out, b" for ");
 }
@@ -93,78 +54,40 @@ pub fn say_left(out: Stdout, bytes: &[u8]) {
 
 // A word that a call left and that differs, and where it stands, from 0.
 pub fn say_word(out: Stdout, at: usize, word: u32) {
-    say(out, b"left ");
-    let _ = print!(out; "{word:x}");
-    say(out, b" at word ");
-    say_number(out, at);
-    say(out, b" for ");
+    let _ = print!(out; "left {word:x} at word {at} for ");
 }
 
-fn say_reason(out: Stdout, outcome: usize) {
-    if outcome == DIFFERS {
-        say(out, b": expected: ");
-        return;
-    }
-    if outcome == NO_ROOM {
-        say(out, b": no room: ");
-        return;
-    }
-    say(out, b": not in the format: ");
-}
-
-// Tells of a line that differs or was not taken, so that nothing is passed over: the file, the case's text and the line.
-pub fn say_outcome(out: Stdout, path: &[u8], s: &[u8], case: usize, at: usize, outcome: usize) {
+// Tells of a line that differs or was not taken: the file, the case's text and the line.
+pub fn say_trouble(out: Stdout, path: &[u8], case: &[u8], line: &[u8], trouble: Trouble) {
     say(out, path);
     say(out, b": ");
-    say_line(out, s, case);
-    say_reason(out, outcome);
-    say_line(out, s, at);
+    say(out, case);
+    let _ = print!(out; ": {trouble}: ");
+    say(out, line);
     say(out, b"\n");
-}
-
-fn say_ground(out: Stdout, g: usize, ran: usize, differ: usize) {
-    if ran == 0 {
-        return;
-    }
-    say(out, b"ground ");
-    say_number(out, g);
-    say(out, b": ");
-    say_number(out, ran);
-    say(out, b" cases, ");
-    say_number(out, differ);
-    say(out, b" differ\n");
-}
-
-fn say_count(out: Stdout, what: &[u8], n: usize) {
-    say(out, what);
-    say(out, b": ");
-    say_number(out, n);
-    say(out, b"\n");
-}
-
-fn say_grounds(out: Stdout, tally: &Tallies) {
-    let mut g: usize = 0;
-    while g < GROUNDS {
-        say_ground(out, g, tally[g], tally[GROUNDS + g]);
-        g += 1;
-    }
 }
 
 // The counts of a whole run.
-pub fn say_tally(out: Stdout, tally: &Tallies) {
-    say_grounds(out, tally);
-    say_count(out, b"cases", tally[LINES + CASE]);
-    say_count(out, b"reads", tally[LINES + READ]);
-    say_count(out, b"amends", tally[LINES + AMEND]);
-    say_count(out, b"parts", tally[LINES + PART]);
-    say_count(out, b"lines of memory compared", tally[COMPARED]);
-    say_count(out, b"differences", tally[DIFFERENCES]);
-    say_count(out, b"lines not taken", tally[REFUSED]);
+pub fn say_tally(out: Stdout, tally: &Tally) {
+    for (number, ground) in tally.grounds.iter().enumerate() {
+        let ran = ground.ran;
+        let differ = ground.differ;
+        if ran != 0 {
+            let _ = println!(out; "ground {number}: {ran} cases, {differ} differ");
+        }
+    }
+    let _ = println!(out; "cases: {}", tally.cases);
+    let _ = println!(out; "reads: {}", tally.reads);
+    let _ = println!(out; "amends: {}", tally.amends);
+    let _ = println!(out; "parts: {}", tally.parts);
+    let _ = println!(out; "lines of memory compared: {}", tally.compared);
+    let _ = println!(out; "differences: {}", tally.differences);
+    let _ = println!(out; "lines not taken: {}", tally.refused);
 }
 
 // The counts of the cases that are wrong on purpose: each must differ.
-pub fn say_wrong(out: Stdout, tally: &Tallies) {
-    say_count(out, b"cases wrong on purpose", tally[LINES + CASE]);
-    say_count(out, b"differences of these", tally[DIFFERENCES]);
-    say_count(out, b"lines of these not taken", tally[REFUSED]);
+pub fn say_wrong(out: Stdout, tally: &Tally) {
+    let _ = println!(out; "cases wrong on purpose: {}", tally.cases);
+    let _ = println!(out; "differences of these: {}", tally.differences);
+    let _ = println!(out; "lines of these not taken: {}", tally.refused);
 }

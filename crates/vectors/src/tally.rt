@@ -1,56 +1,54 @@
-// What was counted, in one array: places 0 to 26 hold the reads and amends with each answer, those from 27 on those of them
-// that differ, then the lines of each kind, and last the lines of memory that were compared, all differences and the lines that
-// were not taken.
-use crate::comparing::DIFFERS;
-use crate::kinds::UNKNOWN;
+// What was counted. No run reaches the largest number, which none counts beyond.
+use crate::trouble::Trouble;
 
-pub const TALLIES: usize = 72;
-
-pub type Tallies = [usize; TALLIES];
-
+// The grounds on which a call answers, 0 among them.
 pub const GROUNDS: usize = 27;
 
-pub const LINES: usize = 54;
+// The reads and amends with an answer, and those of them that differ.
+#[derive(Clone, Copy)]
+pub struct Answered {
+    pub ran: u32,
+    pub differ: u32,
+}
 
-pub const COMPARED: usize = 69;
+#[derive(Drop)]
+pub struct Tally {
+    pub grounds: [Answered; GROUNDS],
+    pub cases: u32,
+    pub reads: u32,
+    pub amends: u32,
+    pub parts: u32,
+    // The lines that say what a call must have left.
+    pub compared: u32,
+    pub differences: u32,
+    // The lines that were not taken.
+    pub refused: u32,
+}
 
-pub const DIFFERENCES: usize = 70;
+// One more.
+pub fn count(n: &mut u32) {
+    *n = n.saturating_add(1);
+}
 
-pub const REFUSED: usize = 71;
-
-// One more at a place, up to a number that no run reaches.
-pub fn count(tally: &mut Tallies, at: usize) {
-    if at < TALLIES {
-        let n = tally[at];
-        if n < 4294967295 {
-            tally[at] = n + 1;
+impl Tally {
+    pub fn new() -> Tally {
+        Tally {
+            grounds: [Answered { ran: 0, differ: 0 }; GROUNDS],
+            cases: 0,
+            reads: 0,
+            amends: 0,
+            parts: 0,
+            compared: 0,
+            differences: 0,
+            refused: 0,
         }
     }
-}
 
-// A call with this answer gave another.
-pub fn count_difference(tally: &mut Tallies, ground: usize) {
-    if ground < GROUNDS {
-        count(tally, GROUNDS + ground);
-    }
-}
-
-// A line says what a call that was run must have left.
-pub fn count_compared(tally: &mut Tallies) {
-    count(tally, COMPARED);
-}
-
-// A line differs or was not taken.
-pub fn count_outcome(tally: &mut Tallies, outcome: usize) {
-    if outcome == DIFFERS {
-        count(tally, DIFFERENCES);
-        return;
-    }
-    count(tally, REFUSED);
-}
-
-pub fn count_line(tally: &mut Tallies, kind: usize) {
-    if kind <= UNKNOWN {
-        count(tally, LINES + kind);
+    // A line differs or was not taken.
+    pub fn count_trouble(&mut self, trouble: Trouble) {
+        match trouble {
+            Trouble::Differs => count(&mut self.differences),
+            Trouble::NoRoom | Trouble::Malformed => count(&mut self.refused),
+        }
     }
 }

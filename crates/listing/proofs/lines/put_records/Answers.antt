@@ -1,19 +1,17 @@
--- What stands in memory and the lines of the records that are left make all the lines, and the records that are left fall.
-use borrow.Author.Rules.{rules}
-use Rattle.listing.proofs.LineLaws.{going_on, going_end, records_room, records_start, records_more, records_done}
+-- What was put and the lines of the records that are left make all the lines.
+use Rattle.std.specs.String.{string_bytes}
+use native.Mathlib.Omega.{arith}
+use Rattle.listing.proofs.LineLaws.{records_on, records_done}
 use Rattle.listing.proofs.lines.put_records.Goals as goal
 
-pub loop-i-init : goal.loop-i-init
-loop-i-init c = (search rules, records_start _ _ _ _)
-
-pub put_record-k-requires : goal.put_record-k-requires
-put_record-k-requires c = (records_room c.args.records.now c.args.count c.loop-i.i c.loop-i.invariant.1 c.loop-i-test.true c.requires.0 c.requires.1, search rules)
-
 pub loop-i-preserved : goal.loop-i-preserved
-loop-i-preserved c = (search rules, going_on c.loop-i.invariant.1 (records_more c.args.records.now c.args.count c.loop-i.i c.loop-i-test.true) c.put_record-k.ensures)
-
-pub shape_of-out : goal.shape_of-out
-shape_of-out c = c.loop-i.invariant.1.size
+loop-i-preserved c =
+    let l = c.loop-i in
+    let parts = c.split_at in (
+      omega arith,
+      records_on (string_bytes l.text) (string_bytes c.put_line.new.text) l.rest.now parts.result.0.now parts.result.1.now _ c.args.count l.i c.loop-i-test.true l.invariant.1
+          parts.ensures.front parts.ensures.back c.in_ok-put_line.ensures,
+    )
 
 pub returns : goal.returns
-returns c = going_end c.loop-i.invariant.1 (records_done c.args.records.now c.args.count c.loop-i.i c.loop-i-test.false)
+returns c = records_done (string_bytes c.loop-i.text) c.loop-i.rest.now _ c.args.count c.loop-i.i c.loop-i.invariant.1 c.loop-i-test.false

@@ -1,13 +1,12 @@
--- What stands in memory and the lines of the records that are left make all the lines, and the records that are left fall.
+-- What was put and the lines of the records that are left make all the lines.
+use Rattle.std.specs.String.{string_bytes}
+use mathlib.Core.Path.{◌≡◌}
+use mathlib.Core.List.{◌++◌}
 use Prim.Native.Nat.{◌*◌, ◌-◌, ◌≤◌}
-use lib.ListN.{drop}
+use lib.ListN.{length}
 use Rattle.grammar.specs.Sizes.{record_width}
 use Rattle.listing.specs.Lines.{record_lines}
-use Rattle.listing.proofs.LineLaws.{Going}
 use Rattle.listing.proofs.lines.put_records.Given as goal
 
 abbrev pub invariant-loop-i : goal.invariant-loop-i
-invariant-loop-i l = (l.i ≤ l.count) × Going l.initial.out l.at (record_lines l.count l.records) l.k l.out (record_lines (l.count - l.i) (drop (l.i * record_width) l.records))
-
-abbrev pub decreases-loop-i : goal.decreases-loop-i
-decreases-loop-i l = l.count - l.i
+invariant-loop-i l = (record_width * (l.count - l.i) ≤ length l.rest) × (string_bytes l.text ++ record_lines (l.count - l.i) l.rest ≡ string_bytes l.initial.text ++ record_lines l.count l.records)
