@@ -15,10 +15,8 @@ use Rattle.tokens.specs.Names.{push, names, ended, place, good_name, good_names,
 use Rattle.tokens.proofs.Outcomes.{one_outcome}
 use Rattle.tokens.proofs.NameLaws.{and_true_both, names_feed, names_other}
 use Rattle.tokens.proofs.Shapes.{same_eq}
-use Rattle.reading.specs.Parts.{Span, span, Part, of_script, of_list, empty, text_at, lines, name_at, currency_at, part_at, part_named, name_in, placed, PartOf, HandsBack}
+use Rattle.reading.specs.Parts.{Name, Text, Currency, Nothing, Span, span, Part, of_script, of_list, empty, text_at, lines, name_at, currency_at, part_at, part_named, name_in, placed, PartOf, HandsBack}
 use Rattle.reading.specs.declared.parts.Place.{Place}
-use Rattle.reading.specs.declared.parts.Name.{Name}
-use Rattle.reading.specs.declared.parts.Name.TheVariants.{Text, Currency, Nothing}
 
 -- ---- slices
 

@@ -1,11 +1,11 @@
 -- The lookup: which part of the script, or of the list of currencies, a record names.
-use Rattle.std.specs.Prelude.{◌≡◌, Bool, true, false, ◌&&◌, ◌||◌, List, [], ◌∷◌, ◌++◌, ℕ, zero, suc, ◌+◌, eqb, leb, ltb, length, get_or, take, drop, if◌then◌else◌}
+use Rattle.std.specs.Prelude.{◌≡◌, Bool, true, false, ◌&&◌, ◌||◌, Option, Some, None, List, [], ◌∷◌, ◌++◌, ℕ, zero, suc, ◌+◌, eqb, leb, ltb, length, get_or, take, drop, if◌then◌else◌}
 use Rattle.std.specs.Borrow.{Bor}
 use Rattle.tokens.specs.Names.{names, good_list}
 use Rattle.grammar.specs.Sizes.{record_width}
 use Rattle.reading.specs.declared.parts.Place.{Place}
-use Rattle.reading.specs.declared.parts.Name.{Name}
-use Rattle.reading.specs.declared.parts.Name.TheVariants.{Text, Currency, Nothing}
+use Rattle.reading.specs.declared.parts.Name.{Name as Given}
+use Rattle.reading.specs.declared.parts.Name.TheVariants as given
 
 -- where a part begins, and its length
 pub record Span : Type 0 where
@@ -25,6 +25,18 @@ abbrev pub empty : Span
 empty = span 0 0
 
 -- ---- what the words of a record say of its names
+
+-- bytes of the script, from the statement's start; a currency, by its place in the list plus 1; or none
+pub data Name : Type 0 where
+  Text : ℕ → ℕ → Name
+  Currency : ℕ → Name
+  Nothing : Name
+
+-- as the code has it
+abbrev pub as_name : Option Given → Name
+as_name None = Nothing
+as_name (Some (given.Text a n)) = Text a n
+as_name (Some (given.Currency k)) = Currency k
 
 -- 34: date, curve start (0 absent), length
 abbrev pub curve_name : ℕ → ℕ → Name

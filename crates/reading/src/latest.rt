@@ -1,26 +1,18 @@
 // The latest date of records in lent memory: a day count, or 0 where they have none.
-ghost use Rattle.std.specs.Prelude.{◌≡◌, max};
+ghost use Rattle.std.specs.Prelude.{◌≡◌};
 ghost use Rattle.grammar.specs.Latest.{date_of};
 ghost use Rattle.reading.specs.Rows.{latest_between};
 
-use crate::records::Node;
+use crate::records::{DF, EQUITY_SPOT, Node, PAYS, RATE_INDEX, SPOT};
 
-pub fn later(a: u32, b: u32) -> u32
-    ensures { result ≡ max a b }
-{
-    if a < b { b } else { a }
-}
-
-// The date of a record, of its dates the later, by its kind: Spot, equity spot, Df, RateIndex, Pays.
+// The date of a record, of its dates the later, by its kind.
 fn date_of(kind: u32, f1: u32, f3: u32, f4: u32) -> u32
     ensures { result ≡ date_of kind f1 f3 f4 }
 {
     match kind {
-        32 => f3,
-        33 => f3,
-        34 => f1,
-        35 => later(f3, f4),
-        36 => f1,
+        SPOT | EQUITY_SPOT => f3,
+        DF | PAYS => f1,
+        RATE_INDEX => f3.max(f4),
         _ => 0,
     }
 }
@@ -32,9 +24,8 @@ pub fn latest_of(records: &[u32], n: u32, m: u32) -> u32
     if records.len() / Node::WIDTH < m as usize {
         return 0;
     }
-    let mut i = n;
     let mut latest: u32 = 0;
-    while i < m {
+    for i in n..m {
         let at = Node::WIDTH * i as usize;
         let date = date_of(
             records[at],
@@ -42,8 +33,7 @@ pub fn latest_of(records: &[u32], n: u32, m: u32) -> u32
             records[at + 5],
             records[at + 6],
         );
-        latest = later(latest, date);
-        i += 1;
+        latest = latest.max(date);
     }
     latest
 }

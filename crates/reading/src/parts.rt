@@ -1,17 +1,16 @@
 // The lookup: the name that a record holds, handed back as a part of the script or of the list of currencies.
 ghost use Rattle.std.specs.Prelude.{◌≡◌, length};
-ghost use Rattle.reading.specs.Parts.{HandsBack, of_script, empty, first_name, second_name, name_in, text_at, currency_at, part_named, placed};
+ghost use Rattle.reading.specs.Parts.{HandsBack, as_name, of_script, empty, first_name, second_name, name_in, text_at, currency_at, part_named, placed};
 
-use crate::records::Node;
+use crate::records::{DF, EQUITY_SPOT, FOR_EACH, Node, PAYS, RATE_INDEX, SPOT, STRING, VARIABLE};
 use tokens::names::is_well_formed;
 
-// What a record's words say of a name: bytes of the script, from the statement's start; a currency, by its place in the
-// list plus 1; or none.
-#[derive(Drop)]
+// What a record's words say of a name: bytes of the script, from the statement's start, or a currency, by its place in the
+// list plus 1.
+#[derive(Clone, Copy)]
 enum Name {
     Text(u32, u32),
     Currency(u32),
-    Nothing,
 }
 
 // Where a part stands: in the list of currencies or in the script, from which byte, and how many.
@@ -43,13 +42,14 @@ pub fn part<'a>(
 }
 
 // The same part by numbers, for callers that keep no slice.
+#[tactic(auto, unfolding(crate::specs::Parts::part_at))]
 pub fn place_of(script: &[u8], currencies: &[u8], record: &[u32], start: u32, second: bool) -> Place
     ensures { result ≡ placed (part_named script.now currencies.now «record».now start second) }
 {
     match name_in(record, second) {
-        Name::Text(at, size) => text_at(script, start, at, size),
-        Name::Currency(number) => currency_at(currencies, number),
-        Name::Nothing => nowhere(),
+        Some(Name::Text(at, size)) => text_at(script, start, at, size),
+        Some(Name::Currency(number)) => currency_at(currencies, number),
+        None => nowhere(),
     }
 }
 
@@ -64,11 +64,12 @@ fn nowhere() -> Place
     }
 }
 
-fn name_in(record: &[u32], second: bool) -> Name
-    ensures { result ≡ name_in «record».now second }
+#[tactic(auto, unfolding(crate::specs::Parts::name_in))]
+fn name_in(record: &[u32], second: bool) -> Option<Name>
+    ensures { as_name result ≡ name_in «record».now second }
 {
     if record.len() < Node::WIDTH {
-        return Name::Nothing;
+        return None;
     }
     if second {
         return second_name(record[0], record[4]);
@@ -76,33 +77,30 @@ fn name_in(record: &[u32], second: bool) -> Name
     first_name(record[0], record[3], record[4], record[5])
 }
 
-fn first_name(kind: u32, f1: u32, f2: u32, f3: u32) -> Name
-    ensures { result ≡ first_name kind f1 f2 f3 }
+#[tactic(auto, unfolding(crate::specs::Parts::first_name))]
+fn first_name(kind: u32, f1: u32, f2: u32, f3: u32) -> Option<Name>
+    ensures { as_name result ≡ first_name kind f1 f2 f3 }
 {
     match kind {
-        1 | 5 | 33 | 35 | 39 => Name::Text(f1, f2),
-        32 => Name::Currency(f1),
-        34 => {
-            if f2 == 0 {
-                return Name::Nothing;
-            }
-            Name::Text(f2, f3)
-        }
-        36 => Name::Currency(f2),
-        _ => Name::Nothing,
+        VARIABLE | STRING | EQUITY_SPOT | RATE_INDEX | FOR_EACH => Some(Name::Text(f1, f2)),
+        DF if f2 != 0 => Some(Name::Text(f2, f3)),
+        SPOT => Some(Name::Currency(f1)),
+        PAYS => Some(Name::Currency(f2)),
+        _ => None,
     }
 }
 
-fn second_name(kind: u32, f2: u32) -> Name
-    ensures { result ≡ second_name kind f2 }
+fn second_name(kind: u32, f2: u32) -> Option<Name>
+    ensures { as_name result ≡ second_name kind f2 }
 {
-    if kind == 32 {
-        return Name::Currency(f2);
+    match kind {
+        SPOT => Some(Name::Currency(f2)),
+        _ => None,
     }
-    Name::Nothing
 }
 
 // The sums are made in 64 bits, where they cannot wrap, so no place past 32 bits is taken for one inside.
+#[tactic(auto, unfolding(crate::specs::Parts::text_at))]
 fn text_at(script: &[u8], start: u32, at: u32, size: u32) -> Place
     ensures { result ≡ placed (of_script (text_at (length script.now) start at size)) }
 {
@@ -119,13 +117,11 @@ fn text_at(script: &[u8], start: u32, at: u32, size: u32) -> Place
 
 // In a list that is well formed each currency has three bytes and its line feed. So the place of a name, which the
 // definition counts from the names before it, is computed here, and the list is not walked again.
+#[tactic(auto, using(crate::proofs::PartLaws::currency_none, crate::proofs::PartLaws::currency_malformed, crate::proofs::PartLaws::currency_is, crate::proofs::PartLaws::currency_outside))]
 fn currency_at(currencies: &[u8], number: u32) -> Place
     ensures { result ≡ placed (currency_at currencies.now number) }
 {
-    if number == 0 {
-        return nowhere();
-    }
-    if !is_well_formed(true, currencies) {
+    if number == 0 || !is_well_formed(true, currencies) {
         return nowhere();
     }
     let from = (number as usize - 1) * 4;

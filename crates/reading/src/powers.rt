@@ -4,7 +4,7 @@
 ghost use Rattle.std.specs.Prelude.{◌≡◌, true, ◌+◌, ◌≤◌};
 ghost use Rattle.reading.specs.Powers.{Marks, Raises, Closes, sign_of, Steps};
 
-use crate::records::{Joined, Node, join, put};
+use crate::records::{Joined, Kind, Node, join, put};
 use tokens::codes::POWER;
 
 // More than any kind.
@@ -53,7 +53,7 @@ fn raise(out: &mut [u32], n: u32, fits: u32, m: u32)
             out,
             j,
             Node {
-                kind: 12,
+                kind: Kind::Pow as u32,
                 nodes: j - e + 1,
                 parts: 2,
                 f1: 0,
@@ -87,7 +87,7 @@ fn raised(out: &mut [u32], count: u32, n: u32, fits: u32, m: u32, p: u16) -> Joi
 
 // What a turn of the chain leaves: how many records there are then, where those end that waiting operands fill, and where the
 // string of the last one stands.
-#[derive(Drop)]
+#[derive(Clone, Copy)]
 pub struct Stepped {
     pub records: u32,
     pub fits: u32,

@@ -55,6 +55,23 @@ impl Kind {
     }
 }
 
+// The numbers of the kinds that hold names or dates, as memory has them.
+pub const VARIABLE: u32 = Kind::Variable as u32;
+
+pub const STRING: u32 = Kind::String as u32;
+
+pub const SPOT: u32 = Kind::Spot as u32;
+
+pub const EQUITY_SPOT: u32 = Kind::EquitySpot as u32;
+
+pub const DF: u32 = Kind::Df as u32;
+
+pub const RATE_INDEX: u32 = Kind::RateIndex as u32;
+
+pub const PAYS: u32 = Kind::Pays as u32;
+
+pub const FOR_EACH: u32 = Kind::ForEach as u32;
+
 // The words of a record: kind, nodes in subtree, direct parts, f1 to f4, place.
 #[derive(Clone, Copy)]
 pub struct Node {

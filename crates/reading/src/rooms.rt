@@ -1,5 +1,5 @@
 // How many bytes, records and statements lent memory has room for, and how many tokens there may be.
-ghost use Rattle.std.specs.Prelude.{◌≡◌, min, ltb, if◌then◌else◌};
+ghost use Rattle.std.specs.Prelude.{◌≡◌, min};
 ghost use Rattle.tokens.specs.Limits.{most_bytes};
 ghost use Rattle.grammar.specs.Sizes.{record_room, statement_room};
 
@@ -18,26 +18,20 @@ pub const MOST_STATEMENTS: usize = Entry::MOST;
 
 pub const MOST_TOKENS: usize = Cursor::TOKENS;
 
-fn capped(most: usize, n: usize) -> usize
-    ensures { result ≡ (if ltb most n then most else n) }
-{
-    if most < n { most } else { n }
-}
-
 pub fn byte_room(bytes: usize) -> usize
     ensures { result ≡ min most_bytes bytes }
 {
-    capped(Cursor::BYTES, bytes)
+    bytes.min(Cursor::BYTES)
 }
 
 pub fn record_room(words: usize) -> usize
     ensures { result ≡ record_room words }
 {
-    capped(Node::MOST, words / Node::WIDTH)
+    (words / Node::WIDTH).min(Node::MOST)
 }
 
 pub fn statement_room(words: usize) -> usize
     ensures { result ≡ statement_room words }
 {
-    capped(Entry::MOST, words / Entry::WIDTH)
+    (words / Entry::WIDTH).min(Entry::MOST)
 }

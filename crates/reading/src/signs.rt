@@ -12,53 +12,35 @@ use tokens::codes::{
 pub fn is_tighter(two: bool, alone: bool, code: u8) -> bool
     ensures { result ≡ tighter_sign two alone code }
 {
-    if alone {
-        return false;
-    }
-    two && code == AND
+    !alone && two && code == AND
 }
 
 // `or`, and `and` where it is of one level with it.
 pub fn is_looser(two: bool, alone: bool, code: u8) -> bool
     ensures { result ≡ looser_sign two alone code }
 {
-    if alone {
-        return false;
-    }
-    if two {
-        return code == OR;
-    }
-    code == AND || code == OR
+    !alone && ((!two && code == AND) || code == OR)
 }
 
 // A comparator.
 pub fn is_comparator(alone: bool, code: u8) -> bool
     ensures { result ≡ comparator alone code }
 {
-    if alone {
-        return false;
-    }
-    EQUAL <= code && code <= INFERIOR_OR_EQUAL
+    !alone && EQUAL <= code && code <= INFERIOR_OR_EQUAL
 }
 
 // `+` and `-`.
 pub fn is_sum(alone: bool, code: u8) -> bool
     ensures { result ≡ sum_sign alone code }
 {
-    if alone {
-        return false;
-    }
-    code == PLUS || code == MINUS
+    !alone && (code == PLUS || code == MINUS)
 }
 
 // `*` and `/`.
 pub fn is_product(alone: bool, code: u8) -> bool
     ensures { result ≡ product_sign alone code }
 {
-    if alone {
-        return false;
-    }
-    code == MULTIPLY || code == DIVIDE
+    !alone && (code == MULTIPLY || code == DIVIDE)
 }
 
 // `**`.
@@ -79,13 +61,7 @@ pub fn is_taken_in(two: bool, code: u8) -> bool
 pub fn is_raised(two: bool, code: u8) -> bool
     ensures { result ≡ raisable two code }
 {
-    if !two {
-        return false;
-    }
-    if code == PLUS {
-        return false;
-    }
-    code != MINUS
+    two && code != PLUS && code != MINUS
 }
 
 // What a postfix begins with.

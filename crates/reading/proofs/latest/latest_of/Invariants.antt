@@ -8,6 +8,3 @@ use Rattle.reading.proofs.latest.latest_of.Given as goal
 
 abbrev pub invariant-loop-i : goal.invariant-loop-i
 invariant-loop-i l = (record_width * l.m ≤ length l.records) × (max l.latest (latest_in (l.m - l.i) (drop (record_width * l.i) l.records)) ≡ latest_in (l.m - l.n) (drop (record_width * l.n) l.records))
-
-abbrev pub decreases-loop-i : goal.decreases-loop-i
-decreases-loop-i l = l.m - l.i
