@@ -6,16 +6,15 @@ use mathlib.Core.Bool.{Bool, true, false, not}
 use mathlib.Core.Logic.{◌⊎◌, inl, inr, ⊎_elim}
 use mathlib.Core.List.{List, ◌∷◌, map}
 use mathlib.Core.Option.{Option, none, some}
-use Prim.Native.Nat.{ℕ, suc, ◌*◌, ◌≤◌, min, max}
+use Prim.Native.Nat.{ℕ, suc, ◌≤◌, min, max}
 use native.Mathlib.Omega.{arith}
 use lib.Dec.{T, eqb}
 use lib.ListN.{length}
-use borrow.Author.Tests.{eqb-true}
 use Rattle.calendar.specs.Calendar.{last_count}
 use Rattle.tokens.specs.Limits.{most_bytes, most_tokens}
 use Rattle.tokens.specs.Names.{Lists}
 use Rattle.tokens.proofs.PlaceLaws.{line_within, column_within}
-use Rattle.grammar.specs.Sizes.{record_width, most_records, most_statements}
+use Rattle.grammar.specs.Sizes.{most_records, most_statements}
 use Rattle.grammar.specs.Grammar.{Edition}
 use Rattle.grammar.specs.Script.{Outcome, accepted, refused, read_script, no_zero, number_of}
 use Rattle.grammar.specs.Words.{Row, row_of, latest_of}
@@ -27,11 +26,11 @@ use Rattle.reading.specs.Meets.{edition_by}
 use Rattle.reading.specs.declared.reading.Answer.{Answer}
 use Rattle.amending.specs.Amend.{ends_well}
 use Rattle.amending.specs.Amending.{State, Rooms, Pick, pick, Answer as Result, done, refusal, amend}
-use Rattle.amending.specs.Lent.{Lent, Handed, handed, unchanged, sum_records, sum_tokens, ascending, over_rows, in_order, swapped, fitting_lent, put_lent, lent_at, amend_lent, given}
+use Rattle.amending.specs.Lent.{Lent, Handed, handed, unchanged, over_rows, in_order, swapped, fitting_lent, put_lent, lent_at, amend_lent, given}
 use Rattle.amending.specs.Memory.{Memory, rooms_in, used_in, within, is_edition, amend_in, held_by, refused_at, answered, left_in, Amends}
 use Rattle.amending.specs.States.{held_of, Holds}
 use Rattle.amending.specs.declared.held.Held.{Held}
-use Rattle.amending.proofs.Flags.{left, right}
+use Rattle.std.proofs.lemmas.Bool.Decides.{nat_tests}
 use Rattle.amending.proofs.AmendingLaws.{pick_is}
 use Rattle.amending.proofs.SwapLaws.{swapped_latest}
 use Rattle.amending.proofs.Editions.{tested, known, none_tested}
@@ -90,9 +89,7 @@ module _ (E : Edition) (l : Lists) (n : List ℕ) (R : Rooms) (e : ℕ) where
     lent_latest : in_order R L ≡ true → L.latest ≡ latest_of L.rows
     unfolding in_order
     lent_latest o =
-        let a = right (ascending 0 (length L.script) L.rows) _ o in
-        let b = right (eqb (length L.words) (record_width * sum_records L.rows)) _ a in
-        eqb-true _ _ (left _ _ (right (eqb L.tokens (sum_tokens L.rows)) _ b))
+        grind (arith, nat_tests)
 
     lent_told : (k : ℕ) → Told R e L.latest n (amend_lent E l R L k n)
     unfolding amend_lent lent_at latest_of

@@ -51,7 +51,7 @@ module _ (d : List ℕ) (statements number bytes : ℕ) (p : Pick Row) (room : e
   -- far as its end moves
   swapped_words : (ns : List Row) (n added : ℕ) → length ns ≡ added → ascending 0 n ns ≡ true → bytes + n < 2 ^ 32
       → used_after (entry_width * statements) (entry_width * number) (entry_width * number + entry_width) (entry_width * added) ≤ length d
-      → let r : List ℕ = resized d (entry_width * statements) (entry_width * number) (entry_width * number + entry_width) (entry_width * added) in
+      → let r : List ℕ = resized 0 d (entry_width * statements) (entry_width * number) (entry_width * number + entry_width) (entry_width * added) in
       let filled : List ℕ = take (entry_width * number) r ++ (rows_words ns ++ drop (entry_width * added) (drop (entry_width * number) r)) in
       shifted (shifted filled number (number + added) 0 p.one.start) (number + added) (statements - 1 + added) p.one.end (p.one.start + n)
       ≡ leave (rows_words (swapped_rows p n ns)) (entry_width * statements) d
@@ -77,7 +77,7 @@ module _ (d : List ℕ) (statements number bytes : ℕ) (p : Pick Row) (room : e
         rows_length (swapped_rows p n ns),
         swapped_count p n ns,
       ) in
-      let r : List ℕ = resized d old (entry_width * number) (entry_width * number + entry_width) (entry_width * added) in
+      let r : List ℕ = resized 0 d old (entry_width * number) (entry_width * number + entry_width) (entry_width * added) in
       let filled : take (entry_width * number) r ++ (rows_words ns ++ drop (entry_width * added) (drop (entry_width * number) r)) ≡ rows_words xs ++ (rows_words ns ++ (rows_words zs ++ tail)) =
       gap_filled d (rows_words ns) old (entry_width * number) (entry_width * number + entry_width) (entry_width * added) lw fits ∙ replaced_words ns ∙ simp append_assoc in
       let one : shifted (rows_words xs ++ (rows_words ns ++ (rows_words zs ++ tail))) number (number + added) 0 p.one.start ≡ rows_words (xs ++ ys') ++ (rows_words zs ++ tail) =
@@ -95,7 +95,7 @@ module _ (d : List ℕ) (statements number bytes : ℕ) (p : Pick Row) (room : e
   pub swapped_directory : (ns : List Row) (n added : ℕ) → length ns ≡ added → ascending 0 n ns ≡ true → bytes + n < 2 ^ 32
       → used_after (entry_width * statements) (entry_width * number) (entry_width * number + entry_width) (entry_width * added) ≤ length d
       → (d₁ g d₂ d₃ : List ℕ) (k : ℕ)
-      → d₁ ≡ resized d (entry_width * statements) (entry_width * number) (entry_width * number + entry_width) (entry_width * added)
+      → d₁ ≡ resized 0 d (entry_width * statements) (entry_width * number) (entry_width * number + entry_width) (entry_width * added)
       → k ≡ entry_width * added
       → g ≡ rows_words ns
       → d₂ ≡ shifted (take (entry_width * number) d₁ ++ (g ++ drop k (drop (entry_width * number) d₁))) number (number + added) 0 p.one.start

@@ -42,28 +42,30 @@ rows_count (suc k) d = ap suc (rows_count k (drop entry_width d))
 
 -- ---- one entry after the other
 
--- the entries from the index `at` on: the first stands there, the rest an entry's words on
-pub rows_turn : (d : List ℕ) (at left : ℕ) → 0 < left → rows_from left (drop at d) ≡ row_at d at ∷ rows_from (left - 1) (drop (at + entry_width) d)
+-- of n entries those from number k on: the first stands at its words, the rest an entry's words on
+pub rows_turn : (d : List ℕ) (k n : ℕ) → k < n
+    → rows_from (n - k) (drop (entry_width * k) d) ≡ row_at d (entry_width * k) ∷ rows_from (n - (k + 1)) (drop (entry_width * (k + 1)) d)
 unfolding rows_from
-rows_turn d at left h =
-    let k : left ≡ suc (left - 1) = omega arith in
-    ap (λ (n : ℕ). rows_from n (drop at d)) k ∙ simp (get_or-drop, add-zero, drop-drop)
+rows_turn d k n h =
+    let one : n - k ≡ suc (n - (k + 1)) = omega arith in
+    let on : entry_width * (k + 1) ≡ entry_width * k + entry_width = omega arith in
+    rw (one, on) (simp (get_or-drop, add-zero, drop-drop))
 
 pub rows_none : (d : List ℕ) (left : ℕ) → left ≡ 0 → rows_from left d ≡ []
 unfolding rows_from
 rows_none d left h = rw h
 
-pub records_turn : (d : List ℕ) (at left : ℕ) → 0 < left
-    → sum_records (rows_from left (drop at d)) ≡ get_or d (at + 2) 0 + sum_records (rows_from (left - 1) (drop (at + entry_width) d))
-records_turn d at left h = ap sum_records (rows_turn d at left h)
+pub records_turn : (d : List ℕ) (k n : ℕ) → k < n
+    → sum_records (rows_from (n - k) (drop (entry_width * k) d)) ≡ get_or d (entry_width * k + 2) 0 + sum_records (rows_from (n - (k + 1)) (drop (entry_width * (k + 1)) d))
+records_turn d k n h = ap sum_records (rows_turn d k n h)
 
 pub records_none : (d : List ℕ) (left : ℕ) → left ≡ 0 → sum_records (rows_from left d) ≡ 0
 records_none d left h = ap sum_records (rows_none d left h)
 
-pub latest_turn : (d : List ℕ) (at left : ℕ) → 0 < left
-    → latest_of (rows_from left (drop at d)) ≡ max (get_or d (at + 4) 0) (latest_of (rows_from (left - 1) (drop (at + entry_width) d)))
+pub latest_turn : (d : List ℕ) (k n : ℕ) → k < n
+    → latest_of (rows_from (n - k) (drop (entry_width * k) d)) ≡ max (get_or d (entry_width * k + 4) 0) (latest_of (rows_from (n - (k + 1)) (drop (entry_width * (k + 1)) d)))
 unfolding latest_of
-latest_turn d at left h = ap latest_of (rows_turn d at left h)
+latest_turn d k n h = ap latest_of (rows_turn d k n h)
 
 pub latest_none : (d : List ℕ) (left : ℕ) → left ≡ 0 → latest_of (rows_from left d) ≡ 0
 unfolding latest_of

@@ -1,14 +1,18 @@
 -- Laws of the verdict on an amendment: what each test of the code tells of the definition.
-use Rattle.std.specs.Prelude.{if◌then◌else◌}
+use Rattle.std.specs.Prelude.{if◌then◌else◌, Result, Ok, Err, MatchResult}
+use Rattle.std.specs.Result.{IsErrAnd}
 use mathlib.Core.Path.{◌≡◌, refl, sym, ap, ◌∙◌, subst}
-use mathlib.Core.Bool.{Bool, true, false, ◌&&◌, ◌||◌, not, false≢true}
+use mathlib.Core.Bool.{true, false, ◌&&◌, not, false≢true}
 use mathlib.Core.List.{List, [], ◌∷◌, ◌++◌, map}
 use Prim.Native.Nat.{ℕ, ◌+◌, ◌-◌, ◌*◌, ◌/◌, ◌≤◌, ◌<◌}
 use native.Mathlib.Omega.{arith}
-use lib.Dec.{T, leb, ltb, eqb}
-use lib.ListN.{length, take, drop, get_or, length-append, length-drop, length-map}
+use lib.Dec.{T, leb, eqb}
+use lib.ListN.{length, take, drop, length-append, length-drop, length-map}
 use lib.Seq.{length-take-le}
-use borrow.Author.Tests.{le-leb, leb-true, le-ltb, ltb-false, eq-eqb, ne_eqb, eqb-true}
+use mathlib.Core.Logic.{◌⊎◌, ⊎_elim}
+use Rattle.std.proofs.lemmas.Bool.{cases_Bool}
+use Rattle.std.proofs.lemmas.Bool.Decides.{nat_tests}
+use borrow.Author.Tests.{eq-eqb, ne_eqb}
 use Rattle.tokens.specs.Limits.{most_bytes, most_tokens}
 use Rattle.tokens.specs.Text.{count}
 use Rattle.tokens.specs.Names.{Lists}
@@ -16,31 +20,30 @@ use Rattle.tokens.specs.Tokens.{Lexed, counts, end_of}
 use Rattle.grammar.specs.Sizes.{record_width, entry_width, most_records, most_statements}
 use Rattle.grammar.specs.Grammar.{Edition, Language}
 use Rattle.grammar.specs.Script.{Entry, accepted, refused, read_script, no_zero, tokens_of, language, number_of}
-use Rattle.grammar.specs.Words.{Row, row_of, latest_of}
-use Rattle.reading.specs.Meets.{listed}
-use Rattle.reading.specs.Judging.{last_end as text_end}
+use Rattle.grammar.specs.Words.{Row, row_of}
+use Rattle.reading.specs.Meets.{edition_by, listed}
+use Rattle.reading.specs.Judging.{last_end as text_end, judgement}
 use Rattle.reading.specs.declared.judging.Counts.{Counts}
+use Rattle.reading.specs.declared.judging.Judged.TheVariants as judged
 use Rattle.grammar.proofs.AmendBytes.{Text, Accepted, read_accepted, script_all, text_tokens, tokens_append}
 use Rattle.grammar.proofs.ReachLaws.{none_end}
 use Rattle.grammar.proofs.Endings.{Snoc, nil, snoc, snoc_of, LastToken, last_token}
-use Rattle.reading.proofs.ReadLaws.{room_in, room_most, Good}
+use Rattle.reading.proofs.ReadLaws.{room_in, room_most, Good, judged_not, judged_good}
 use Rattle.amending.specs.Amend.{ends_well, last_end}
 use Rattle.amending.specs.Amending.{Rooms, Pick, pick}
 use Rattle.amending.specs.Lent.{Lent, handed, unchanged, ascending, sum_records, sum_tokens, over_rows, in_order, swapped, fitting_lent, put_lent, lent_at, amend_lent}
 use Rattle.amending.specs.Entries.{rows_from, pick_at}
-use Rattle.amending.specs.Memory.{Memory, rooms_of, rooms_in, used_in, within, is_edition, amend_in}
-use Rattle.amending.specs.Grounds.{ends_whole, ends_shut, ends_at, Ends, Few, words_at, Stands, alone, totals, fitting_by, Fits, latest_then, MeetsVerdict}
+use Rattle.amending.specs.Memory.{Memory, rooms_in, as_rooms, used_in, within, is_edition, amend_in}
+use Rattle.amending.specs.Grounds.{ends_at, has_order, Ends, Few, words_at, Stands, Admits, alone, totals, fitting_by, Fits, latest_then, MeetsVerdict}
 use Rattle.amending.specs.declared.held.Held.{Held}
-use Rattle.amending.specs.declared.grounds.Row.{Row as Line}
-use Rattle.amending.specs.declared.grounds.Verdict.TheVariants as verdict
-use Rattle.amending.proofs.Flags.{no, yes, left, right, cases, same}
+use Rattle.amending.specs.declared.rooms.Rooms.{Rooms as Most}
 use Rattle.amending.proofs.EntryLaws.{pick_here, pick_past, rows_split, rows_count}
 use Rattle.amending.proofs.OrderLaws.{told, Ordered, ordered, Stands as Inside, stands as inside, records_joined, tokens_joined}
 use Rattle.amending.proofs.SwapLaws.{swapped_records, swapped_tokens, swapped_count}
 use Rattle.amending.proofs.LentLaws.{sum_nodes, sum_tokens_lem}
 use Rattle.amending.proofs.Directory.{InOrder, text_order}
 use Rattle.amending.proofs.EndsBy.{ends_by_lem, last_end_lem}
-use Rattle.amending.proofs.Editions.{numbered_is, numbered_none}
+use Rattle.amending.proofs.Editions.{numbered_is, numbered_none, tested}
 
 -- ---- within
 
@@ -53,53 +56,25 @@ pub record Within (R : Rooms) (h : Held) : Type 0 where
 module _ (R : Rooms) (h : Held) where
   pub within_yes : Within R h → within R h ≡ true
   unfolding within
-  within_yes w = yes (le-leb _ _ w.bytes) (yes (le-leb _ _ w.tokens) (yes (le-leb _ _ w.records) (le-leb _ _ w.statements)))
+  within_yes w = grind (arith, nat_tests)
 
   pub within_are : within R h ≡ true → Within R h
   unfolding within
-  within_are b =
-      let b₁ = right (leb h.bytes R.bytes) _ b in
-      let b₂ = right (leb h.tokens R.tokens) _ b₁ in
-      record {
-        bytes = leb-true h.bytes R.bytes (left _ _ b);
-        tokens = leb-true h.tokens R.tokens (left _ _ b₁);
-        records = leb-true h.records R.records (left _ _ b₂);
-        statements = leb-true h.statements R.statements (right (leb h.records R.records) _ b₂);
-      }
-
-  pub within_no : (Within R h → ⊥) → within R h ≡ false
-  within_no f = no _ (λ b. f (within_are b))
-
-neither : (a b : Bool) → (a || b) ≡ false → (a ≡ false) × (b ≡ false)
-neither true b e = absurd (false≢true (sym e))
-neither false b e = (refl, e)
+  within_are b = record { bytes = grind (arith, nat_tests); tokens = grind (arith, nat_tests); records = grind (arith, nat_tests); statements = grind (arith, nat_tests) }
 
 -- totals that are over capacity or room are those that are not within
 module _ (R : Rooms) (b : ℕ) (rs : List Row) (h : Held) (p : h.bytes ≡ b) (q : h.tokens ≡ sum_tokens rs) (r : h.records ≡ sum_records rs) (s : h.statements ≡ length rs) where
   over_no : Within R h → over_rows R b rs ≡ false
   unfolding over_rows
-  over_no w =
-      let a₁ : ltb R.bytes b ≡ false = le-ltb R.bytes b (omega (arith, w.bytes, p)) in
-      let a₂ : ltb R.tokens (sum_tokens rs) ≡ false = le-ltb R.tokens (sum_tokens rs) (omega (arith, w.tokens, q)) in
-      let a₃ : ltb R.records (sum_records rs) ≡ false = le-ltb R.records (sum_records rs) (omega (arith, w.records, r)) in
-      let a₄ : ltb R.statements (length rs) ≡ false = le-ltb R.statements (length rs) (omega (arith, w.statements, s)) in
-      rw (a₁, a₂, a₃, a₄)
+  over_no w = grind (arith, nat_tests)
 
   pub over_are : over_rows R b rs ≡ false → Within R h
   unfolding over_rows
-  over_are f =
-      let f₁ = neither (ltb R.bytes b) _ f in
-      let f₂ = neither (ltb R.tokens (sum_tokens rs)) _ f₁.1 in
-      let f₃ = neither (ltb R.records (sum_records rs)) _ f₂.1 in
-      record {
-        bytes = omega (arith, ltb-false R.bytes b f₁.0, p);
-        tokens = omega (arith, ltb-false R.tokens (sum_tokens rs) f₂.0, q);
-        records = omega (arith, ltb-false R.records (sum_records rs) f₃.0, r);
-        statements = omega (arith, ltb-false R.statements (length rs) f₃.1, s);
-      }
+  over_are f = record { bytes = grind (arith, nat_tests); tokens = grind (arith, nat_tests); records = grind (arith, nat_tests); statements = grind (arith, nat_tests) }
 
   over_yes : within R h ≡ false → over_rows R b rs ≡ true
-  over_yes f = cases (over_rows R b rs) (λ t. t) (λ n. absurd (false≢true (sym f ∙ within_yes R h (over_are n))))
+  unfolding over_rows within
+  over_yes f = grind (arith, nat_tests)
 
 -- ---- the words that are used, where counts are within
 
@@ -130,88 +105,21 @@ module _ (M : Memory) (h : Held) (w : Within (rooms_in M) h) where
   -- 20: the code's test is the definition's
   pub order_is : in_order (rooms_in M) (used_in M h) ≡ (leb (entry_width * h.statements) (length M.directory) && told h.bytes h.records h.tokens h.latest rows)
   unfolding in_order
-  order_is = same _ _ to from
-    where
-      to : in_order (rooms_in M) (used_in M h) ≡ true → (leb (entry_width * h.statements) (length M.directory) && told h.bytes h.records h.tokens h.latest rows) ≡ true
-      to b =
-          let b₁ = right (ascending 0 (length (take h.bytes M.script)) rows) _ b in
-          let b₂ = right (eqb (length (take (record_width * h.records) M.records)) (record_width * sum_records rows)) _ b₁ in
-          let a : ascending 0 h.bytes rows ≡ true = ap (λ (n : ℕ). ascending 0 n rows) (sym bytes_used) ∙ left _ _ b in
-          let e : length (take (record_width * h.records) M.records) ≡ record_width * sum_records rows = eqb-true _ _ (left _ _ b₁) in
-          let r : h.records ≡ sum_records rows = omega (arith, words_used, e) in
-          let b₃ = right (eqb h.tokens (sum_tokens rows)) _ b₂ in
-          let t : eqb h.tokens (sum_tokens rows) ≡ true = left _ _ b₂ in
-          let x : eqb h.latest (latest_of rows) ≡ true = left _ _ b₃ in
-          yes (le-leb _ _ entries_fit) (yes a (yes (eq-eqb _ _ r) (yes t x)))
+  order_is =
+      let fits : h.tokens ≡ sum_tokens rows → h.records ≡ sum_records rows → over_rows (rooms_in M) (length (take h.bytes M.script)) rows ≡ false =
+      λ t r. over_no (rooms_in M) (length (take h.bytes M.script)) rows h (sym bytes_used) t r (sym (rows_count h.statements M.directory)) w in
+      let order : ascending 0 (length (take h.bytes M.script)) rows ≡ ascending 0 h.bytes rows = ap (λ (n : ℕ). ascending 0 n rows) bytes_used in
+      let words = words_used in
+      let entries = entries_fit in
+      grind (arith, nat_tests)
 
-      from : (leb (entry_width * h.statements) (length M.directory) && told h.bytes h.records h.tokens h.latest rows) ≡ true → in_order (rooms_in M) (used_in M h) ≡ true
-      from b =
-          let O : Ordered M.directory h.statements h.bytes h.records h.tokens h.latest = ordered M.directory h.statements h.bytes h.records h.tokens h.latest b in
-          let e : length (take (record_width * h.records) M.records) ≡ record_width * sum_records rows = omega (arith, words_used, O.record_sum) in
-          let o : over_rows (rooms_in M) (length (take h.bytes M.script)) rows ≡ false =
-          over_no (rooms_in M) (length (take h.bytes M.script)) rows h (sym bytes_used) O.token_sum O.record_sum (sym (rows_count h.statements M.directory)) w in
-          yes (ap (λ (n : ℕ). ascending 0 n rows) bytes_used ∙ O.order) (yes (eq-eqb _ _ e) (yes (eq-eqb _ _ O.token_sum) (yes (eq-eqb _ _ O.latest_is) (ap not o))))
+-- ---- 18 and 16
 
--- ---- 18
-
-module _ (n : List ℕ) (e : ℕ) where
-  pub whole_empty : length n ≡ 0 → ends_whole n e ≡ true
-  whole_empty h = rw (eq-eqb (length n) 0 h)
-
-  pub whole_line : (length n ≡ 0 → ⊥) → get_or n (length n - 1) 0 ≡ 10 → ends_whole n e ≡ true
-  whole_line z h = rw (ne_eqb (length n) 0 z, eq-eqb (get_or n (length n - 1) 0) 10 h)
-
-  pub whole_token : (length n ≡ 0 → ⊥) → (get_or n (length n - 1) 0 ≡ 10 → ⊥) → e ≡ length n → ends_whole n e ≡ true
-  whole_token z f h = rw (ne_eqb (length n) 0 z, ne_eqb (get_or n (length n - 1) 0) 10 f, eq-eqb e (length n) h)
-
-  pub whole_not : (length n ≡ 0 → ⊥) → (get_or n (length n - 1) 0 ≡ 10 → ⊥) → (e ≡ length n → ⊥) → ends_whole n e ≡ false
-  whole_not z f h = rw (ne_eqb (length n) 0 z, ne_eqb (get_or n (length n - 1) 0) 10 f, ne_eqb e (length n) h)
-
-  module _ (c : ℕ) where
-    pub shut_bare : c ≡ 0 → ends_shut n e c ≡ true
-    shut_bare h = rw (eq-eqb c 0 h)
-
-    pub shut_semicolon : (c ≡ 0 → ⊥) → get_or n (e - 1) 0 ≡ 59 → ends_shut n e c ≡ true
-    shut_semicolon z h = rw (ne_eqb c 0 z, eq-eqb 59 (get_or n (e - 1) 0) (sym h))
-
-    pub shut_brace : (c ≡ 0 → ⊥) → (get_or n (e - 1) 0 ≡ 59 → ⊥) → get_or n (e - 1) 0 ≡ 125 → ends_shut n e c ≡ true
-    shut_brace z f h = rw (ne_eqb c 0 z, ne_eqb 59 (get_or n (e - 1) 0) (λ q. f (sym q)), eq-eqb 125 (get_or n (e - 1) 0) (sym h))
-
-    pub shut_not : (c ≡ 0 → ⊥) → (get_or n (e - 1) 0 ≡ 59 → ⊥) → (get_or n (e - 1) 0 ≡ 125 → ⊥) → ends_shut n e c ≡ false
-    shut_not z f h = rw (ne_eqb c 0 z, ne_eqb 59 (get_or n (e - 1) 0) (λ q. f (sym q)), ne_eqb 125 (get_or n (e - 1) 0) (λ q. h (sym q)))
-
--- what the two tests tell of the verdict
-module _ (R : Rooms) (h : Held) (r : Line) (n : List ℕ) (c : Counts) where
-  pub not_whole : ends_whole n c.last ≡ false → fitting_by R h r n c ≡ verdict.Refused 18 c.bytes
-  unfolding fitting_by
-  not_whole f = rw f
-
-  pub not_shut : ends_whole n c.last ≡ true → ends_shut n c.last c.tokens ≡ false → fitting_by R h r n c ≡ verdict.Refused 18 c.bytes
-  unfolding fitting_by
-  not_shut e f = rw (e, f)
-
-  module _ (e : ends_whole n c.last ≡ true) (f : ends_shut n c.last c.tokens ≡ true) where
-    pub not_alone : within R (alone c) ≡ false → fitting_by R h r n c ≡ verdict.Refused 16 c.bytes
-    unfolding fitting_by
-    not_alone a = rw (e, f, a)
-
-    pub not_all : within R (alone c) ≡ true → within R (totals h r c) ≡ false → fitting_by R h r n c ≡ verdict.Refused 16 c.bytes
-    unfolding fitting_by
-    not_all a b = rw (e, f, a, b)
-
-    pub all_fits : within R (alone c) ≡ true → within R (totals h r c) ≡ true → fitting_by R h r n c ≡ verdict.Fits c (totals h r c)
-    unfolding fitting_by
-    all_fits a b = rw (e, f, a, b)
-
--- counts that are within the rooms of slices are few
-pub few_within : (s o d : ℕ) (c : Counts) → within (rooms_of s o d) (alone c) ≡ true → Few c
-few_within s o d c b =
-    let w : Within (rooms_of s o d) (alone c) = within_are (rooms_of s o d) (alone c) b in (
-      omega (arith, w.bytes),
-      omega (arith, w.statements, room_most most_statements (d / entry_width)),
-      omega (arith, w.records, room_most most_records (o / record_width)),
-      w.tokens,
-    )
+-- counts that are within rooms are within the capacities
+pub few_capped : (R : Most) (c : Counts) → within (as_rooms R) (alone c) ≡ true → Few c
+few_capped R c b =
+    let w : Within (as_rooms R) (alone c) = within_are (as_rooms R) (alone c) b in
+    (omega (arith, w.bytes, R.few_bytes), omega (arith, w.statements, R.few_statements), omega (arith, w.records, R.few_records), omega (arith, w.tokens, R.few_tokens))
 
 module _ (W : Language) (n : List ℕ) (ns : List Entry) (X : Text W n ns) where
   -- the last statement ends where the last token does, and there is one where there is a token
@@ -264,7 +172,7 @@ module _ (l : Lists) (M : Memory) (h : Held) (k : ℕ) (n : List ℕ) (E : Editi
       numbered_is E (unchanged 26 0) (λ (F : Edition). if not (within (rooms_in M) h) then unchanged 20 0 else amend_lent F l (rooms_in M) (used_in M h) k n) v
 
   -- 20
-  pub not_within : within (rooms_in M) h ≡ false → amend_in l M h k n ≡ unchanged 20 0
+  not_within : within (rooms_in M) h ≡ false → amend_in l M h k n ≡ unchanged 20 0
   not_within f = by_edition ∙ rw f
 
   module _ (w : Within (rooms_in M) h) where
@@ -274,7 +182,7 @@ module _ (l : Lists) (M : Memory) (h : Held) (k : ℕ) (n : List ℕ) (E : Editi
     pub asked : amend_in l M h k n ≡ amend_lent E l (rooms_in M) (used_in M h) k n
     asked = by_edition ∙ rw (within_yes (rooms_in M) h w)
 
-    pub not_ordered : (leb (entry_width * h.statements) (length d) && told h.bytes h.records h.tokens h.latest (rows_from h.statements d)) ≡ false → amend_in l M h k n ≡ unchanged 20 0
+    not_ordered : (leb (entry_width * h.statements) (length d) && told h.bytes h.records h.tokens h.latest (rows_from h.statements d)) ≡ false → amend_in l M h k n ≡ unchanged 20 0
     unfolding amend_lent
     not_ordered f = asked ∙ rw (order_is M h w ∙ f)
 
@@ -284,7 +192,7 @@ module _ (l : Lists) (M : Memory) (h : Held) (k : ℕ) (n : List ℕ) (E : Editi
       at = asked ∙ rw (order_is M h w ∙ o)
 
       -- 17
-      pub not_there : h.statements ≤ k → amend_in l M h k n ≡ unchanged 17 0
+      not_there : h.statements ≤ k → amend_in l M h k n ≡ unchanged 17 0
       unfolding lent_at
       not_there f = at ∙ rw (pick_past k h.statements d f)
 
@@ -302,7 +210,7 @@ module _ (l : Lists) (M : Memory) (h : Held) (k : ℕ) (n : List ℕ) (E : Editi
         S = inside p h.bytes h.records h.tokens (rows_from h.statements d) split O.order O.record_sum O.token_sum
 
         -- the entry that is replaced
-        pub one_stands : Stands h (words_at d (entry_width * k))
+        one_stands : Stands h (words_at d (entry_width * k))
         one_stands = record {
           starts = omega (arith, S.filled);
           ends = S.inside;
@@ -312,11 +220,8 @@ module _ (l : Lists) (M : Memory) (h : Held) (k : ℕ) (n : List ℕ) (E : Editi
           bounded = bounded M h w;
         }
 
-        pub entry_in : entry_width * k + entry_width ≤ length d
-        entry_in = omega (arith, entries_fit M h w)
-
         -- 19
-        pub not_clear : no_zero n ≡ false → amend_in l M h k n ≡ unchanged 19 0
+        not_clear : no_zero n ≡ false → amend_in l M h k n ≡ unchanged 19 0
         unfolding lent_at
         not_clear f = at ∙ rw (pick_here k h.statements d t, f)
 
@@ -326,7 +231,7 @@ module _ (l : Lists) (M : Memory) (h : Held) (k : ℕ) (n : List ℕ) (E : Editi
           put = at ∙ rw (pick_here k h.statements d t, z)
 
           -- 1 to 15
-          pub not_read : {f b : ℕ} → read_script E l n ≡ refused f b → amend_in l M h k n ≡ unchanged f b
+          not_read : {f b : ℕ} → read_script E l n ≡ refused f b → amend_in l M h k n ≡ unchanged f b
           unfolding put_lent
           not_read e = put ∙ rw e
 
@@ -349,7 +254,7 @@ module _ (l : Lists) (M : Memory) (h : Held) (k : ℕ) (n : List ℕ) (E : Editi
             ends_is : ends_well n ≡ ends_at n c.last c.tokens
             ends_is = ends_at_lem (language E l) n G.entries admits.text ∙ rw (sym end_is, sym count_is)
 
-            pub ends_ready : Ends n c
+            ends_ready : Ends n c
             ends_ready =
                 let I = end_inside (language E l) n G.entries admits.text in
                 (omega (arith, I.0, end_is), λ f. omega (arith, I.1 (λ q. f (count_is ∙ q)), end_is))
@@ -398,22 +303,20 @@ module _ (l : Lists) (M : Memory) (h : Held) (k : ℕ) (n : List ℕ) (E : Editi
 
             -- a text that does not fit alone does not fit with others
             alone_not : within (rooms_in M) (alone c) ≡ false → within (rooms_in M) whole ≡ false
-            alone_not f = within_no (rooms_in M) whole (λ x. false≢true (sym f ∙ within_yes (rooms_in M) (alone c) (record {
-              bytes = omega (arith, x.bytes);
-              tokens = omega (arith, x.tokens);
-              records = omega (arith, x.records);
-              statements = omega (arith, x.statements);
-            })))
+            unfolding within
+            alone_not f = grind (arith, nat_tests)
 
             -- 18, 16, or what is made
-            pub fitted : MeetsVerdict l M h k n (fitting_by (rooms_in M) h (words_at d (entry_width * k)) n c)
+            fitted : MeetsVerdict l M h k n (fitting_by (rooms_in M) h (words_at d (entry_width * k)) n c)
             unfolding fitting_by put_lent fitting_lent swapped
             fitted =
-                cases (ends_at n c.last c.tokens)
-                (λ e. rw e (cases (within (rooms_in M) (alone c))
-                (λ a. rw a (cases (within (rooms_in M) whole) (λ f. rw f (made e f)) (λ f. rw f (over_there e f))))
-                (λ a. rw a (over_there e (alone_not a)))))
+                ⊎_elim
+                (λ e. rw e (⊎_elim
+                (λ a. rw a (⊎_elim (λ f. rw f (made e f)) (λ f. rw f (over_there e f)) (cases_Bool (within (rooms_in M) whole))))
+                (λ a. rw a (over_there e (alone_not a)))
+                (cases_Bool (within (rooms_in M) (alone c)))))
                 (λ e. rw e (not_ended e))
+                (cases_Bool (ends_at n c.last c.tokens))
               where
                 not_ended : ends_at n c.last c.tokens ≡ false → amend_in l M h k n ≡ unchanged 18 c.bytes
                 not_ended e = put ∙ rw (G.reads, ends_is ∙ e, size_is)
@@ -442,3 +345,52 @@ module _ (l : Lists) (M : Memory) (h : Held) (k : ℕ) (n : List ℕ) (E : Editi
                       fits = f;
                       is = made_is;
                     }
+
+-- ---- the call as the code asks it
+
+module _ (M : Memory) (h : Held) (k : ℕ) (n : List ℕ) where
+  -- the edition that the new text is read in
+  abbrev E : Edition
+  E = edition_by (eqb h.edition 2)
+
+  module _ (e : is_edition h.edition ≡ true) where
+    pub refused_room : within (rooms_in M) h ≡ false → (l : Lists) → amend_in l M h k n ≡ unchanged 20 0
+    refused_room f l = not_within l M h k n E (tested h.edition e) f
+
+    module _ (w : within (rooms_in M) h ≡ true) where
+      W : Within (rooms_in M) h
+      W = within_are (rooms_in M) h w
+
+      pub refused_order : has_order M.directory h ≡ false → (l : Lists) → amend_in l M h k n ≡ unchanged 20 0
+      refused_order f l = not_ordered l M h k n E (tested h.edition e) W f
+
+      module _ (o : has_order M.directory h ≡ true) where
+        pub refused_number : h.statements ≤ k → (l : Lists) → amend_in l M h k n ≡ unchanged 17 0
+        refused_number f l = not_there l M h k n E (tested h.edition e) W o f
+
+        pub refused_zero : k < h.statements → no_zero n ≡ false → (l : Lists) → amend_in l M h k n ≡ unchanged 19 0
+        refused_zero t f l = not_clear l M h k n E (tested h.edition e) W o t f
+
+  module _ (l : Lists) (A : Admits M h k n) where
+    pub admitted_stands : Stands h (words_at M.directory (entry_width * k))
+    admitted_stands = one_stands l M h k n E (tested h.edition A.edition) (within_are (rooms_in M) h A.holds) A.ordered A.there
+
+    pub admitted_refused : {f b : ℕ} → judgement E l n ≡ judged.Refused f b → amend_in l M h k n ≡ unchanged f b
+    admitted_refused j = not_read l M h k n E (tested h.edition A.edition) (within_are (rooms_in M) h A.holds) A.ordered A.there A.clear (judged_not E l n j)
+
+    pub admitted_ends : {c : Counts} → judgement E l n ≡ judged.Good c → Ends n c
+    admitted_ends j = ends_ready l M h k n E (tested h.edition A.edition) (within_are (rooms_in M) h A.holds) A.ordered A.there A.clear (judged_good E l n j)
+
+    pub admitted_fits : {c : Counts} → judgement E l n ≡ judged.Good c → MeetsVerdict l M h k n (fitting_by (rooms_in M) h (words_at M.directory (entry_width * k)) n c)
+    admitted_fits j = fitted l M h k n E (tested h.edition A.edition) (within_are (rooms_in M) h A.holds) A.ordered A.there A.clear (judged_good E l n j)
+
+-- ---- a result whose refusal was given its byte
+
+module _ {A E D : Type 0} (post : E → D → Type 0) where
+  pub ok_was : (r : Result A E) (m : Result A D) (x : A) → MatchResult r (λ y. m ≡ Ok y) (λ e. IsErrAnd m (post e)) → m ≡ Ok x → r ≡ Ok x
+  ok_was (Ok y) m x c o = cc
+  ok_was (Err e) m x c o = absurd (rw o at c)
+
+  pub err_was : (r : Result A E) (m : Result A D) (d : D) → MatchResult r (λ y. m ≡ Ok y) (λ e. IsErrAnd m (post e)) → m ≡ Err d → (e : E) × (r ≡ Err e) × post e d
+  err_was (Ok y) m d c o = absurd (let z : ◌≡◌ {A = Result A D} (Ok y) (Err d) = sym c ∙ o in cc)
+  err_was (Err e) m d c o = (e, refl, rw o at c)

@@ -5,7 +5,6 @@ pub mod AmendingLaws
 pub mod Directory
 pub mod LentLaws
 pub mod AmendExamples
-pub mod Flags
 pub mod MoveLaws
 pub mod EntryLaws
 pub mod OrderLaws

@@ -1,19 +1,19 @@
 -- Entries in order: tested one after the other, and what their order tells.
-use mathlib.Core.Path.{◌≡◌, refl, sym, ap, ◌∙◌}
-use mathlib.Core.Bool.{Bool, true, false, ◌&&◌, false≢true}
+use mathlib.Core.Path.{◌≡◌, refl, ap, ◌∙◌}
+use mathlib.Core.Bool.{Bool, true, ◌&&◌}
 use mathlib.Core.List.{List, [], ◌∷◌, ◌++◌, map}
 use Prim.Native.Nat.{ℕ, ◌+◌, ◌-◌, ◌*◌, ◌≤◌, ◌<◌, max}
 use native.Mathlib.Omega.{arith}
-use lib.Dec.{leb, ltb, eqb}
-use lib.ListN.{length}
-use borrow.Author.Tests.{ltb-true, leb-true, eqb-true, lt-ltb, le-leb, eq-eqb}
+use lib.Dec.{leb, eqb}
+use lib.ListN.{length, drop}
+use Rattle.std.proofs.lemmas.Bool.Decides.{nat_tests}
+use borrow.Author.Tests.{leb-true}
 use Rattle.grammar.specs.Sizes.{entry_width}
 use Rattle.grammar.specs.Words.{Row, latest_of}
 use Rattle.amending.specs.Amending.{Pick}
 use Rattle.amending.specs.Lent.{ascending, sum_records, sum_tokens}
-use Rattle.amending.specs.Entries.{rows_from, row_fits}
-use Rattle.amending.proofs.Flags.{no, yes, left, right, cases, same}
-use Rattle.amending.proofs.EntryLaws.{rows_none}
+use Rattle.amending.specs.Entries.{row_at, rows_from, row_fits}
+use Rattle.amending.proofs.EntryLaws.{rows_turn, rows_none}
 
 -- ---- what `ascending` tells
 
@@ -27,17 +27,13 @@ pub record Ascends (i j : ℕ) (r : Row) (rs : List Row) : Type 0 where
 
 pub ascends : (i j : ℕ) (r : Row) (rs : List Row) → ascending i j (r ∷ rs) ≡ true → Ascends i j r rs
 unfolding ascending
-ascends i j r rs b =
-    let b₁ = right (leb i r.start) _ b in
-    let b₂ = right (ltb r.start r.end) _ b₁ in
-    let b₃ = right (leb 1 r.records) _ b₂ in
-    record {
-      after = leb-true i r.start (left _ _ b);
-      filled = ltb-true r.start r.end (left _ _ b₁);
-      has_record = leb-true 1 r.records (left _ _ b₂);
-      has_token = leb-true 1 r.tokens (left _ _ b₃);
-      rest = right (leb 1 r.tokens) _ b₃;
-    }
+ascends i j r rs b = record {
+  after = grind (arith, nat_tests);
+  filled = grind (arith, nat_tests);
+  has_record = grind (arith, nat_tests);
+  has_token = grind (arith, nat_tests);
+  rest = grind (arith, nat_tests);
+}
 
 ascends_none : (i j : ℕ) → ascending i j [] ≡ true → i ≤ j
 unfolding ascending
@@ -71,28 +67,15 @@ pub record Fits (i records tokens : ℕ) (r : Row) : Type 0 where
   pub tokens_left : r.tokens ≤ tokens
 
 module _ (i m t : ℕ) (r : Row) where
-  pub fits_yes : Fits i m t r → row_fits i m t r ≡ true
-  fits_yes f =
-      yes (le-leb _ _ f.after) (yes (lt-ltb _ _ f.filled) (yes (le-leb _ _ f.has_record)
-      (yes (le-leb _ _ f.has_token) (yes (le-leb _ _ f.records_left) (le-leb _ _ f.tokens_left)))))
-
   pub fits_are : row_fits i m t r ≡ true → Fits i m t r
-  fits_are b =
-      let b₁ = right (leb i r.start) _ b in
-      let b₂ = right (ltb r.start r.end) _ b₁ in
-      let b₃ = right (leb 1 r.records) _ b₂ in
-      let b₄ = right (leb 1 r.tokens) _ b₃ in
-      record {
-        after = leb-true i r.start (left _ _ b);
-        filled = ltb-true r.start r.end (left _ _ b₁);
-        has_record = leb-true 1 r.records (left _ _ b₂);
-        has_token = leb-true 1 r.tokens (left _ _ b₃);
-        records_left = leb-true r.records m (left _ _ b₄);
-        tokens_left = leb-true r.tokens t (right (leb r.records m) _ b₄);
-      }
-
-  pub fits_no : (Fits i m t r → ⊥) → row_fits i m t r ≡ false
-  fits_no h = no _ (λ b. h (fits_are b))
+  fits_are b = record {
+    after = grind (arith, nat_tests);
+    filled = grind (arith, nat_tests);
+    has_record = grind (arith, nat_tests);
+    has_token = grind (arith, nat_tests);
+    records_left = grind (arith, nat_tests);
+    tokens_left = grind (arith, nat_tests);
+  }
 
 -- ---- one entry after the other
 
@@ -107,36 +90,19 @@ told j m t x rs = ascending 0 j rs && (eqb m (sum_records rs) && (eqb t (sum_tok
 pub counted_first : (j m t x : ℕ) (rs : List Row) → told j m t x rs ≡ counted 0 j m t x 0 rs
 counted_first j m t x rs = let own : max 0 (latest_of rs) ≡ latest_of rs = omega arith in rw own
 
--- a sum of which a is known
-eqb_less : (a s m : ℕ) → a ≤ m → eqb m (a + s) ≡ eqb (m - a) s
-eqb_less a s m h =
-    same _ _
-    (λ b. let q : m ≡ a + s = eqb-true m (a + s) b in eq-eqb (m - a) s (omega arith))
-    (λ b. let q : m - a ≡ s = eqb-true (m - a) s b in eq-eqb m (a + s) (omega arith))
-
 -- the first fits, and the rest are in order for what it leaves
 pub counted_turn : (i j m t x y : ℕ) (r : Row) (rs : List Row)
     → counted i j m t x y (r ∷ rs) ≡ (row_fits i m t r && counted r.end j (m - r.records) (t - r.tokens) x (max y r.latest) rs)
 unfolding ascending latest_of
-counted_turn i j m t x y r rs =
-    cases (row_fits i m t r)
-    (λ b.
-    let f : Fits i m t r = fits_are i m t r b in
-    let late : max y (max r.latest (latest_of rs)) ≡ max (max y r.latest) (latest_of rs) = omega arith in
-    rw (b, le-leb _ _ f.after, lt-ltb _ _ f.filled, le-leb _ _ f.has_record, le-leb _ _ f.has_token, eqb_less _ (sum_records rs) m f.records_left, eqb_less _ (sum_tokens rs) t f.tokens_left, late))
-    (λ b. rw b (no _ (λ o.
-    let f : Ascends i j r rs = ascends i j r rs (left (ascending i j (r ∷ rs)) _ o) in
-    let s = right (ascending i j (r ∷ rs)) _ o in
-    let sm : m ≡ r.records + sum_records rs = eqb-true m (r.records + sum_records rs) (left _ _ s) in
-    let st : t ≡ r.tokens + sum_tokens rs = eqb-true t (r.tokens + sum_tokens rs) (left _ _ (right (eqb m (r.records + sum_records rs)) _ s)) in
-    false≢true (sym b ∙ fits_yes i m t r (record {
-      after = f.after;
-      filled = f.filled;
-      has_record = f.has_record;
-      has_token = f.has_token;
-      records_left = omega arith;
-      tokens_left = omega arith;
-    })))))
+counted_turn i j m t x y r rs = grind (arith, nat_tests)
+
+-- so of the n entries of a directory, those from number k on
+pub counted_next : (d : List ℕ) (k n i j m t x y : ℕ) → k < n
+    → let r : Row = row_at d (entry_width * k) in
+    counted i j m t x y (rows_from (n - k) (drop (entry_width * k) d))
+    ≡ (row_fits i m t r && counted r.end j (m - r.records) (t - r.tokens) x (max y r.latest) (rows_from (n - (k + 1)) (drop (entry_width * (k + 1)) d)))
+counted_next d k n i j m t x y h =
+    ap (counted i j m t x y) (rows_turn d k n h) ∙ counted_turn i j m t x y (row_at d (entry_width * k)) (rows_from (n - (k + 1)) (drop (entry_width * (k + 1)) d))
 
 -- no entry is left
 pub counted_none : (d : List ℕ) (i j m t x y k : ℕ) → k ≡ 0 → counted i j m t x y (rows_from k d) ≡ (leb i j && (eqb m 0 && (eqb t 0 && eqb x y)))
@@ -155,18 +121,13 @@ pub record Ordered (d : List ℕ) (statements bytes records tokens latest : ℕ)
 pub ordered : (d : List ℕ) (statements bytes records tokens latest : ℕ)
     → (leb (entry_width * statements) (length d) && told bytes records tokens latest (rows_from statements d)) ≡ true
     → Ordered d statements bytes records tokens latest
-ordered d statements bytes records tokens latest b =
-    let rs : List Row = rows_from statements d in
-    let b₁ = right (leb (entry_width * statements) (length d)) _ b in
-    let b₂ = right (ascending 0 bytes rs) _ b₁ in
-    let b₃ = right (eqb records (sum_records rs)) _ b₂ in
-    record {
-      room = leb-true (entry_width * statements) (length d) (left _ _ b);
-      order = left _ _ b₁;
-      record_sum = eqb-true records (sum_records rs) (left _ _ b₂);
-      token_sum = eqb-true tokens (sum_tokens rs) (left _ _ b₃);
-      latest_is = eqb-true latest (latest_of rs) (right (eqb tokens (sum_tokens rs)) _ b₃);
-    }
+ordered d statements bytes records tokens latest b = record {
+  room = grind (arith, nat_tests);
+  order = grind (arith, nat_tests);
+  record_sum = grind (arith, nat_tests);
+  token_sum = grind (arith, nat_tests);
+  latest_is = grind (arith, nat_tests);
+}
 
 -- a sum over rows, of their records or of their tokens
 module _ (sum : List Row → ℕ) (of : Row → ℕ) (nil : sum [] ≡ 0) (cons : (r : Row) (rs : List Row) → sum (r ∷ rs) ≡ of r + sum rs) where

@@ -6,7 +6,7 @@ use mathlib.Core.List.{List, ◌∷◌, ◌++◌, map}
 use Prim.Native.Nat.{ℕ, ◌+◌, ◌-◌, ◌*◌, ◌/◌, max}
 use native.Mathlib.Omega.{arith}
 use lib.Dec.{leb, ltb}
-use lib.ListN.{length, take, drop, get_or, length-drop, length-map}
+use lib.ListN.{length, take, drop, length-drop, length-map}
 use lib.Seq.{length-take-le}
 use borrow.Author.Tests.{le-ltb, ltb-true, leb-true}
 use Rattle.tokens.specs.Names.{Lists}
@@ -26,9 +26,9 @@ use Rattle.amending.specs.Entries.{rows_from, pick_at, shifted}
 use Rattle.amending.specs.Memory.{Memory, memory, rooms_in, used_in, amend_in, left_in, answered, dated, accepted_with, refused_at, Amends}
 use Rattle.amending.specs.Grounds.{words_at, totals, latest_then, Fits, Ready, Left, answer_by, MeetsVerdict}
 use Rattle.amending.specs.declared.held.Held.{Held}
-use Rattle.amending.specs.declared.grounds.Row.{Row as Line}
-use Rattle.amending.specs.declared.grounds.Verdict.{Verdict}
-use Rattle.amending.specs.declared.grounds.Verdict.TheVariants as verdict
+use Rattle.amending.specs.declared.rows.Row.{Row as Line}
+use Rattle.amending.specs.Verdict.{Verdict}
+use Rattle.amending.specs.Verdict as verdict
 use Rattle.amending.proofs.MoveLaws.{gap_leaves}
 use Rattle.amending.proofs.EntryLaws.{rows_of_words, rows_split, rows_count}
 use Rattle.amending.proofs.OrderLaws.{Stands, stands}
@@ -126,7 +126,7 @@ module _ (l : Lists) (M : Memory) (h : Held) (k : ℕ) (n : List ℕ) {c : Count
       e ∙ swapped_script M.script n h.bytes p.one.start p.one.end Y.starts Y.ends Y.bytes
 
   pub records_left : {o₁ g : List ℕ} (from to j : ℕ) → from ≡ record_width * sum_records p.before → to ≡ record_width * (sum_records p.before + p.one.records)
-      → j ≡ record_width * c.records → o₁ ≡ resized M.records (record_width * h.records) from to (record_width * c.records) → g ≡ words_of ns
+      → j ≡ record_width * c.records → o₁ ≡ resized 0 M.records (record_width * h.records) from to (record_width * c.records) → g ≡ words_of ns
       → take from o₁ ++ (g ++ drop j (drop from o₁)) ≡ leave L.words (record_width * h.records) M.records
   unfolding swapped
   records_left {o₁} {g} from to j x y z made is =
@@ -137,7 +137,7 @@ module _ (l : Lists) (M : Memory) (h : Held) (k : ℕ) (n : List ℕ) {c : Count
       ∙ rw (x, y, is)
 
   pub directory_left : {d₁ g d₂ d₃ : List ℕ} (j : ℕ)
-      → d₁ ≡ resized d (entry_width * h.statements) (entry_width * k) (entry_width * k + entry_width) (entry_width * c.statements) → j ≡ entry_width * c.statements → g ≡ rows_words (map row_of ns)
+      → d₁ ≡ resized 0 d (entry_width * h.statements) (entry_width * k) (entry_width * k + entry_width) (entry_width * c.statements) → j ≡ entry_width * c.statements → g ≡ rows_words (map row_of ns)
       → d₂ ≡ shifted (take (entry_width * k) d₁ ++ (g ++ drop j (drop (entry_width * k) d₁))) k (k + c.statements) 0 p.one.start
       → d₃ ≡ shifted d₂ (k + c.statements) (h.statements - 1 + c.statements) p.one.end (p.one.start + length n)
       → d₃ ≡ leave (rows_words L.rows) (entry_width * h.statements) d
@@ -177,8 +177,8 @@ module _ (l : Lists) (M : Memory) (h : Held) (k : ℕ) (n : List ℕ) {c : Count
   -- all three, as the code makes them: row is the entry, b the records before it, and i and j the words of the rooms that are read into
   pub replaced : {row : Line} {b : ℕ} {s₁ o₁ d₁ g g' d₂ d₃ : List ℕ} {r : Answer} {i j x' : ℕ} → row ≡ words_at d (entry_width * k) → b ≡ sum_records (rows_from k d)
       → s₁ ≡ spliced M.script h.bytes row.start row.end n
-      → length o₁ ≡ length M.records → o₁ ≡ resized M.records (record_width * h.records) (record_width * b) (record_width * b + record_width * row.records) (record_width * c.records)
-      → length d₁ ≡ length d → d₁ ≡ resized d (entry_width * h.statements) (entry_width * k) (entry_width * k + entry_width) (entry_width * c.statements)
+      → length o₁ ≡ length M.records → o₁ ≡ resized 0 M.records (record_width * h.records) (record_width * b) (record_width * b + record_width * row.records) (record_width * c.records)
+      → length d₁ ≡ length d → d₁ ≡ resized 0 d (entry_width * h.statements) (entry_width * k) (entry_width * k + entry_width) (entry_width * c.statements)
       → i ≡ record_width * c.records → j ≡ entry_width * c.statements
       → Leaves h.edition l n (take i (drop (record_width * b) o₁)) (take j (drop (entry_width * k) d₁)) r g g'
       → d₂ ≡ shifted (take (entry_width * k) d₁ ++ (g' ++ drop j (drop (entry_width * k) d₁))) k (k + c.statements) 0 row.start
@@ -207,17 +207,7 @@ module _ (l : Lists) (M : Memory) (h : Held) (k : ℕ) (n : List ℕ) {c : Count
 
 -- ---- the call
 
--- the fields of the entry that the code has
-pub row_is : {row : Line} (d : List ℕ) (i : ℕ) → row ≡ words_at d i → (row.start ≡ get_or d i 0) × (row.end ≡ get_or d (i + 1) 0) × (row.records ≡ get_or d (i + 2) 0)
-row_is d i e = (ap (λ (t : Line). t.start) e, ap (λ (t : Line). t.end) e, ap (λ (t : Line). t.records) e)
-
 module _ (l : Lists) (M : Memory) (h : Held) (k : ℕ) (n : List ℕ) where
-  pub verdict_refused : {v : Verdict} (f b : ℕ) → v ≡ verdict.Refused f b → MeetsVerdict l M h k n v → amend_in l M h k n ≡ unchanged f b
-  verdict_refused f b e m = rw e at m
-
-  pub verdict_fits : {v : Verdict} (c : Counts) (w : Held) → v ≡ verdict.Fits c w → MeetsVerdict l M h k n v → Fits l M h k n c w
-  verdict_fits c w e m = rw e at m
-
   -- the answer of the call is the one that the verdict stands for
   pub verdict_answers : (v : Verdict) → MeetsVerdict l M h k n v → answered h n (amend_in l M h k n) ≡ answer_by h n (latest_then (amend_in l M h k n)) v
   verdict_answers (verdict.Fits c w) m = ap (answered h n) m.is ∙ sym (ap accepted_with m.held_then)

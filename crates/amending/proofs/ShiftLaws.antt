@@ -1,33 +1,27 @@
 -- Laws of a directory whose places are moved: one turn of the loop, the rows of the moved words, and where a place is moved plainly.
-use Rattle.std.specs.Prelude.{if◌then◌else◌}
 use mathlib.Core.Path.{◌≡◌, refl, sym, ap, ◌∙◌}
-use mathlib.Core.Bool.{Bool, true, false, ◌&&◌}
+use mathlib.Core.Bool.{true}
 use mathlib.Core.List.{List, [], ◌∷◌, ◌++◌, append_assoc, map}
 use Prim.Native.Nat.{ℕ, zero, suc, ◌+◌, ◌-◌, ◌*◌, ◌^◌, ◌≤◌, ◌<◌}
 use native.Mathlib.Nat.{suc-add}
 use native.Mathlib.Numerals.{towards_suc}
 use native.Mathlib.Omega.{arith}
-use lib.Dec.{leb, ltb}
 use lib.ListN.{length, take, drop, get_or, set, length-append, take-append-drop}
 use lib.Seq.{drop-cons, take_at, drop_at, take-append-add, drop-append-add, length-take-le, get_or-set_other}
-use borrow.Author.Tests.{ltb-true, leb-true, lt-ltb, le-leb}
+use Rattle.std.proofs.lemmas.Bool.Decides.{nat_tests}
+use borrow.Author.Tests.{le-leb}
 use Rattle.grammar.specs.Sizes.{entry_width}
 use Rattle.grammar.specs.Words.{Row, rows_words}
 use Rattle.grammar.proofs.WordLaws.{rows_length}
 use Rattle.amending.specs.Lent.{ascending, moved_row, between_row}
 use Rattle.amending.specs.Entries.{moved_place, shifted_row, moved_words, shifted}
-use Rattle.amending.proofs.Flags.{no, left, right}
 use Rattle.amending.proofs.OrderLaws.{Ascends, ascends, ascending_le}
 
 -- ---- one place
 
-pub moved_no : (old new w : ℕ) → (old ≤ w → w - old + new < 2 ^ 32 → ⊥) → moved_place old new w ≡ w
-moved_no old new w h = rw (no (leb old w && ltb (w - old + new) (2 ^ 32)) (λ b.
-    h (leb-true old w (left _ _ b)) (ltb-true (w - old + new) (2 ^ 32) (right (leb old w) _ b))))
-
 -- moved plainly, where it lies at or past `old` and stays a word
-pub moved_yes : (old new w : ℕ) → old ≤ w → w - old + new < 2 ^ 32 → moved_place old new w ≡ w - old + new
-moved_yes old new w h k = rw (le-leb _ _ h, lt-ltb _ _ k)
+moved_yes : (old new w : ℕ) → old ≤ w → w - old + new < 2 ^ 32 → moved_place old new w ≡ w - old + new
+moved_yes old new w h k = grind (arith, nat_tests)
 
 -- ---- one turn of the loop
 
@@ -55,11 +49,11 @@ shift_at p rest a b r t x old new n =
     let ys : List ℕ = moved_place old new a ∷ moved_place old new b ∷ r ∷ t ∷ x ∷ rest in
     rw (take-append-add p ys 5, drop-append-add p ys 5) (append_assoc p (take 5 ys) (moved_words old new n rest))
 
--- what is still to be moved, moved in what is there, comes to the same before and after
-pub shift_turn : (s : List ℕ) (at n old new u v : ℕ) → 0 < n → at + 5 ≤ length s → u ≡ moved_place old new (get_or s at 0) → v ≡ moved_place old new (get_or (set s at u) (at + 1) 0)
+-- one entry's two places, moved where it stands
+shift_one : (s : List ℕ) (at n old new u v : ℕ) → 0 < n → at + 5 ≤ length s → u ≡ moved_place old new (get_or s at 0) → v ≡ moved_place old new (get_or (set s at u) (at + 1) 0)
     → let s' : List ℕ = set (set s at u) (at + 1) v in
     take at s ++ moved_words old new n (drop at s) ≡ take (at + 5) s' ++ moved_words old new (n - 1) (drop (at + 5) s')
-shift_turn s at n old new u v some room eu ev =
+shift_one s at n old new u v some room eu ev =
     let p : List ℕ = take at s in
     let lp : length p ≡ at = length-take-le at s (omega arith) in
     let k : n ≡ suc (n - 1) = omega arith in
@@ -84,17 +78,24 @@ shift_turn s at n old new u v some room eu ev =
     ∙ ap (λ (i : ℕ). take (i + 5) (p ++ (moved_place old new a ∷ moved_place old new b ∷ r ∷ t ∷ x ∷ rest)) ++ moved_words old new (n - 1) (drop (i + 5) (p ++ (moved_place old new a ∷ moved_place old new b ∷ r ∷ t ∷ x ∷ rest)))) lp
     ∙ sym (ap (λ (l : List ℕ). take (at + 5) l ++ moved_words old new (n - 1) (drop (at + 5) l)) stored)
 
+-- what is still to be moved, moved in what is there, comes to the same before and after the entry k of those up to number `to`
+pub shift_turn : (s : List ℕ) (k to old new u v : ℕ) → k < to → entry_width * k + 5 ≤ length s → u ≡ moved_place old new (get_or s (entry_width * k) 0)
+    → v ≡ moved_place old new (get_or (set s (entry_width * k) u) (entry_width * k + 1) 0)
+    → let s' : List ℕ = set (set s (entry_width * k) u) (entry_width * k + 1) v in
+    take (entry_width * k) s ++ moved_words old new (to - k) (drop (entry_width * k) s)
+    ≡ take (entry_width * (k + 1)) s' ++ moved_words old new (to - (k + 1)) (drop (entry_width * (k + 1)) s')
+shift_turn s k to old new u v some room eu ev =
+    let on : entry_width * (k + 1) ≡ entry_width * k + 5 = omega arith in
+    let less : to - (k + 1) ≡ to - k - 1 = omega arith in
+    rw (on, less) (shift_one s (entry_width * k) (to - k) old new u v (omega arith) room eu ev)
+
 pub shift_none : (s : List ℕ) (old new n at : ℕ) → n ≡ 0 → take at s ++ moved_words old new n (drop at s) ≡ s
 unfolding moved_words
 shift_none s old new n at h = rw h (take-append-drop at s)
 
 -- places that stay where they are
 moved_same : (old w : ℕ) → moved_place old old w ≡ w
-moved_same old w = go (leb old w && ltb (w - old + old) (2 ^ 32)) refl
-  where
-    go : (b : Bool) → (leb old w && ltb (w - old + old) (2 ^ 32)) ≡ b → (if b then w - old + old else w) ≡ w
-    go true e = omega (arith, leb-true old w (left _ _ e))
-    go false e = refl
+moved_same old w = grind (arith, nat_tests)
 
 words_same : (old k : ℕ) (d : List ℕ) → moved_words old old k d ≡ d
 unfolding moved_words

@@ -3,6 +3,7 @@ use Rattle.std.specs.Prelude.{Bool, ◌&&◌, List, [], ◌∷◌, ◌++◌, ℕ
 use Rattle.grammar.specs.Sizes.{entry_width}
 use Rattle.grammar.specs.Words.{Row}
 use Rattle.amending.specs.Amending.{Pick}
+use Rattle.amending.specs.declared.rows.Row.{Row as Line}
 
 -- ---- read
 
@@ -22,6 +23,10 @@ pick_at k n d =
     record { before = rows_from k d; one = row_at d (entry_width * k); behind = rows_from (n - 1 - k) (drop (entry_width * k + entry_width) d) }
 
 -- ---- tested
+
+-- an entry as the code has it
+abbrev pub entry : Line → Row
+entry r = record { start = r.start; end = r.end; records = r.records; tokens = r.tokens; latest = r.latest }
 
 -- an entry from the byte i on, not empty, with a record and a token, and with no more of them than are left
 abbrev pub row_fits : ℕ → ℕ → ℕ → Row → Bool

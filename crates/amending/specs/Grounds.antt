@@ -1,21 +1,23 @@
 -- What the verdict of the code on an amendment means.
-use Rattle.std.specs.Prelude.{◌≡◌, Bool, true, ◌&&◌, ◌||◌, not, List, ℕ, ◌+◌, ◌-◌, ◌*◌, ◌≤◌, ◌<◌, T, eqb, length, get_or, if◌then◌else◌}
+use Rattle.std.specs.Prelude.{◌≡◌, Result, Ok, Err, Bool, true, ◌&&◌, ◌||◌, not, List, ℕ, ◌+◌, ◌-◌, ◌*◌, ◌≤◌, ◌<◌, T, leb, eqb, length, get_or, if◌then◌else◌}
 use Rattle.tokens.specs.Limits.{most_bytes, most_tokens}
 use Rattle.tokens.specs.Names.{Lists}
 use Rattle.grammar.specs.Sizes.{record_width, entry_width, most_records, most_statements}
 use Rattle.grammar.specs.Grammar.{Edition}
 use Rattle.grammar.specs.Script.{Entry, accepted, read_script, no_zero, nodes, number_of}
 use Rattle.grammar.specs.Words.{latest_of}
+use Rattle.tokens.specs.Refusals.{number_of as number}
+use Rattle.tokens.specs.declared.refusals.Ground.{Ground}
 use Rattle.reading.specs.declared.judging.Counts.{Counts}
 use Rattle.reading.specs.declared.reading.Answer.{Answer}
 use Rattle.amending.specs.Amending.{Rooms}
 use Rattle.amending.specs.Lent.{Handed, handed, unchanged, ascending, sum_records, sum_tokens, swapped}
-use Rattle.amending.specs.Memory.{Memory, rooms_in, used_in, within, amend_in, held_by, dated, left_in, accepted_with, refused_at}
+use Rattle.amending.specs.Memory.{Memory, rooms_in, used_in, within, amend_in, is_edition, held_by, dated, left_in, accepted_with, refused_at}
 use Rattle.amending.specs.Entries.{rows_from, pick_at}
 use Rattle.amending.specs.declared.held.Held.{Held}
-use Rattle.amending.specs.declared.grounds.Row.{Row}
-use Rattle.amending.specs.declared.grounds.Verdict.{Verdict}
-use Rattle.amending.specs.declared.grounds.Verdict.TheVariants as verdict
+use Rattle.amending.specs.declared.rows.Row.{Row}
+use Rattle.amending.specs.Verdict.{Verdict}
+use Rattle.amending.specs.Verdict as verdict
 
 -- 18 of a text with c tokens, whose last ends at the byte e: its last byte, and the byte before that end, tell
 abbrev pub ends_whole : List ℕ → ℕ → Bool
@@ -31,6 +33,15 @@ ends_at n e c = ends_whole n e && ends_shut n e c
 abbrev pub words_at : List ℕ → ℕ → Row
 words_at d i =
     record { start = get_or d i 0; end = get_or d (i + 1) 0; records = get_or d (i + 2) 0; tokens = get_or d (i + 3) 0; latest = get_or d (i + 4) 0 }
+
+-- 20 of a directory: it has as many entries as are held, in order, with these totals and this latest date
+abbrev pub has_order : List ℕ → Held → Bool
+has_order d h =
+    leb (entry_width * h.statements) (length d)
+    && (ascending 0 h.bytes (rows_from h.statements d)
+    && (eqb h.records (sum_records (rows_from h.statements d))
+    && (eqb h.tokens (sum_tokens (rows_from h.statements d))
+    && eqb h.latest (latest_of (rows_from h.statements d)))))
 
 -- an entry of what is used: it lies inside, and its records and tokens are among those that are counted
 pub record Stands (h : Held) (e : Row) : Type 0 where
@@ -122,6 +133,19 @@ pub record Left (h : Held) (x : Handed) (M : Memory) (r : ℕ) (M' : Memory) : T
 abbrev pub answer_by : Held → List ℕ → ℕ → Verdict → Answer
 answer_by h n x (verdict.Fits c w) = accepted_with (dated x w)
 answer_by h n x (verdict.Refused f p) = refused_at h n f p
+
+-- what is asked before the new text is read
+pub record Admits (M : Memory) (h : Held) (k : ℕ) (n : List ℕ) : Type 0 where
+  pub edition : is_edition h.edition ≡ true
+  pub holds : within (rooms_in M) h ≡ true
+  pub ordered : has_order M.directory h ≡ true
+  pub there : k < h.statements
+  pub clear : no_zero n ≡ true
+
+-- the entry that is replaced; or a refusal at byte 0, whatever lists are lent
+abbrev pub MeetsGround : Memory → Held → ℕ → List ℕ → Result Row Ground → Type 0
+MeetsGround M h k n (Ok r) = Admits M h k n × (r ≡ words_at M.directory (entry_width * k))
+MeetsGround M h k n (Err g) = (l : Lists) → amend_in l M h k n ≡ unchanged (number g) 0
 
 -- what each case says of the call
 abbrev pub MeetsVerdict : Lists → Memory → Held → ℕ → List ℕ → Verdict → Type 0

@@ -5,6 +5,8 @@ pub mod Lent
 pub mod Moves
 pub mod Entries
 pub mod Memory
+pub mod Verdict
 pub mod Grounds
 pub mod States
 pub mod Kept
+pub mod Stub

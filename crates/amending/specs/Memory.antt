@@ -12,6 +12,8 @@ use Rattle.amending.specs.Lent.{Lent, Handed, handed, unchanged, sum_records, am
 use Rattle.amending.specs.Moves.{leave}
 use Rattle.amending.specs.Entries.{rows_from}
 use Rattle.amending.specs.declared.held.Held.{Held}
+use Rattle.amending.specs.declared.memory.Memory.{Memory as Slices}
+use Rattle.amending.specs.declared.rooms.Rooms.{Rooms as Most}
 
 -- what is lent, whole
 pub record Memory : Type 0 where
@@ -22,12 +24,26 @@ pub record Memory : Type 0 where
 abbrev pub memory : List ℕ → List ℕ → List ℕ → Memory
 memory s r d = record { script = s; records = r; directory = d }
 
+-- as the code is lent it
+abbrev pub as_memory : Slices → Memory
+as_memory m = memory m.script.now m.records.now m.directory.now
+
+-- the slices are the same ones, whatever they hold
+pub record SameSlices (m m' : Slices) : Type 0 where
+  pub script : m'.script.ghost_name ≡ m.script.ghost_name
+  pub records : m'.records.ghost_name ≡ m.records.ghost_name
+  pub directory : m'.directory.ghost_name ≡ m.directory.ghost_name
+
 -- capacity or lent room, of slices of so many bytes and words
 abbrev pub rooms_of : ℕ → ℕ → ℕ → Rooms
 rooms_of s r d = record { bytes = min most_bytes s; tokens = most_tokens; records = record_room r; statements = statement_room d }
 
 abbrev pub rooms_in : Memory → Rooms
 rooms_in M = rooms_of (length M.script) (length M.records) (length M.directory)
+
+-- the rooms as the code has them
+abbrev pub as_rooms : Most → Rooms
+as_rooms r = record { bytes = r.bytes; tokens = r.tokens; records = r.records; statements = r.statements }
 
 -- what is used of it
 abbrev pub used_in : Memory → Held → Lent

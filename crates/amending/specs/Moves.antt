@@ -2,21 +2,21 @@
 use Rattle.std.specs.Prelude.{List, ◌++◌, ℕ, ◌+◌, ◌-◌, max, length, take, drop, replicate}
 
 -- the elements of l from the index f up to, not including, the index t
-abbrev pub part : ℕ → ℕ → List ℕ → List ℕ
+abbrev pub part : {A : Type 0} → ℕ → ℕ → List A → List A
 part f t l = drop f (take t l)
 
 -- how many are in use when the part [from, to) of the first `used` is k long
 abbrev pub used_after : ℕ → ℕ → ℕ → ℕ → ℕ
 used_after used from to k = from + k + (used - to)
 
--- The part [from, to) of the first `used` elements gets k elements: the first from + k stay, then come those from `to` on, then zeros for
--- the room that is freed; past those in use, before or after, l is as it was.
-unfoldable pub resized : List ℕ → ℕ → ℕ → ℕ → ℕ → List ℕ
-resized l used from to k =
+-- The part [from, to) of the first `used` elements gets k elements: the first from + k stay, then come those from `to` on, then as many times `clear` as
+-- room is freed; past those in use, before or after, l is as it was.
+unfoldable pub resized : {A : Type 0} → A → List A → ℕ → ℕ → ℕ → ℕ → List A
+resized clear l used from to k =
     take (from + k) l
-    ++ (part to used l ++ (replicate (used - used_after used from to k) 0 ++ drop (max used (used_after used from to k)) l))
+    ++ (part to used l ++ (replicate (used - used_after used from to k) clear ++ drop (max used (used_after used from to k)) l))
 
--- the same with `text` in the part's place
+-- the same with `text` in the part's place, of numbers, and zeros for the room that is freed
 unfoldable pub spliced : List ℕ → ℕ → ℕ → ℕ → List ℕ → List ℕ
 spliced l used from to text =
     take from l

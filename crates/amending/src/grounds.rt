@@ -1,85 +1,64 @@
 // On what grounds an amendment is refused: 26, 20, 17, 19, then the new text read alone (1 to 15), 18, 16 over the totals.
-ghost use Rattle.std.specs.Prelude.{◌≡◌, ◌+◌, ◌≤◌, length};
-ghost use Rattle.grammar.specs.Sizes.{entry_width};
-ghost use Rattle.reading.specs.Judging.{lists_in};
-ghost use Rattle.amending.specs.Memory.{memory, rooms_of, within, is_edition};
-ghost use Rattle.amending.specs.Grounds.{ends_whole, ends_shut, Ends, words_at, Stands, Few, alone, totals, fitting_by, MeetsVerdict};
+ghost use Rattle.std.specs.Prelude.{◌≡◌, ◌≤◌, length};
+ghost use Rattle.tokens.specs.LentLists.{lists_of};
+ghost use Rattle.amending.specs.Memory.{is_edition, as_memory, as_rooms};
+ghost use Rattle.amending.specs.Grounds.{ends_whole, ends_shut, Ends, Stands, Few, alone, totals, fitting_by, MeetsGround, MeetsVerdict};
+ghost use Rattle.amending.specs.Verdict.{as_verdict, as_fitting};
 
 use crate::held::Held;
-use crate::orders::{in_order, wide};
-use reading::judging::{Counts, Judged, is_clear, judge};
-use reading::rooms::{ENTRY_WIDTH, MOST_TOKENS, byte_room, record_room, statement_room};
-
-// The bytes `;` and `}`.
-const SEMICOLON: u8 = 59;
-
-const BRACE: u8 = 125;
-
-// The words of a directory entry.
-#[derive(Drop)]
-pub struct Row {
-    pub start: usize,
-    pub end: usize,
-    pub records: usize,
-    pub tokens: usize,
-    pub latest: usize,
-}
+use crate::memory::Memory;
+use crate::orders::in_order;
+use crate::rooms::Rooms;
+use crate::rows::Row;
+use crate::stub::judge;
+use reading::judging::{Counts, is_clear};
+use tokens::lists::Lists;
+use tokens::refusals::{Ground, Refusal};
 
 // What the new text holds, and what is used with it in place, but for the latest date, which its entries tell once they are
-// there; or a refusal: its number, and its byte in the new text.
-#[derive(Drop)]
-pub enum Verdict {
-    Fits(Counts, Held),
-    Refused(u32, usize),
+// there.
+#[derive(Clone, Copy)]
+pub struct Fit {
+    pub counts: Counts,
+    pub whole: Held,
 }
 
 pub fn verdict_on(
-    script: &[u8],
-    records: &[u32],
-    directory: &[u32],
+    memory: &Memory<'_>,
     held: Held,
     statement: usize,
     text: &[u8],
-    reserved: &[u8],
-    currencies: &[u8],
-    counters: &[u8],
-) -> Verdict
-    ensures { MeetsVerdict (lists_in reserved.now currencies.now counters.now) (memory script.now records.now directory.now) held statement text.now result }
+    lists: &Lists<'_>,
+) -> Result<Fit, Refusal>
+    ensures { MeetsVerdict (lists_of lists.now) (as_memory memory.now) held statement text.now (as_verdict result) }
+{
+    let row = admitted(memory, held, statement, text).map_err(|cause| Refusal { cause, byte: 0 })?;
+    let counts = judge(text, held.edition == 2, lists)?;
+    let whole = fitting(memory.rooms(), held, row, text, counts).map_err(|cause| Refusal {
+        cause,
+        byte: counts.bytes,
+    })?;
+    Ok(Fit { counts, whole })
+}
+
+// The entry that is replaced; or 26, 20, 17 or 19, all of which lie at byte 0.
+#[tactic(auto, using(crate::proofs::GroundLaws::not_edition, crate::proofs::GroundLaws::refused_room, crate::proofs::GroundLaws::refused_order, crate::proofs::GroundLaws::refused_number, crate::proofs::GroundLaws::refused_zero))]
+fn admitted(memory: &Memory<'_>, held: Held, statement: usize, text: &[u8]) -> Result<Row, Ground>
+    ensures { MeetsGround (as_memory memory.now) held statement text.now result }
 {
     if !is_edition(held.edition) {
-        return Verdict::Refused(26, 0);
+        return Err(Ground::Edition);
     }
-    if !is_within(script.len(), records.len(), directory.len(), held) {
-        return Verdict::Refused(20, 0);
-    }
-    if !in_order(
-        directory,
-        held.statements,
-        held.bytes,
-        held.records,
-        held.tokens,
-        held.latest,
-    ) {
-        return Verdict::Refused(20, 0);
+    if !memory.rooms().hold(&held) || !in_order(memory.directory, &held) {
+        return Err(Ground::Directory);
     }
     if held.statements <= statement {
-        return Verdict::Refused(17, 0);
+        return Err(Ground::Statement);
     }
     if !is_clear(text) {
-        return Verdict::Refused(19, 0);
+        return Err(Ground::ZeroByte);
     }
-    match judge(text, held.edition == 2, reserved, currencies, counters) {
-        Judged::Refused(k, b) => Verdict::Refused(k, b),
-        Judged::Good(c) => fitting(
-            script.len(),
-            records.len(),
-            directory.len(),
-            held,
-            row_at(directory, ENTRY_WIDTH * statement),
-            text,
-            c,
-        ),
-    }
+    Ok(Row::at(memory.directory, statement))
 }
 
 // Whether there is an edition of this number.
@@ -89,34 +68,25 @@ fn is_edition(edition: u32) -> bool
     edition == 1 || edition == 2
 }
 
-// 18 and 16, where a text that can be read takes the place of an entry; the lent slices have so many bytes and words.
-// The text alone is tested first, so that no total can wrap.
-fn fitting(
-    script: usize,
-    records: usize,
-    directory: usize,
-    held: Held,
-    row: Row,
-    text: &[u8],
-    c: Counts,
-) -> Verdict
-    requires { Stands held row × Ends text.now c }
-    ensures { result ≡ fitting_by (rooms_of script records directory) held row text.now c }
+// What is used where a text that can be read takes the place of an entry; or 18 or 16. The text alone is tested first, so that
+// no total can wrap.
+#[tactic(auto, using(crate::proofs::GroundLaws::few_capped), unfolding(crate::specs::Grounds::fitting_by))]
+fn fitting(rooms: Rooms, held: Held, row: Row, text: &[u8], c: Counts) -> Result<Held, Ground>
+    requires stands { Stands held row }
+    requires ends { Ends text.now c }
+    ensures { as_fitting c result ≡ fitting_by (as_rooms rooms) held row text.now c }
 {
-    if !is_whole(text, c.last) {
-        return Verdict::Refused(18, c.bytes);
+    if !is_whole(text, c.last) || !is_shut(text, c.last, c.tokens) {
+        return Err(Ground::Ending);
     }
-    if !is_shut(text, c.last, c.tokens) {
-        return Verdict::Refused(18, c.bytes);
-    }
-    if !is_within(script, records, directory, alone(c)) {
-        return Verdict::Refused(16, c.bytes);
+    if !rooms.hold(&alone(c)) {
+        return Err(Ground::Room);
     }
     let whole = totals(held, row, c);
-    if !is_within(script, records, directory, whole) {
-        return Verdict::Refused(16, c.bytes);
+    if !rooms.hold(&whole) {
+        return Err(Ground::Room);
     }
-    Verdict::Fits(c, whole)
+    Ok(whole)
 }
 
 // What is used of memory that holds the new text alone.
@@ -133,40 +103,11 @@ fn alone(c: Counts) -> Held
     }
 }
 
-// Whether what is used is within capacity and the lent slices, of so many bytes and words.
-fn is_within(script: usize, records: usize, directory: usize, held: Held) -> bool
-    ensures { result ≡ within (rooms_of script records directory) held }
-{
-    if held.bytes > byte_room(script) {
-        return false;
-    }
-    if held.tokens > MOST_TOKENS {
-        return false;
-    }
-    if held.records > record_room(records) {
-        return false;
-    }
-    if held.statements > statement_room(directory) {
-        return false;
-    }
-    true
-}
-
 // 18, of a text whose last token ends at a byte: it is empty, or ends in a line feed, or in that token's last byte.
 fn is_whole(text: &[u8], last: usize) -> bool
     ensures { result ≡ ends_whole text.now last }
 {
-    let n = text.len();
-    if n == 0 {
-        return true;
-    }
-    if text[n - 1] == 10 {
-        return true;
-    }
-    if last == n {
-        return true;
-    }
-    false
+    text.is_empty() || text[text.len() - 1] == b'\n' || last == text.len()
 }
 
 // And that token, if there is one, is `;` or `}`: no other token ends in such a byte.
@@ -174,36 +115,13 @@ fn is_shut(text: &[u8], last: usize, tokens: usize) -> bool
     requires { (last ≤ length text.now) × ((tokens ≡ 0 → ⊥) → 1 ≤ last) }
     ensures { result ≡ ends_shut text.now last tokens }
 {
-    if tokens == 0 {
-        return true;
-    }
-    let b = text[last - 1];
-    if b == SEMICOLON {
-        return true;
-    }
-    if b == BRACE {
-        return true;
-    }
-    false
-}
-
-// The entry whose words stand at an index.
-pub fn row_at(directory: &[u32], i: usize) -> Row
-    requires { i + entry_width ≤ length directory.now }
-    ensures { result ≡ words_at directory.now i }
-{
-    Row {
-        start: wide(directory[i]),
-        end: wide(directory[i + 1]),
-        records: wide(directory[i + 2]),
-        tokens: wide(directory[i + 3]),
-        latest: wide(directory[i + 4]),
-    }
+    tokens == 0 || text[last - 1] == b';' || text[last - 1] == b'}'
 }
 
 // What is used with the new text in place of an entry.
 fn totals(held: Held, row: Row, c: Counts) -> Held
-    requires { Stands held row × Few c }
+    requires stands { Stands held row }
+    requires few { Few c }
     ensures { result ≡ totals held row c }
 {
     Held {

@@ -4,6 +4,10 @@
 pub mod amending;
 mod grounds;
 pub mod held;
+pub mod memory;
 mod moves;
 mod orders;
+mod rooms;
+mod rows;
 mod shifts;
+mod stub;

@@ -11,9 +11,11 @@ ghost use Rattle.archive.specs.Exports.{word, answer_words, held_in, place_words
 
 use amending::amending::amend;
 use amending::held::Held;
+use amending::memory::Memory;
 use calendar::days::{count_of, day_of};
 use reading::parts::{Place, place_of};
 use reading::reading::{Answer, read};
+use tokens::lists::Lists;
 
 // Reads a script of the edition 1 or 2 into records and directory.
 pub fn script_read(
@@ -55,17 +57,22 @@ pub fn script_amend(
 )
     ensures { Replaces (lists_in reserved.now currencies.now day_counters.now) (memory script.old records.old directory.old) answer.old statement text.now answer.new (memory script.new records.new directory.new) }
 {
-    let held = held_in(answer);
-    let a = amend(
+    let mut memory = Memory {
         script,
-        held,
-        statement as usize,
-        text,
-        reserved,
-        currencies,
-        day_counters,
         records,
         directory,
+    };
+    let lists = Lists {
+        reserved,
+        currencies,
+        counters: day_counters,
+    };
+    let a = amend(
+        &mut memory,
+        held_in(answer),
+        statement as usize,
+        text,
+        &lists,
     );
     *answer = answer_words(a);
 }
@@ -93,6 +100,7 @@ pub fn calendar_count(year: u32, month: u32, day: u32) -> u32
 }
 
 // Says which day has a count: year, month, day, and 0, 0, 0 where none has it.
+#[tactic(auto, unfolding(crate::specs::Exports::day_words))]
 pub fn calendar_day(count: u32, day: &mut [u32; 3])
     ensures { day.new ≡ day_words (day_of count) }
 {
@@ -100,19 +108,21 @@ pub fn calendar_day(count: u32, day: &mut [u32; 3])
     *day = [d.year, d.month, d.day];
 }
 
+#[tactic(auto, unfolding(crate::specs::Exports::held_in))]
 fn held_in(words: &[u32; 10]) -> Held
     ensures { result ≡ held_in words.now }
 {
     Held {
-        bytes: wide(words[4]),
-        statements: wide(words[5]),
-        records: wide(words[6]),
-        tokens: wide(words[7]),
-        latest: wide(words[8]),
+        bytes: words[4] as usize,
+        statements: words[5] as usize,
+        records: words[6] as usize,
+        tokens: words[7] as usize,
+        latest: words[8] as usize,
         edition: words[9],
     }
 }
 
+#[tactic(auto, unfolding(crate::specs::Exports::answer_words))]
 fn answer_words(a: Answer) -> [u32; 10]
     ensures { result ≡ answer_words a }
 {
@@ -130,16 +140,11 @@ fn answer_words(a: Answer) -> [u32; 10]
     ]
 }
 
+#[tactic(auto, unfolding(crate::specs::Exports::place_words))]
 fn place_words(p: Place) -> [u32; 3]
     ensures { result ≡ place_words p }
 {
     [p.in_list as u32, low_word(p.from), low_word(p.size)]
-}
-
-fn wide(x: u32) -> usize
-    ensures { result ≡ x }
-{
-    x as usize
 }
 
 fn low_word(n: usize) -> u32

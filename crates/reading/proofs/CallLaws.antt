@@ -200,7 +200,7 @@ module _ {t : List ℕ} {c : Cursor} (h : Holds t c) (W : Language) (l a : ℕ) 
 
 -- the first string decides
 module _ {t : List ℕ} {c : Cursor} (h : Holds t c) (s : c.code ≡ 5) (W : Language) (l : ℕ) {r : Option ℕ}
-  (e : r ≡ index_of (place W.currencies (take (c.end - 1 - (c.start + 1)) (drop (c.start + 1) t)))) (ts : List Token) where
+    (e : r ≡ index_of (place W.currencies (take (c.end - 1 - (c.start + 1)) (drop (c.start + 1) t)))) (ts : List Token) where
   place_of : r ≡ index_of (place W.currencies (content (token_at t c)))
   place_of = e ∙ ap (λ (l : List ℕ). index_of (place W.currencies l)) (sym (content_is h s))
 

@@ -73,7 +73,7 @@ module _ {test : Token → Bool} {op : ℕ → Bool} {p : Reader Tree} (L : Leve
   unfolding grouped ◌>>=◌
   chain_refused c h k b e = peek_is h _ ∙ (rw e)
 
-  module _ (y : ℕ) (R : Out Tree) (n : ℕ) (o : List ℕ) (c : Cursor) (m q : ℕ) (o' : List ℕ) (ch : Chain test p t y R n o c m q o') where
+  module _ {y : ℕ} {R : Out Tree} {n : ℕ} {o : List ℕ} {c : Cursor} {m q : ℕ} {o' : List ℕ} (ch : Chain test p t y R n o c m q o') where
     turn : R ≡ follow (loop (group_turn test p y)) (group_turn test p y ch.tree (toks_at t c.start))
     turn = ch.is ∙ loop_eq (group_turn_law test p L.moves y) ch.tree (toks_at t c.start)
 
@@ -107,7 +107,7 @@ module _ {test : Token → Bool} {op : ℕ → Bool} {p : Reader Tree} (L : Leve
       unfolding ◌>>=◌
       sign_refused k b e = turn ∙ (rw (turn_is, e))
 
-      module _ (c₂ : Cursor) (m₂ q₂ : ℕ) (o₂ : List ℕ) (r : Reads t (p (toks_at t d.start)) m o' c₂ m₂ q₂ o₂) where
+      module _ {c₂ : Cursor} {m₂ q₂ : ℕ} {o₂ : List ℕ} (r : Reads t (p (toks_at t d.start)) m o' c₂ m₂ q₂ o₂) where
         within : m₂ + 3 * length (toks_at t c₂.start) ≤ m + 3 * length (toks_at t d.start)
         within = reads_within t p L.short d m o' c₂ m₂ q₂ o₂ r sign_ready.1
 
@@ -162,29 +162,29 @@ module _ {test : Token → Bool} {op : ℕ → Bool} {p : Reader Tree} (L : Leve
   pub pend_first : (c : Cursor) (n : ℕ) (o : List ℕ) → Ready t c n → Pending test op p t c.start (grouped test p (toks_at t c.start)) n o 0 c n o
   pend_first c n o h = (λ z. record { y_is = refl; is = refl; m_is = refl; o_is = refl; ready = h }, λ z. absurd (z refl))
 
-  pub pend_next : (y : ℕ) (R : Out Tree) (n : ℕ) (o : List ℕ) (c : Cursor) (m q : ℕ) (o' : List ℕ) → Chain test p t y R n o c m q o' → op c.code ≡ true → (d : Cursor) → Follows t c d
+  pub pend_next : {y : ℕ} {R : Out Tree} {n : ℕ} {o : List ℕ} {c : Cursor} {m q : ℕ} {o' : List ℕ} → Chain test p t y R n o c m q o' → op c.code ≡ true → (d : Cursor) → Follows t c d
       → Pending test op p t y R n o c.code d m o'
-  pend_next y R n o c m q o' ch h d f =
+  pend_next {c = c} {q = q} ch h d f =
       (λ z. absurd (true≢false (sym h ∙ (ap op z ∙ L.not_end))), λ z. record { sign = c; q = q; chain = ch; sign_is = refl; yes = h; follows = f })
 
-  module _ (y : ℕ) (R : Out Tree) (n : ℕ) (o : List ℕ) (k : ℕ) (c : Cursor) (m : ℕ) (o' : List ℕ) (w : Pending test op p t y R n o k c m o') where
+  module _ {y : ℕ} {R : Out Tree} {n : ℕ} {o : List ℕ} {k : ℕ} {c : Cursor} {m : ℕ} {o' : List ℕ} (w : Pending test op p t y R n o k c m o') where
     pub pend_ready : Ready t c m
     pend_ready =
-        by_sign k (λ z. (w.0 z).ready) (λ z. sign_ready L t y R n o (w.1 z).sign m (w.1 z).q o' (w.1 z).chain (w.1 z).yes c (w.1 z).follows)
+        by_sign k (λ z. (w.0 z).ready) (λ z. sign_ready L t (w.1 z).chain (w.1 z).yes c (w.1 z).follows)
 
     pub pend_refused : (f b : ℕ) → p (toks_at t c.start) ≡ refused f b → R ≡ refused f b
     pend_refused f b e =
         by_sign k (λ z. (w.0 z).is ∙ chain_refused L t c (w.0 z).ready.0 f b e)
-        (λ z. sign_refused L t y R n o (w.1 z).sign m (w.1 z).q o' (w.1 z).chain (w.1 z).yes c (w.1 z).follows f b e)
+        (λ z. sign_refused L t (w.1 z).chain (w.1 z).yes c (w.1 z).follows f b e)
 
-    module _ (c₂ : Cursor) (m₂ q₂ : ℕ) (o₂ : List ℕ) (r : Reads t (p (toks_at t c.start)) m o' c₂ m₂ q₂ o₂) where
+    module _ {c₂ : Cursor} {m₂ q₂ : ℕ} {o₂ : List ℕ} (r : Reads t (p (toks_at t c.start)) m o' c₂ m₂ q₂ o₂) where
       pend_within : m₂ + 3 * length (toks_at t c₂.start) ≤ m + 3 * length (toks_at t c.start)
       pend_within = reads_within t p L.short c m o' c₂ m₂ q₂ o₂ r pend_ready.1
 
       pub pend_numbers : (n ≤ m₂) × (m₂ ≤ 50000)
       pend_numbers =
           by_sign k (λ z. omega (arith, (w.0 z).m_is, r.counts, pend_within, pend_ready.1, fewest))
-          (λ z. omega (arith, sign_numbers L t y R n o (w.1 z).sign m (w.1 z).q o' (w.1 z).chain (w.1 z).yes c (w.1 z).follows c₂ m₂ q₂ o₂ r))
+          (λ z. omega (arith, sign_numbers L t (w.1 z).chain (w.1 z).yes c (w.1 z).follows r))
         where
           fewest : length (toks_at t c₂.start) < length (toks_at t c.start)
           fewest = moves_less L.moves (toks_at t c.start) r.tree (toks_at t c₂.start) r.is
@@ -205,7 +205,7 @@ module _ {test : Token → Bool} {op : ℕ → Bool} {p : Reader Tree} (L : Leve
               let B = w.1 z in
               let e = J.1 z in
               let put : o₃ ≡ put_row o₂ m₂ (row B.sign.code (m₂ - n + 1) 2 unused y) = e.2 ∙ ap (λ (x : ℕ). put_row o₂ m₂ (row x (m₂ - n + 1) 2 unused y)) (sym B.sign_is) in
-              rw (e.0, e.1) (sign_more L t y R n o B.sign m B.q o' B.chain B.yes c B.follows c₂ m₂ q₂ o₂ r o₃ put)
+              rw (e.0, e.1) (sign_more L t B.chain B.yes c B.follows r o₃ put)
 
       pub pend_less : op c₂.code ≡ true → (d : Cursor) → Follows t c₂ d → length (toks_at t d.start) < length (toks_at t c.start)
       pend_less h d f = omega (arith, moved, f.fewer some)
@@ -232,19 +232,16 @@ module _ {loose tight : Token → Bool} {lop top : ℕ → Bool} {p : Reader Tre
       → Nests loose tight lop top p t c.start (grouped loose (grouped tight p) (toks_at t c.start)) n o 0 0 n c.start c n o
   nest_first c n o h = record { begins = c; q = o; b_is = refl; outer = pend_first O t c n o h; inner = pend_first I t c n o h }
 
-  module _ (y : ℕ) (R : Out Tree) (n : ℕ) (o : List ℕ) (k j f b : ℕ) (c : Cursor) (m : ℕ) (o' : List ℕ) (N : Nests loose tight lop top p t y R n o k j f b c m o') where
+  module _ {y : ℕ} {R : Out Tree} {n : ℕ} {o : List ℕ} {k j f b : ℕ} {c : Cursor} {m : ℕ} {o' : List ℕ} (N : Nests loose tight lop top p t y R n o k j f b c m o') where
     abbrev Q : Out Tree
     Q = grouped tight p (toks_at t N.begins.start)
 
-    pub nest_ready : Ready t c m
-    nest_ready = pend_ready I t b Q f N.q j c m o' N.inner
-
     pub nest_refused : (x z : ℕ) → p (toks_at t c.start) ≡ refused x z → R ≡ refused x z
-    nest_refused x z e = pend_refused O t y R n o k N.begins f N.q N.outer x z (pend_refused I t b Q f N.q j c m o' N.inner x z e)
+    nest_refused x z e = pend_refused O t N.outer x z (pend_refused I t N.inner x z e)
 
-    module _ (c₂ : Cursor) (m₂ q₂ : ℕ) (o₂ : List ℕ) (r : Reads t (p (toks_at t c.start)) m o' c₂ m₂ q₂ o₂) where
+    module _ {c₂ : Cursor} {m₂ q₂ : ℕ} {o₂ : List ℕ} (r : Reads t (p (toks_at t c.start)) m o' c₂ m₂ q₂ o₂) where
       pub nest_numbers : (f ≤ m₂) × (m₂ ≤ 50000)
-      nest_numbers = pend_numbers I t b Q f N.q j c m o' N.inner c₂ m₂ q₂ o₂ r
+      nest_numbers = pend_numbers I t N.inner r
 
       -- a token was read, and a sign behind it
       pub nest_less : (c₂.code ≡ 0 → ⊥) → (d : Cursor) → Follows t c₂ d → length (toks_at t d.start) < length (toks_at t c.start)
@@ -252,10 +249,7 @@ module _ {loose tight : Token → Bool} {lop top : ℕ → Bool} {p : Reader Tre
 
       module _ (i : Joined) (o₃ : List ℕ) (J : Joins o₂ j f m₂ q₂ b i o₃) where
         tight_chain : Chain tight p t b Q f N.q c₂ i.records i.string o₃
-        tight_chain = pend_chain I t b Q f N.q j c m o' N.inner c₂ m₂ q₂ o₂ r i o₃ J
-
-        pub nest_holds : Holds t c₂
-        nest_holds = tight_chain.holds
+        tight_chain = pend_chain I t N.inner r i o₃ J
 
         -- a sign of the inner chain
         pub nest_tighter : top c₂.code ≡ true → (d : Cursor) → Follows t c₂ d → Nests loose tight lop top p t y R n o k c₂.code f b d i.records o₃
@@ -265,34 +259,34 @@ module _ {loose tight : Token → Bool} {lop top : ℕ → Bool} {p : Reader Tre
               q = N.q;
               b_is = N.b_is;
               outer = N.outer;
-              inner = pend_next I t b Q f N.q c₂ i.records i.string o₃ tight_chain h d w;
+              inner = pend_next I t tight_chain h d w;
             }
 
         -- none: the inner chain is an operand of the outer
         module _ (h : top c₂.code ≡ false) where
           whole : Reads t Q f N.q c₂ i.records i.string o₃
-          whole = chain_exit I t b Q f N.q c₂ i.records i.string o₃ tight_chain h
+          whole = chain_exit I t tight_chain h
 
           pub nest_whole_numbers : (n ≤ i.records) × (i.records ≤ 50000)
-          nest_whole_numbers = pend_numbers O t y R n o k N.begins f N.q N.outer c₂ i.records i.string o₃ whole
+          nest_whole_numbers = pend_numbers O t N.outer whole
 
           module _ (v : Joined) (o₄ : List ℕ) (J₂ : Joins o₃ k n i.records i.string y v o₄) where
             loose_chain : Chain loose (grouped tight p) t y R n o c₂ v.records v.string o₄
-            loose_chain = pend_chain O t y R n o k N.begins f N.q N.outer c₂ i.records i.string o₃ whole v o₄ J₂
+            loose_chain = pend_chain O t N.outer whole v o₄ J₂
 
             pub nest_exit : lop c₂.code ≡ false → Reads t R n o c₂ v.records v.string o₄
-            nest_exit = chain_exit O t y R n o c₂ v.records v.string o₄ loose_chain
+            nest_exit = chain_exit O t loose_chain
 
             pub nest_looser : lop c₂.code ≡ true → (d : Cursor) → Follows t c₂ d
                 → Nests loose tight lop top p t y R n o c₂.code 0 v.records d.start d v.records o₄
             nest_looser g d w =
-                let next = pend_next O t y R n o c₂ v.records v.string o₄ loose_chain g d w in
+                let next = pend_next O t loose_chain g d w in
                 record {
                   begins = d;
                   q = o₄;
                   b_is = refl;
                   outer = next;
-                  inner = pend_first I t d v.records o₄ (pend_ready O t y R n o c₂.code d v.records o₄ next);
+                  inner = pend_first I t d v.records o₄ (pend_ready O t next);
                 }
 
 -- ---- the levels of the grammar

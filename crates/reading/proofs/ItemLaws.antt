@@ -15,7 +15,7 @@ use Rattle.tokens.specs.Dates.{date}
 use Rattle.tokens.specs.Tokens.{Token, code, entry, final}
 use Rattle.tokens.specs.declared.cursor.Cursor.{Cursor}
 use Rattle.grammar.specs.Trees.{Tree, Trees, node, nil, ◌▹◌, fields, none as unused, snoc, parts, row}
-use Rattle.grammar.specs.Readers.{Out, ok, refused, Reader, bind, ◌>>=◌, ◌>>◌, Turn, again, follow, loop, is, give, fail, fail_at, read, the}
+use Rattle.grammar.specs.Readers.{Out, ok, refused, Reader, bind, ◌>>=◌, ◌>>◌, again, follow, loop, is, give, fail, fail_at, read}
 use Rattle.grammar.specs.Grammar as G
 use Rattle.grammar.specs.Grammar.{Language, expression, items, closed, arguments, deeper, primary, calls, call_of, cvg, call, payday, payments, payment, pays, listed, postfixes, currency_of, a_currency}
 use Rattle.reading.specs.Calls.{call_kind, right_count}
@@ -33,9 +33,9 @@ use Rattle.reading.specs.declared.answers.Fault.{Fault}
 use Rattle.reading.specs.declared.answers.Read.{Read}
 use Rattle.reading.specs.declared.answers.Texts.{Texts}
 use Rattle.grammar.proofs.Laws.{loop_eq, left_shorter}
-use Rattle.grammar.proofs.GrammarLaws.{Moves, Stays, Steps, laws, expression_law, pay_turn_law, primary_law}
+use Rattle.grammar.proofs.GrammarLaws.{Moves, Stays, Steps, laws, expression_law, pay_turn_law}
 use Rattle.grammar.proofs.SizeLaws.{Sized, SizedAll, expression_size, items_size, arguments_size, moves_less, primary_size}
-use Rattle.reading.proofs.HoldLaws.{toks_are, ask_yes, ask_no, peek_is, fail_is, read_next, the_next, reads_some}
+use Rattle.reading.proofs.HoldLaws.{toks_are, ask_yes, ask_no, peek_is, read_next, the_next, reads_some}
 use Rattle.grammar.proofs.TreeLaws.{parts_snoc}
 use Rattle.reading.proofs.RowLaws.{size_node, size_some, parts_few, before_none, before_more, before_node}
 use Rattle.reading.proofs.ChainLaws.{reads_within}
@@ -148,84 +148,94 @@ pub record ItemChain (W : Language) (k : ℕ) (p : Reader Tree) (t : List ℕ) (
   pub room : Room t c m
   pub holds : Holds t c
   pub shown : Shown t trees x
+  pub moves : Moves p
+  pub short : Sized p
 
-module _ (W : Language) (k : ℕ) (p : Reader Tree) (moves : Moves p) (short : Sized p) (t : List ℕ) where
-  pub items_start : (n : ℕ) (o : List ℕ) (c : Cursor) → Ready t c n
-      → ItemChain W k p t (items_by W k p (toks_at t c.start)) n o c n 0 (record { first = 0; second = 0; third = 0 }) o
-  unfolding items_by
-  items_start n o c ready =
-      record { trees = nil; is = refl; before = before_none n o; many = refl; room = ready.1; holds = ready.0; shown = shown_none t }
+pub items_start : (W : Language) (k : ℕ) (p : Reader Tree) → Moves p → Sized p → (t : List ℕ) (n : ℕ) (o : List ℕ) (c : Cursor) → Ready t c n
+    → ItemChain W k p t (items_by W k p (toks_at t c.start)) n o c n 0 (record { first = 0; second = 0; third = 0 }) o
+unfolding items_by
+items_start W k p moves short t n o c ready =
+    record {
+      trees = nil;
+      is = refl;
+      before = before_none n o;
+      many = refl;
+      room = ready.1;
+      holds = ready.0;
+      shown = shown_none t;
+      moves = moves;
+      short = short;
+    }
 
-  module _ (R : Out Trees) (n : ℕ) (o : List ℕ) (c : Cursor) (m count : ℕ) (x : Texts) (o' : List ℕ) (ch : ItemChain W k p t R n o c m count x o') where
-    turn : R ≡ follow (loop (item_turn_by W k p)) (item_turn_by W k p ch.trees (toks_at t c.start))
-    turn = ch.is ∙ loop_eq (item_turn_by_law W k p moves) ch.trees (toks_at t c.start)
+module _ {W : Language} {k : ℕ} {p : Reader Tree} {t : List ℕ} {R : Out Trees} {n : ℕ} {o : List ℕ} {c : Cursor} {m count : ℕ} {x : Texts} {o' : List ℕ} (ch : ItemChain W k p t R n o c m count x o') where
+  turn : R ≡ follow (loop (item_turn_by W k p)) (item_turn_by W k p ch.trees (toks_at t c.start))
+  turn = ch.is ∙ loop_eq (item_turn_by_law W k p ch.moves) ch.trees (toks_at t c.start)
 
-    pub items_ready : Ready t c m
-    items_ready = (ch.holds, ch.room)
+  -- the closing sign: the loop ends
+  pub items_exit : c.code ≡ k → ReadsItems t R n o c m count x o'
+  unfolding give
+  items_exit e =
+      record {
+        items = ch.trees;
+        is = turn ∙ (rw (ask_yes ch.holds (λ u. eqb k u.kind) _ _ (eq-eqb k c.code (sym e))));
+        counts = ch.before.counts;
+        parts_are = ch.many;
+        writes = ch.before.writes;
+        holds = ch.holds;
+        shown = ch.shown;
+      }
 
-    -- the closing sign: the loop ends
-    pub items_exit : c.code ≡ k → ReadsItems t R n o c m count x o'
-    unfolding give
-    items_exit e =
-        record {
-          items = ch.trees;
-          is = turn ∙ (rw (ask_yes ch.holds (λ u. eqb k u.kind) _ _ (eq-eqb k c.code (sym e))));
-          counts = ch.before.counts;
-          parts_are = ch.many;
-          writes = ch.before.writes;
-          holds = ch.holds;
-          shown = ch.shown;
-        }
+  module _ (z : c.code ≡ k → ⊥) where
+    turn_is : item_turn_by W k p ch.trees (toks_at t c.start) ≡ (expression W p >>= λ e. item_end k (snoc ch.trees e)) (toks_at t c.start)
+    turn_is = ask_no ch.holds (λ u. eqb k u.kind) _ _ (ne_eqb k c.code (λ e. z (sym e)))
 
-    module _ (z : c.code ≡ k → ⊥) where
-      turn_is : item_turn_by W k p ch.trees (toks_at t c.start) ≡ (expression W p >>= λ e. item_end k (snoc ch.trees e)) (toks_at t c.start)
-      turn_is = ask_no ch.holds (λ u. eqb k u.kind) _ _ (ne_eqb k c.code (λ e. z (sym e)))
+    pub items_refused : {j b : ℕ} → expression W p (toks_at t c.start) ≡ refused j b → R ≡ refused j b
+    unfolding ◌>>=◌
+    items_refused e = turn ∙ (rw (turn_is, e))
 
-      pub items_refused : (j b : ℕ) → expression W p (toks_at t c.start) ≡ refused j b → R ≡ refused j b
+    module _ {c₁ : Cursor} {m₁ q : ℕ} {o₁ : List ℕ} (r : Reads t (expression W p (toks_at t c.start)) m o' c₁ m₁ q o₁) where
+      read_within : m₁ + 3 * length (toks_at t c₁.start) ≤ m + 3 * length (toks_at t c.start)
+      read_within = reads_within t (expression W p) (expression_size W p ch.short) c m o' c₁ m₁ q o₁ r ch.room
+
+      -- the numbers that the code computes
+      pub items_numbers : (n ≤ m) × (m ≤ m₁) × (m₁ ≤ 50000) × (count < 50000)
+      items_numbers = omega (arith, read_within, ch.room, ch.before.counts, r.counts, size_some r.tree, ch.many, parts_few ch.trees)
+
+      on_is : item_turn_by W k p ch.trees (toks_at t c.start) ≡ item_end k (snoc ch.trees r.tree) (toks_at t c₁.start)
       unfolding ◌>>=◌
-      items_refused j b e = turn ∙ (rw (turn_is, e))
+      on_is = turn_is ∙ (rw r.is)
 
-      module _ (c₁ : Cursor) (m₁ q : ℕ) (o₁ : List ℕ) (r : Reads t (expression W p (toks_at t c.start)) m o' c₁ m₁ q o₁) where
-        read_within : m₁ + 3 * length (toks_at t c₁.start) ≤ m + 3 * length (toks_at t c.start)
-        read_within = reads_within t (expression W p) (expression_size W p short) c m o' c₁ m₁ q o₁ r ch.room
+      -- neither a comma nor the closing sign follows
+      pub items_wrong : (e : Fault) → FollowsItem t k c₁ (Err e) → R ≡ refused_by e
+      items_wrong e w = turn ∙ (rw (on_is, w (snoc ch.trees r.tree)))
 
-        -- the numbers that the code computes
-        pub items_numbers : (n ≤ m) × (m ≤ m₁) × (m₁ ≤ 50000) × (count < 50000)
-        items_numbers = omega (arith, read_within, ch.room, ch.before.counts, r.counts, size_some r.tree, ch.many, parts_few ch.trees)
+      module _ (d : Cursor) (w : FollowsItem t k c₁ (Ok d)) where
+        no_more : length (toks_at t d.start) ≤ length (toks_at t c₁.start)
+        no_more = omega (arith, left_shorter (item_end_stays k nil (toks_at t c₁.start) (again nil) (toks_at t d.start) (w.1 nil)))
 
-        on_is : item_turn_by W k p ch.trees (toks_at t c.start) ≡ item_end k (snoc ch.trees r.tree) (toks_at t c₁.start)
-        unfolding ◌>>=◌
-        on_is = turn_is ∙ (rw r.is)
+        pub items_less : length (toks_at t d.start) < length (toks_at t c.start)
+        items_less = omega (arith, no_more, moves_less (expression_law W p ch.moves) (toks_at t c.start) r.tree (toks_at t c₁.start) r.is)
 
-        -- neither a comma nor the closing sign follows
-        pub items_wrong : (e : Fault) → FollowsItem t k c₁ (Err e) → R ≡ refused_by e
-        items_wrong e w = turn ∙ (rw (on_is, w (snoc ch.trees r.tree)))
-
-        module _ (d : Cursor) (w : FollowsItem t k c₁ (Ok d)) where
-          no_more : length (toks_at t d.start) ≤ length (toks_at t c₁.start)
-          no_more = omega (arith, left_shorter (item_end_stays k nil (toks_at t c₁.start) (again nil) (toks_at t d.start) (w.1 nil)))
-
-          pub items_less : length (toks_at t d.start) < length (toks_at t c.start)
-          items_less = omega (arith, no_more, moves_less (expression_law W p moves) (toks_at t c.start) r.tree (toks_at t c₁.start) r.is)
-
-          pub items_next : (x' : Texts) → x' ≡ shown_by x count q → ItemChain W k p t R n o d m₁ (count + 1) x' o₁
-          items_next x' e =
-              record {
-                trees = snoc ch.trees r.tree;
-                is = turn ∙ (rw (on_is, w.1 (snoc ch.trees r.tree)));
-                before = before_more r.tree ch.before r.counts r.writes;
-                many = omega (arith, ch.many, parts_snoc ch.trees r.tree);
-                room = omega (arith, read_within, no_more, ch.room);
-                holds = w.0;
-                shown = rw e (shown_more t ch.trees x count q r.tree ch.shown ch.many r.string r.quoted);
-              }
+        pub items_next : {x' : Texts} → x' ≡ shown_by x count q → ItemChain W k p t R n o d m₁ (count + 1) x' o₁
+        items_next e =
+            record {
+              trees = snoc ch.trees r.tree;
+              is = turn ∙ (rw (on_is, w.1 (snoc ch.trees r.tree)));
+              before = before_more r.tree ch.before r.counts r.writes;
+              many = omega (arith, ch.many, parts_snoc ch.trees r.tree);
+              room = omega (arith, read_within, no_more, ch.room);
+              holds = w.0;
+              shown = rw e (shown_more t ch.trees x count q r.tree ch.shown ch.many r.string r.quoted);
+              moves = ch.moves;
+              short = ch.short;
+            }
 
 -- ---- the numbers behind parts that were read
 
-pub items_within : (t : List ℕ) (p : Reader Trees) → SizedAll p → (c : Cursor) (n : ℕ) (o : List ℕ) (d : Cursor) (m k : ℕ) (x : Texts) (o' : List ℕ)
+pub items_within : (t : List ℕ) (p : Reader Trees) → SizedAll p → (c : Cursor) {n : ℕ} {o : List ℕ} {d : Cursor} {m k : ℕ} {x : Texts} {o' : List ℕ}
     → ReadsItems t (p (toks_at t c.start)) n o d m k x o' → Room t c n
     → (n ≤ m) × (k ≤ m) × (m ≤ 50000) × (m + 3 * length (toks_at t d.start) ≤ n + 3 * length (toks_at t c.start))
-items_within t p h c n o d m k x o' r room =
+items_within t p h c {d = d} r room =
     omega (arith, h (toks_at t c.start) r.items (toks_at t d.start) r.is, r.counts, r.parts_are, parts_few r.items)
 
 -- ---- an argument list
@@ -254,9 +264,6 @@ module _ (W : Language) (depth : ℕ) (t : List ℕ) (c : Cursor) (h : Holds t c
     opens : c.code ≡ 0 → ⊥
     opens q = omega (arith, e)
 
-    pub arguments_ready : (n : ℕ) → Room t c n → Ready t d n
-    arguments_ready n room = (w.holds, omega (arith, room, w.fewer opens))
-
     arguments_are : arguments W (inner W depth) (toks_at t c.start) ≡ closed W ")" (primary W (depth - 1)) (toks_at t d.start)
     arguments_are = arguments_yes e ∙ (deeper_some (token_at t c) W depth _ (toks_at t c.start) z ∙ read_next w opens _)
 
@@ -264,10 +271,10 @@ module _ (W : Language) (depth : ℕ) (t : List ℕ) (c : Cursor) (h : Holds t c
     unfolding ◌>>=◌
     arguments_refused j b q = arguments_are ∙ (rw (← items_by_paren W (primary W (depth - 1)), q))
 
-    pub arguments_done : (n : ℕ) (o : List ℕ) (f : Cursor) (m k : ℕ) (x : Texts) (o' : List ℕ) → ReadsItems t (items_by W 41 (primary W (depth - 1)) (toks_at t d.start)) n o f m k x o'
-        → f.code ≡ 41 → (g : Cursor) → Follows t f g → ReadsItems t (arguments W (inner W depth) (toks_at t c.start)) n o g m k x o'
+    pub arguments_done : {n : ℕ} {o : List ℕ} {f : Cursor} {m k : ℕ} {x : Texts} {o' : List ℕ} → ReadsItems t (items_by W 41 (primary W (depth - 1)) (toks_at t d.start)) n o f m k x o'
+        → f.code ≡ 41 → {g : Cursor} → Follows t f g → ReadsItems t (arguments W (inner W depth) (toks_at t c.start)) n o g m k x o'
     unfolding ◌>>=◌ give
-    arguments_done n o f m k x o' r q g u =
+    arguments_done r q u =
         record {
           items = r.items;
           is = arguments_are ∙ ((rw (← items_by_paren W (primary W (depth - 1)), r.is)) ∙ the_next r.holds u (λ z. omega (arith, q)) ")" (close_code ∙ sym q) (give r.items));
@@ -301,19 +308,19 @@ module _ (W : Language) (depth : ℕ) (t : List ℕ) (c d : Cursor) (w : Follows
     unfolding ◌>>=◌
     list_refused j b q = list_is ∙ (rw (← items_by_bracket W (primary W (depth - 1)), q))
 
-    module _ (n : ℕ) (room : Room t c n) (o : List ℕ) (f : Cursor) (m k : ℕ) (x : Texts) (o' : List ℕ)
+    module _ {n : ℕ} (room : Room t c n) {o : List ℕ} {f : Cursor} {m k : ℕ} {x : Texts} {o' : List ℕ}
         (r : ReadsItems t (items_by W 45 (primary W (depth - 1)) (toks_at t d.start)) n o f m k x o') where
       -- the numbers that the code computes
       pub list_numbers : (n ≤ m) × (k ≤ m) × (m < 50000) × (m + 3 + 3 * length (toks_at t f.start) ≤ 50000)
       list_numbers =
           omega (
             arith,
-            items_within t (items_by W 45 (primary W (depth - 1))) (items_by_size W 45 (inr refl) (primary W (depth - 1)) (primary_size W (depth - 1))) d n o f m k x o' r (list_ready n room).1,
+            items_within t (items_by W 45 (primary W (depth - 1))) (items_by_size W 45 (inr refl) (primary W (depth - 1)) (primary_size W (depth - 1))) d r (list_ready n room).1,
             room,
             w.fewer some_list,
           )
 
-      module _ (q : f.code ≡ 45) (g : Cursor) (u : Follows t f g) where
+      module _ (q : f.code ≡ 45) {g : Cursor} (u : Follows t f g) where
         pub list_after : Ready t g (m + 1)
         list_after = (u.holds, omega (arith, list_numbers, u.fewer (λ y. omega (arith, q))))
 
@@ -323,8 +330,8 @@ module _ (W : Language) (depth : ℕ) (t : List ℕ) (c d : Cursor) (w : Follows
             list_is ∙ ((rw (← items_by_bracket W (primary W (depth - 1)), r.is))
             ∙ ap (bind (postfixes W (inner W depth) c.start)) (the_next r.holds u (λ y. omega (arith, q)) "]" (bracket_code ∙ sym q) (give (node 6 c.start [] unused r.items))))
 
-      pub list_tops : (o₂ : List ℕ) → o₂ ≡ put_row o' m (row 6 (m - n + 1) k unused c.start) → Tops n o (node 6 c.start [] unused r.items) (m + 1) o₂
-      list_tops o₂ v =
+      pub list_tops : {o₂ : List ℕ} → o₂ ≡ put_row o' m (row 6 (m - n + 1) k unused c.start) → Tops n o (node 6 c.start [] unused r.items) (m + 1) o₂
+      list_tops v =
           record {
             counts = omega (arith, size_node 6 c.start [] unused r.items, r.counts);
             writes = before_node 6 c.start [] unused (record { counts = r.counts; writes = r.writes }) (omega (arith, r.counts)) r.parts_are v;
@@ -386,11 +393,11 @@ kind_low w k e l u = go (leb 1 (call_of w calls).0) e
     go false q = absurd (other (same (bytes "Spot") w) (same (bytes "Df") w) (same (bytes "RateIndex") w) q)
 
 -- what was read behind a name, with what is left, is no more than there was
-pub arguments_within : (W : Language) (depth : ℕ) (t : List ℕ) (c : Cursor) (n : ℕ) (o : List ℕ) (d : Cursor) (m k : ℕ) (x : Texts) (o' : List ℕ)
+pub arguments_within : (W : Language) (depth : ℕ) (t : List ℕ) (c : Cursor) {n : ℕ} {o : List ℕ} {d : Cursor} {m k : ℕ} {x : Texts} {o' : List ℕ}
     → ReadsItems t (arguments W (inner W depth) (toks_at t c.start)) n o d m k x o' → Room t c n
     → (n ≤ m) × (k ≤ m) × (m ≤ 50000) × (m + 3 * length (toks_at t d.start) ≤ n + 3 * length (toks_at t c.start))
-arguments_within W depth t c n o d m k x o' r room =
-    items_within t (arguments W (inner W depth)) (arguments_size W (inner W depth) (inner_sized W depth)) c n o d m k x o' r room
+arguments_within W depth t c r room =
+    items_within t (arguments W (inner W depth)) (arguments_size W (inner W depth) (inner_sized W depth)) c r room
 
 module _ (W : Language) (depth : ℕ) (tok : Token) (κ : Kind) (e : kind_number κ ≡ call_kind tok.text) (u : kind_number κ < 32) where
   abbrev k : ℕ
@@ -442,7 +449,7 @@ module _ (W : Language) (depth : ℕ) (tok : Token) (κ : Kind) (e : kind_number
     unfolding call ◌>>=◌
     call_refused j b q = rw q
 
-    module _ (n : ℕ) (o : List ℕ) (d : Cursor) (m cnt : ℕ) (x : Texts) (o' : List ℕ)
+    module _ {n : ℕ} {o : List ℕ} {d : Cursor} {m cnt : ℕ} {x : Texts} {o' : List ℕ}
         (r : ReadsItems t (arguments W (inner W depth) (toks_at t c.start)) n o d m cnt x o') where
       call_is : (f : ℕ) → ((es : Trees) → Shown t es x → cnt ≡ parts es → f ≡ call_fault W.counters k es)
           → call W (inner W depth) tok (call_of tok.text calls) (toks_at t c.start) ≡ judged r.items (toks_at t d.start) f
@@ -453,9 +460,9 @@ module _ (W : Language) (depth : ℕ) (tok : Token) (κ : Kind) (e : kind_number
           → call W (inner W depth) tok (call_of tok.text calls) (toks_at t c.start) ≡ refused (number_of g) tok.from
       call_faulty g fault = call_is (number_of g) fault ∙ (rw (ne_eqb (number_of g) 0 (λ z. omega (arith, z, number_in g))))
 
-      pub call_done : ((es : Trees) → Shown t es x → cnt ≡ parts es → 0 ≡ call_fault W.counters k es) → (o₂ : List ℕ) → o₂ ≡ put_row o' m (row k (m - n + 1) cnt unused tok.from)
+      pub call_done : ((es : Trees) → Shown t es x → cnt ≡ parts es → 0 ≡ call_fault W.counters k es) → {o₂ : List ℕ} → o₂ ≡ put_row o' m (row k (m - n + 1) cnt unused tok.from)
           → Reads t (call W (inner W depth) tok (call_of tok.text calls) (toks_at t c.start)) n o d (m + 1) 0 o₂
-      call_done fault o₂ v =
+      call_done fault v =
           record {
             tree = node k tok.from [] unused r.items;
             is = call_is 0 fault;
@@ -476,6 +483,8 @@ pub record PayChain (W : Language) (p : Reader Tree) (t : List ℕ) (R : Out Tre
   pub many : count ≡ parts trees
   pub room : Room t c m
   pub holds : Holds t c
+  pub moves : Moves p
+  pub short : Sized p
 
 abbrev stopping : Token → Bool
 stopping u = is ";" u || is ")" u || is "on" u || is "in" u || is "End" u
@@ -484,52 +493,52 @@ stops_are : (u : Token) → stopping u ≡ pays_stop u.kind
 unfolding code entry
 stops_are u = refl
 
-module _ (W : Language) (p : Reader Tree) (moves : Moves p) (short : Sized p) (t : List ℕ) where
-  pub pay_start : (n : ℕ) (o : List ℕ) (c : Cursor) → Ready t c n → PayChain W p t (payments W p (toks_at t c.start)) n o c n 0 o
-  unfolding payments
-  pay_start n o c ready = record { trees = nil; is = refl; before = before_none n o; many = refl; room = ready.1; holds = ready.0 }
+pub pay_start : (W : Language) (p : Reader Tree) → Moves p → Sized p → (t : List ℕ) (n : ℕ) (o : List ℕ) (c : Cursor) → Ready t c n
+    → PayChain W p t (payments W p (toks_at t c.start)) n o c n 0 o
+unfolding payments
+pay_start W p moves short t n o c ready =
+    record { trees = nil; is = refl; before = before_none n o; many = refl; room = ready.1; holds = ready.0; moves = moves; short = short }
 
-  module _ (R : Out Trees) (n : ℕ) (o : List ℕ) (c : Cursor) (m count : ℕ) (o' : List ℕ) (ch : PayChain W p t R n o c m count o') where
-    pay_turn_lem : R ≡ follow (loop (G.pay_turn W p)) (G.pay_turn W p ch.trees (toks_at t c.start))
-    pay_turn_lem = ch.is ∙ loop_eq (pay_turn_law W p moves) ch.trees (toks_at t c.start)
+module _ {W : Language} {p : Reader Tree} {t : List ℕ} {R : Out Trees} {n : ℕ} {o : List ℕ} {c : Cursor} {m count : ℕ} {o' : List ℕ} (ch : PayChain W p t R n o c m count o') where
+  pay_turn_lem : R ≡ follow (loop (G.pay_turn W p)) (G.pay_turn W p ch.trees (toks_at t c.start))
+  pay_turn_lem = ch.is ∙ loop_eq (pay_turn_law W p ch.moves) ch.trees (toks_at t c.start)
 
-    pub pay_ready : Ready t c m × (n ≤ m)
-    pay_ready = ((ch.holds, ch.room), omega (arith, ch.before.counts))
+  pub pay_exit : pays_stop c.code ≡ true → R ≡ ok ch.trees (toks_at t c.start)
+  unfolding G.pay_turn give
+  pay_exit z = pay_turn_lem ∙ (rw (ask_yes ch.holds stopping _ _ (stops_are (token_at t c) ∙ z)))
 
-    pub pay_exit : pays_stop c.code ≡ true → R ≡ ok ch.trees (toks_at t c.start)
-    unfolding G.pay_turn give
-    pay_exit z = pay_turn_lem ∙ (rw (ask_yes ch.holds stopping _ _ (stops_are (token_at t c) ∙ z)))
+  module _ (z : pays_stop c.code ≡ false) where
+    pay_turn_is : G.pay_turn W p ch.trees (toks_at t c.start) ≡ (expression W p >>= λ e. give (again (snoc ch.trees e))) (toks_at t c.start)
+    unfolding G.pay_turn
+    pay_turn_is = ask_no ch.holds stopping _ _ (stops_are (token_at t c) ∙ z)
 
-    module _ (z : pays_stop c.code ≡ false) where
-      pay_turn_is : G.pay_turn W p ch.trees (toks_at t c.start) ≡ (expression W p >>= λ e. give (again (snoc ch.trees e))) (toks_at t c.start)
-      unfolding G.pay_turn
-      pay_turn_is = ask_no ch.holds stopping _ _ (stops_are (token_at t c) ∙ z)
+    pub pay_refused : {j b : ℕ} → expression W p (toks_at t c.start) ≡ refused j b → R ≡ refused j b
+    unfolding ◌>>=◌
+    pay_refused e = pay_turn_lem ∙ (rw (pay_turn_is, e))
 
-      pub pay_refused : (j b : ℕ) → expression W p (toks_at t c.start) ≡ refused j b → R ≡ refused j b
-      unfolding ◌>>=◌
-      pay_refused j b e = pay_turn_lem ∙ (rw (pay_turn_is, e))
+    module _ {d : Cursor} {m₁ q : ℕ} {o₁ : List ℕ} (r : Reads t (expression W p (toks_at t c.start)) m o' d m₁ q o₁) where
+      pay_within : m₁ + 3 * length (toks_at t d.start) ≤ m + 3 * length (toks_at t c.start)
+      pay_within = reads_within t (expression W p) (expression_size W p ch.short) c m o' d m₁ q o₁ r ch.room
 
-      module _ (d : Cursor) (m₁ q : ℕ) (o₁ : List ℕ) (r : Reads t (expression W p (toks_at t c.start)) m o' d m₁ q o₁) where
-        pay_within : m₁ + 3 * length (toks_at t d.start) ≤ m + 3 * length (toks_at t c.start)
-        pay_within = reads_within t (expression W p) (expression_size W p short) c m o' d m₁ q o₁ r ch.room
+      pub pay_numbers : (n ≤ m) × (m ≤ m₁) × (m₁ ≤ 50000) × (count < 50000)
+      pay_numbers = omega (arith, pay_within, ch.room, ch.before.counts, r.counts, size_some r.tree, ch.many, parts_few ch.trees)
 
-        pub pay_numbers : (n ≤ m) × (m ≤ m₁) × (m₁ ≤ 50000) × (count < 50000)
-        pay_numbers = omega (arith, pay_within, ch.room, ch.before.counts, r.counts, size_some r.tree, ch.many, parts_few ch.trees)
+      pub pay_less : length (toks_at t d.start) < length (toks_at t c.start)
+      pay_less = moves_less (expression_law W p ch.moves) (toks_at t c.start) r.tree (toks_at t d.start) r.is
 
-        pub pay_less : length (toks_at t d.start) < length (toks_at t c.start)
-        pay_less = moves_less (expression_law W p moves) (toks_at t c.start) r.tree (toks_at t d.start) r.is
-
-        pub pay_next : PayChain W p t R n o d m₁ (count + 1) o₁
-        unfolding ◌>>=◌ give
-        pay_next =
-            record {
-              trees = snoc ch.trees r.tree;
-              is = pay_turn_lem ∙ (rw (pay_turn_is, r.is));
-              before = before_more r.tree ch.before r.counts r.writes;
-              many = omega (arith, ch.many, parts_snoc ch.trees r.tree);
-              room = omega (arith, pay_within, ch.room);
-              holds = r.holds;
-            }
+      pub pay_next : PayChain W p t R n o d m₁ (count + 1) o₁
+      unfolding ◌>>=◌ give
+      pay_next =
+          record {
+            trees = snoc ch.trees r.tree;
+            is = pay_turn_lem ∙ (rw (pay_turn_is, r.is));
+            before = before_more r.tree ch.before r.counts r.writes;
+            many = omega (arith, ch.many, parts_snoc ch.trees r.tree);
+            room = omega (arith, pay_within, ch.room);
+            holds = r.holds;
+            moves = ch.moves;
+            short = ch.short;
+          }
 
 -- of the language, the currencies alone matter behind the parts
 pub payday_same : (s : Bool) (a b cu : List ℕ) (l : ℕ) (es : Trees) → payday (language_in s a cu b) l es ≡ payday (words_in [] cu []) l es
@@ -570,6 +579,6 @@ pub pays_done : (s₂ : Bool) (a b cu : List ℕ) (depth : ℕ) (t : List ℕ) (
     → Meets t (pays (language_in s₂ a cu b) (inner (language_in s₂ a cu b) depth) (toks_at t c.start)) n o r o₂
 pays_done s₂ a b cu depth t c d h w e z n o f m count o' ch s r o₂ g =
     let W = language_in s₂ a cu b in
-    let q = pay_exit W (primary W (depth - 1)) (primary_law W (depth - 1)) (primary_size W (depth - 1)) t _ n o f m count o' ch s in
+    let q = pay_exit ch s in
     meets_as t _ _ n o r o₂ (pays_payday W depth t c d h w e z ch.trees f q ∙ ap (λ (y : Reader Tree). y (toks_at t f.start)) (payday_same s₂ a b cu c.start ch.trees))
     (g ch.trees o ch.before ch.many)

@@ -1,7 +1,7 @@
 -- Postfixes and names: what each step of the code comes to in the definition, over plain values.
 use Rattle.std.specs.Prelude.{if◌then◌else◌}
 use mathlib.Core.Path.{◌≡◌, refl, sym, ap, ◌∙◌, subst}
-use mathlib.Core.Bool.{Bool, true, false, ◌&&◌, ◌||◌, not, true≢false}
+use mathlib.Core.Bool.{Bool, true, false, ◌&&◌, ◌||◌, true≢false}
 use mathlib.Core.List.{List, []}
 use mathlib.Core.Option.{Option}
 use mathlib.Core.Logic.{◌⊎◌, inl, inr}
@@ -12,32 +12,31 @@ use borrow.Author.Tests.{eq-eqb, ne_eqb, eqb-true, leb-true}
 use lib.ListN.{length}
 use Rattle.tokens.specs.Text.{bytes, same}
 use Rattle.tokens.specs.Names.{member}
-use Rattle.tokens.specs.Tokens.{Token, code, final}
+use Rattle.tokens.specs.Tokens.{Token, code}
 use Rattle.tokens.specs.declared.cursor.Cursor.{Cursor}
 use Rattle.grammar.specs.Trees.{Tree, Trees, node, nil, ◌▹◌, fields, none as unused, parts, row}
-use Rattle.grammar.specs.Readers.{Out, ok, refused, Reader, bind, ◌>>=◌, ◌>>◌, Turn, again, done, follow, loop, give, fail, fail_at, read, the}
+use Rattle.grammar.specs.Readers.{Out, ok, refused, Reader, bind, ◌>>=◌, ◌>>◌, Turn, again, done, follow, loop, give, fail_at, read, the}
 use Rattle.grammar.specs.Grammar.{Language, binary, deeper, expression, arguments, method, method_of, index_of, postfix_turn, postfixes, calls, call_of, call, named, variable, name, spot, df, rate_index, currency_of, a_currency, equity, pair, primary}
 use Rattle.reading.specs.Rows.{put_row, kind_number, kind_at}
 use Rattle.reading.specs.declared.records.Kind.{Kind}
 use Rattle.reading.specs.declared.records.Kind.TheVariants as kind
 use Rattle.reading.proofs.KindLaws.{kind_back}
 use Rattle.reading.specs.Calls.{call_kind, method_kind}
-use Rattle.reading.specs.Meets.{words_in, language_in, toks_at, token_at, Holds, Room, Ready, Follows, the_by, Takes, string_at, Quoted, Reads, Meets, Before}
+use Rattle.reading.specs.Meets.{words_in, language_in, toks_at, token_at, Holds, Room, Ready, Follows, Takes, string_at, Quoted, Reads, Meets, Before}
 use Rattle.reading.specs.Signs.{postfix_sign}
 use Rattle.std.specs.Prelude.{Result, Ok, Err, Some}
-use Rattle.tokens.specs.declared.refusals.Ground.TheVariants as ground
-use Rattle.reading.specs.Faults.{fault_at, refused_by}
-use Rattle.reading.specs.Turns.{inner, ReadsItems, special_of, Unquoted, Tops, ReadsTurn, MeetsTurn, MeetsTurns}
+use Rattle.reading.specs.Faults.{refused_by}
+use Rattle.reading.specs.Turns.{inner, ReadsItems, special_of, Unquoted, Tops, ReadsTurn, MeetsTurns}
 use Rattle.reading.specs.declared.answers.Fault.{Fault}
 use Rattle.reading.specs.declared.answers.Read.{Read}
 use Rattle.reading.specs.declared.answers.Texts.{Texts}
 use Rattle.grammar.proofs.Laws.{loop_eq}
-use Rattle.grammar.proofs.GrammarLaws.{Each, nothing, just, Moves, expression_law, postfix_turn_law, primary_law}
-use Rattle.grammar.proofs.SizeLaws.{Sized, EachSized, moves_less, expression_size, arguments_spare, named_size}
-use Rattle.reading.proofs.HoldLaws.{toks_are, peek_is, read_next, the_then, the_next, the_then_not, the_next_not, reads_some}
+use Rattle.grammar.proofs.GrammarLaws.{Each, nothing, just, expression_law, postfix_turn_law, primary_law}
+use Rattle.grammar.proofs.SizeLaws.{primary_size, moves_less, expression_size, arguments_spare, named_size}
+use Rattle.reading.proofs.HoldLaws.{peek_is, read_next, the_then, the_next}
 use Rattle.reading.proofs.RowLaws.{size_some, size_node, size_two, sizes_front, parts_few, put_front, put_rows_same, after_two, before_node}
 use Rattle.reading.proofs.ChainLaws.{reads_within}
-use Rattle.reading.proofs.StepLaws.{meets_as, bind_refused, deeper_none, deeper_some, row_says}
+use Rattle.reading.proofs.StepLaws.{meets_as, deeper_none, deeper_some, inner_sized, row_says}
 
 -- ---- answers of calls, as the code takes them apart
 
@@ -63,37 +62,37 @@ each_inner W (suc d) = just (primary_law W d)
 
 -- ---- an index, behind its `[`
 
-module _ (W : Language) (p : Reader Tree) (moves : Moves p) (short : Sized p) (l : ℕ) (t : List ℕ) (c : Cursor) (n m : ℕ) (o : List ℕ) where
+module _ (W : Language) (depth l : ℕ) (t : List ℕ) (c : Cursor) where
   -- the expression is refused
-  pub index_refuses : (e : Fault) → expression W p (toks_at t c.start) ≡ refused_by e → (x : Tree) → index_of W p l x (toks_at t c.start) ≡ refused_by e
+  pub index_refuses : (e : Fault) → expression W (primary W depth) (toks_at t c.start) ≡ refused_by e → (x : Tree) → index_of W (primary W depth) l x (toks_at t c.start) ≡ refused_by e
   unfolding ◌>>=◌
   index_refuses e h x = rw h
 
-  module _ (d : Cursor) (k q : ℕ) (o₁ : List ℕ) (r : Reads t (expression W p (toks_at t c.start)) m o d k q o₁) where
-    index_at : (x : Tree) → index_of W p l x (toks_at t c.start) ≡ (the "]" >> give (again (binary 28 l x r.tree))) (toks_at t d.start)
+  module _ {m : ℕ} {o : List ℕ} {d : Cursor} {k q : ℕ} {o₁ : List ℕ} (r : Reads t (expression W (primary W depth) (toks_at t c.start)) m o d k q o₁) where
+    index_at : (x : Tree) → index_of W (primary W depth) l x (toks_at t c.start) ≡ (the "]" >> give (again (binary 28 l x r.tree))) (toks_at t d.start)
     unfolding ◌>>=◌
     index_at x = rw r.is
 
     -- no `]`
-    pub index_open : (e : Fault) → Takes t 45 d (Err e) → (x : Tree) → index_of W p l x (toks_at t c.start) ≡ refused_by e
+    pub index_open : (e : Fault) → Takes t 45 d (Err e) → (x : Tree) → index_of W (primary W depth) l x (toks_at t c.start) ≡ refused_by e
     unfolding code ◌>>◌ ◌>>=◌ the
     index_open e w x = index_at x ∙ (rw w)
 
-    module _ (room : Room t c m) (low : n < m) (e : Cursor) (follows : Takes t 45 d (Ok e)) where
+    module _ (room : Room t c m) (n : ℕ) (low : n < m) (e : Cursor) (follows : Takes t 45 d (Ok e)) where
       some_left : d.code ≡ 0 → ⊥
       some_left z = omega (arith, z, follows.1)
 
       pub index_numbers : (n < k) × (k < 50000) × (k + 1 + 3 * length (toks_at t e.start) ≤ 50000) × (length (toks_at t e.start) < length (toks_at t c.start))
       index_numbers =
-          let within = reads_within t (expression W p) (expression_size W p short) c m o d k q o₁ r room in
+          let within = reads_within t (expression W (primary W depth)) (expression_size W (primary W depth) (primary_size W depth)) c m o d k q o₁ r room in
           let f = follows.0.fewer some_left in
-          let v : length (toks_at t d.start) < length (toks_at t c.start) = moves_less (expression_law W p moves) (toks_at t c.start) r.tree (toks_at t d.start) r.is in
+          let v : length (toks_at t d.start) < length (toks_at t c.start) = moves_less (expression_law W (primary W depth) (primary_law W depth)) (toks_at t c.start) r.tree (toks_at t d.start) r.is in
           omega (arith, within, f, v, room, low, r.counts)
 
-      pub index_reads : (o₂ : List ℕ) → o₂ ≡ put_row o₁ k (row 28 (k - n + 1) 2 unused l)
-          → MeetsTurns t (λ x. index_of W p l x (toks_at t c.start)) n m o c (Ok (record { at = e; records = k + 1; string = 0 })) o₂
+      pub index_reads : {o₂ : List ℕ} → o₂ ≡ put_row o₁ k (row 28 (k - n + 1) 2 unused l)
+          → MeetsTurns t (λ x. index_of W (primary W depth) l x (toks_at t c.start)) n m o c (Ok (record { at = e; records = k + 1; string = 0 })) o₂
       unfolding code give
-      index_reads o₂ u = (
+      index_reads u = (
         λ x z h.
             record {
               tree = binary 28 l x r.tree;
@@ -136,9 +135,9 @@ module _ (l : ℕ) (x : Tree) (u : Token) (es : Trees) (ts : List Token) where
       yields (same (bytes "append") u.text && eqb (parts es) 1) (same (bytes "mean") u.text && eqb (parts es) 0) (same (bytes "std") u.text && eqb (parts es) 0)
       (nil_of (same (bytes "mean") u.text) es) (nil_of (same (bytes "std") u.text) es)
 
-module _ (W : Language) (I : Option (Reader Tree)) (sizes-in : EachSized I) (l : ℕ) (t : List ℕ) (c : Cursor) (h : Holds t c) (n m : ℕ) (o : List ℕ) where
+module _ (W : Language) (depth l : ℕ) (t : List ℕ) (c : Cursor) (h : Holds t c) where
   -- no name
-  pub method_unnamed : (e : Fault) → Takes t 1 c (Err e) → (x : Tree) → method_of W I l x (toks_at t c.start) ≡ refused_by e
+  pub method_unnamed : (e : Fault) → Takes t 1 c (Err e) → (x : Tree) → method_of W (inner W depth) l x (toks_at t c.start) ≡ refused_by e
   unfolding code ◌>>◌ ◌>>=◌ the
   method_unnamed e w x = rw w
 
@@ -146,42 +145,39 @@ module _ (W : Language) (I : Option (Reader Tree)) (sizes-in : EachSized I) (l :
     some_name : c.code ≡ 0 → ⊥
     some_name z = omega (arith, z, named_then.1)
 
-    pub method_ready : Room t c m → Ready t d m
-    method_ready room = ready_behind t c d m 0 room named_then.0 named_then.1
-
     method_at : (x : Tree)
-        → method_of W I l x (toks_at t c.start) ≡ (arguments W I >>= λ es. method l x (token_at t c) es >>= λ y. give (again y)) (toks_at t d.start)
+        → method_of W (inner W depth) l x (toks_at t c.start) ≡ (arguments W (inner W depth) >>= λ es. method l x (token_at t c) es >>= λ y. give (again y)) (toks_at t d.start)
     unfolding code
     method_at x = the_then h named_then.0 some_name "name" (sym named_then.1) _
 
     -- the arguments are refused
-    pub method_refuses : (e : Fault) → arguments W I (toks_at t d.start) ≡ refused_by e → (x : Tree) → method_of W I l x (toks_at t c.start) ≡ refused_by e
+    pub method_refuses : (e : Fault) → arguments W (inner W depth) (toks_at t d.start) ≡ refused_by e → (x : Tree) → method_of W (inner W depth) l x (toks_at t c.start) ≡ refused_by e
     unfolding ◌>>=◌
     method_refuses e h x = method_at x ∙ (rw h)
 
-    module _ (e : Cursor) (k count : ℕ) (τ : Texts) (o₁ : List ℕ) (j : ReadsItems t (arguments W I (toks_at t d.start)) m o e k count τ o₁) where
-      method_in : (x : Tree) → method_of W I l x (toks_at t c.start) ≡ (method l x (token_at t c) j.items >>= λ y. give (again y)) (toks_at t e.start)
+    module _ {m : ℕ} {o : List ℕ} {e : Cursor} {k count : ℕ} {τ : Texts} {o₁ : List ℕ} (j : ReadsItems t (arguments W (inner W depth) (toks_at t d.start)) m o e k count τ o₁) where
+      method_in : (x : Tree) → method_of W (inner W depth) l x (toks_at t c.start) ≡ (method l x (token_at t c) j.items >>= λ y. give (again y)) (toks_at t e.start)
       unfolding ◌>>=◌
       method_in x = method_at x ∙ (rw j.is)
 
       -- no such method
-      pub method_none : 0 ≡ method_kind (token_at t c).text count → (x : Tree) → method_of W I l x (toks_at t c.start) ≡ refused 10 c.start
+      pub method_none : 0 ≡ method_kind (token_at t c).text count → (x : Tree) → method_of W (inner W depth) l x (toks_at t c.start) ≡ refused 10 c.start
       unfolding ◌>>=◌
       method_none q x =
           let v : method_kind (token_at t c).text (parts j.items) ≡ 0 = ap (method_kind (token_at t c).text) (sym j.parts_are) ∙ sym q in
           let y = (method_yields l x (token_at t c) j.items (toks_at t e.start)).1 v in
           method_in x ∙ (rw y)
 
-      module _ (room : Room t c m) (low : n < m) where
+      module _ (room : Room t c m) (n : ℕ) (low : n < m) where
         pub method_numbers : (n < k) × (k < 50000) × (k + 1 + 3 * length (toks_at t e.start) ≤ 50000) × (length (toks_at t e.start) < length (toks_at t c.start)) × (count < 50000)
         method_numbers =
-            let spare = (arguments_spare W I sizes-in).bound (toks_at t d.start) j.items (toks_at t e.start) j.is in
+            let spare = (arguments_spare W (inner W depth) (inner_sized W depth)).bound (toks_at t d.start) j.items (toks_at t e.start) j.is in
             omega (arith, spare, named_then.0.fewer some_name, room, low, j.counts, j.parts_are, parts_few j.items)
 
-        pub method_reads : (κ : ℕ) → κ ≡ method_kind (token_at t c).text count → (κ ≡ 0 → ⊥) → (o₂ : List ℕ) → o₂ ≡ put_row o₁ k (row κ (k - n + 1) (count + 1) unused l)
-            → MeetsTurns t (λ x. method_of W I l x (toks_at t c.start)) n m o c (Ok (record { at = e; records = k + 1; string = 0 })) o₂
+        pub method_reads : {κ : ℕ} → κ ≡ method_kind (token_at t c).text count → (κ ≡ 0 → ⊥) → {o₂ : List ℕ} → o₂ ≡ put_row o₁ k (row κ (k - n + 1) (count + 1) unused l)
+            → MeetsTurns t (λ x. method_of W (inner W depth) l x (toks_at t c.start)) n m o c (Ok (record { at = e; records = k + 1; string = 0 })) o₂
         unfolding ◌>>=◌ give
-        method_reads κ q z o₂ u =
+        method_reads {κ} q z {o₂} u =
             (λ x s g. turn x s g, ((j.holds, method_numbers.2), omega (arith, method_numbers), method_numbers.3))
           where
             kind_is : κ ≡ method_kind (token_at t c).text (parts j.items)
@@ -191,7 +187,7 @@ module _ (W : Language) (I : Option (Reader Tree)) (sizes-in : EachSized I) (l :
             made x = subst (λ (i : ℕ). (i ≡ 0 → ⊥) → (method l x (token_at t c) j.items (toks_at t e.start) ≡ ok (node i l [] unused (x ▹ j.items)) (toks_at t e.start)) × (i ≡ 5 → ⊥))
                 (sym kind_is) (method_yields l x (token_at t c) j.items (toks_at t e.start)).0 z
 
-            turn : (x : Tree) (s : List ℕ) → Tops n s x m o → ReadsTurn t (method_of W I l x (toks_at t c.start)) n s e (k + 1) o₂
+            turn : (x : Tree) (s : List ℕ) → Tops n s x m o → ReadsTurn t (method_of W (inner W depth) l x (toks_at t c.start)) n s e (k + 1) o₂
             turn x s g =
                 let b : Before n s (x ▹ j.items) k o₁ = record {
                   counts = omega (arith, g.counts, j.counts, sizes_front x j.items);
@@ -240,9 +236,6 @@ module _ (W : Language) (dep l : ℕ) (t : List ℕ) (c d : Cursor) (h : Holds t
   pub postfix_fewer : postfix_sign c.code ≡ true → length (toks_at t d.start) < length (toks_at t c.start)
   postfix_fewer e = omega (arith, w.fewer (λ z. true≢false (sym e ∙ ap postfix_sign z)))
 
-  pub postfix_ready : (m : ℕ) → postfix_sign c.code ≡ true → Room t c m → Ready t d m
-  postfix_ready m e room = (w.holds, omega (arith, room, postfix_fewer e))
-
 -- ---- all postfixes
 
 -- the tree so far, of a text that begins at l, and that the loop from here gives the whole reading R
@@ -250,53 +243,54 @@ pub record PostChain (W : Language) (I : Option (Reader Tree)) (l : ℕ) (t : Li
   pub tree : Tree
   pub is : R ≡ loop (postfix_turn W I l) tree (toks_at t c.start)
   pub tops : Tops n o tree m o'
+  pub each : Each I
 
 -- what is no String node
 plain_string : (t : List ℕ) (y : Tree) → Unquoted y → (0 ≡ string_at y) × Quoted t y
 plain_string t (node k l x (fields a b c d) ts) h = (rw (ne_eqb k 5 h), λ e. absurd (h e))
 
-module _ (W : Language) (I : Option (Reader Tree)) (each : Each I) (l : ℕ) (t : List ℕ) where
-  -- where the loop begins
-  pub post_enter : (x : Tree) (n : ℕ) (o : List ℕ) (c : Cursor) (m : ℕ) (o' : List ℕ) → Tops n o x m o' → PostChain W I l t (postfixes W I l x (toks_at t c.start)) n o c m o'
-  unfolding postfixes
-  post_enter x n o c m o' h = record { tree = x; is = refl; tops = h }
+-- where the loop begins
+pub post_enter : (W : Language) (I : Option (Reader Tree)) → Each I → (l : ℕ) (t : List ℕ) (x : Tree) {n : ℕ} {o : List ℕ} (c : Cursor) {m : ℕ} {o' : List ℕ} → Tops n o x m o'
+    → PostChain W I l t (postfixes W I l x (toks_at t c.start)) n o c m o'
+unfolding postfixes
+post_enter W I each l t x c h = record { tree = x; is = refl; tops = h; each = each }
 
-  module _ (R : Out Tree) (n : ℕ) (o : List ℕ) (c : Cursor) (m : ℕ) (o' : List ℕ) (ch : PostChain W I l t R n o c m o') where
-    turn_of : R ≡ follow (loop (postfix_turn W I l)) (postfix_turn W I l ch.tree (toks_at t c.start))
-    turn_of = ch.is ∙ loop_eq (postfix_turn_law W I each l) ch.tree (toks_at t c.start)
+module _ {W : Language} {I : Option (Reader Tree)} {l : ℕ} {t : List ℕ} {R : Out Tree} {n : ℕ} {o : List ℕ} {c : Cursor} {m : ℕ} {o' : List ℕ} (ch : PostChain W I l t R n o c m o') where
+  turn_of : R ≡ follow (loop (postfix_turn W I l)) (postfix_turn W I l ch.tree (toks_at t c.start))
+  turn_of = ch.is ∙ loop_eq (postfix_turn_law W I ch.each l) ch.tree (toks_at t c.start)
 
-    -- no sign: the loop ends
-    pub post_exit : Holds t c → postfix_sign c.code ≡ false → Reads t R n o c m 0 o'
-    unfolding postfix_turn code give
-    post_exit h z =
-        let s = plain_string t ch.tree ch.tops.unquoted in
-        let dot : eqb 47 c.code ≡ false = or_left (eqb 47 c.code) (eqb 44 c.code) z in
-        let bracket : eqb 44 c.code ≡ false = or_right (eqb 47 c.code) (eqb 44 c.code) z in
-        let q : postfix_turn W I l ch.tree (toks_at t c.start) ≡ ok (done ch.tree) (toks_at t c.start) = peek_is h _ ∙ (rw (dot, bracket)) in
-        record {
-          tree = ch.tree;
-          is = turn_of ∙ (rw q);
-          counts = ch.tops.counts;
-          writes = ch.tops.writes;
-          holds = h;
-          string = s.0;
-          quoted = s.1;
-        }
-      where
-        or_left : (a b : Bool) → (a || b) ≡ false → a ≡ false
-        or_left true b e = absurd (true≢false e)
-        or_left false b e = refl
+  -- no sign: the loop ends
+  pub post_exit : Holds t c → postfix_sign c.code ≡ false → Reads t R n o c m 0 o'
+  unfolding postfix_turn code give
+  post_exit h z =
+      let s = plain_string t ch.tree ch.tops.unquoted in
+      let dot : eqb 47 c.code ≡ false = or_left (eqb 47 c.code) (eqb 44 c.code) z in
+      let bracket : eqb 44 c.code ≡ false = or_right (eqb 47 c.code) (eqb 44 c.code) z in
+      let q : postfix_turn W I l ch.tree (toks_at t c.start) ≡ ok (done ch.tree) (toks_at t c.start) = peek_is h _ ∙ (rw (dot, bracket)) in
+      record {
+        tree = ch.tree;
+        is = turn_of ∙ (rw q);
+        counts = ch.tops.counts;
+        writes = ch.tops.writes;
+        holds = h;
+        string = s.0;
+        quoted = s.1;
+      }
+    where
+      or_left : (a b : Bool) → (a || b) ≡ false → a ≡ false
+      or_left true b e = absurd (true≢false e)
+      or_left false b e = refl
 
-        or_right : (a b : Bool) → (a || b) ≡ false → b ≡ false
-        or_right true b e = absurd (true≢false e)
-        or_right false b e = e
+      or_right : (a b : Bool) → (a || b) ≡ false → b ≡ false
+      or_right true b e = absurd (true≢false e)
+      or_right false b e = e
 
-    -- a turn is refused
-    pub post_refused : (e : Fault) → ((x : Tree) (s : List ℕ) → Tops n s x m o' → postfix_turn W I l x (toks_at t c.start) ≡ refused_by e) → R ≡ refused_by e
-    post_refused e turn = turn_of ∙ ap (follow (loop (postfix_turn W I l))) (turn ch.tree o ch.tops)
+  -- a turn is refused
+  pub post_refused : (e : Fault) → ((x : Tree) (s : List ℕ) → Tops n s x m o' → postfix_turn W I l x (toks_at t c.start) ≡ refused_by e) → R ≡ refused_by e
+  post_refused e turn = turn_of ∙ ap (follow (loop (postfix_turn W I l))) (turn ch.tree o ch.tops)
 
-    pub post_more : (r : Read) (o₂ : List ℕ) → MeetsTurns t (λ x. postfix_turn W I l x (toks_at t c.start)) n m o' c (Ok r) o₂ → PostChain W I l t R n o r.at r.records o₂
-    post_more r o₂ turn = let f = turn.0 ch.tree o ch.tops in record { tree = f.tree; is = turn_of ∙ (rw f.is); tops = f.tops }
+  pub post_more : (r : Read) (o₂ : List ℕ) → MeetsTurns t (λ x. postfix_turn W I l x (toks_at t c.start)) n m o' c (Ok r) o₂ → PostChain W I l t R n o r.at r.records o₂
+  post_more r o₂ turn = let f = turn.0 ch.tree o ch.tops in record { tree = f.tree; is = turn_of ∙ (rw f.is); tops = f.tops; each = ch.each }
 
 -- ---- names
 
@@ -376,7 +370,7 @@ module _ (s₂ : Bool) (res cur cou : List ℕ) (I : Option (Reader Tree)) (t : 
       let g : named (language_in s₂ res cur cou) (token_at t c) (toks_at t d.start) ≡ refused_by e = ap (λ (R : Reader Tree). R (toks_at t d.start)) (sym named_same) ∙ h in
       Facts.0 (sym ki ∙ z) ∙ (rw g)
 
-  module _ (f : Cursor) (m q : ℕ) (o₁ : List ℕ) (r : Reads t (named (words_in res [] []) (token_at t c) (toks_at t d.start)) n o f m q o₁) where
+  module _ {f : Cursor} {m q : ℕ} {o₁ : List ℕ} (r : Reads t (named (words_in res [] []) (token_at t c) (toks_at t d.start)) n o f m q o₁) where
     pub name_numbers : Room t c n → Follows t c d → c.code ≡ 1 → Ready t f m × (n < m)
     name_numbers room w e =
         let l = named_size (words_in res [] []) (token_at t c) (toks_at t d.start) r.tree (toks_at t f.start) r.is in

@@ -254,11 +254,11 @@ module _ {p : Reader Tree} (L : Level (is "**") power_sign p) (low : Gives Low p
   module _ (second : Bool) (y : ℕ) (R : Out Tree) (n : ℕ) (o : List ℕ) (k e : ℕ) (c : Cursor) (m : ℕ) (o' : List ℕ) (w : Powers second p t y R n o k e c m o') where
     pub powers_ready : Ready t c m
     powers_ready =
-        by_edition second (λ x. pend_ready L t y R n o (sign_of k) c m o' (w.left x)) (λ x. wait_ready L.moves L.short low t R n o k e c m o' (w.right x))
+        by_edition second (λ x. pend_ready L t (w.left x)) (λ x. wait_ready L.moves L.short low t R n o k e c m o' (w.right x))
 
     pub powers_refused : (f b : ℕ) → p (toks_at t c.start) ≡ refused f b → R ≡ refused f b
     powers_refused f b z =
-        by_edition second (λ x. pend_refused L t y R n o (sign_of k) c m o' (w.left x) f b z) (λ x. wait_refused L.moves L.short low t R n o k e c m o' (w.right x) f b z)
+        by_edition second (λ x. pend_refused L t (w.left x) f b z) (λ x. wait_refused L.moves L.short low t R n o k e c m o' (w.right x) f b z)
 
     module _ (c₂ : Cursor) (m₂ q₂ : ℕ) (o₂ : List ℕ) (r : Reads t (p (toks_at t c.start)) m o' c₂ m₂ q₂ o₂) where
       read_less : m₂ + 3 * length (toks_at t c₂.start) ≤ m + 3 * length (toks_at t c.start)
@@ -269,7 +269,7 @@ module _ {p : Reader Tree} (L : Level (is "**") power_sign p) (low : Gives Low p
 
       pub powers_numbers : (n ≤ m₂) × (1 ≤ m₂) × (m₂ + k ≤ 50000) × (second ≡ true → e ≤ m₂)
       powers_numbers = (
-        by_edition second (λ x. (pend_numbers L t y R n o (sign_of k) c m o' (w.left x) c₂ m₂ q₂ o₂ r).0) (λ x. omega (arith, r.counts, (waiting x).counts)),
+        by_edition second (λ x. (pend_numbers L t (w.left x) r).0) (λ x. omega (arith, r.counts, (waiting x).counts)),
         omega (arith, r.counts, size_some r.tree),
         omega (arith, read_less, w.room),
         λ x. (wait_numbers L.moves L.short low t R n o k e c m o' (waiting x) c₂ m₂ q₂ o₂ r).1,
@@ -277,13 +277,13 @@ module _ {p : Reader Tree} (L : Level (is "**") power_sign p) (low : Gives Low p
 
       module _ (more : Bool) (is-more : more ≡ power_sign c₂.code) (j : Stepped) (o₃ : List ℕ) (S : Steps second more o₂ k n e m₂ q₂ y c.start j o₃) where
         joined : second ≡ false → Chain (is "**") p t y R n o c₂ j.records j.string o₃
-        joined x = pend_chain L t y R n o (sign_of k) c m o' (w.left x) c₂ m₂ q₂ o₂ r (joined_by j) o₃ (S.0 x)
+        joined x = pend_chain L t (w.left x) r (joined_by j) o₃ (S.0 x)
 
         -- no sign: the chain ends
         pub powers_exit : more ≡ false → Reads t R n o c₂ j.records j.string o₃
         powers_exit z =
             let none_on : power_sign c₂.code ≡ false = sym is-more ∙ z in
-            by_edition second (λ x. chain_exit L t y R n o c₂ j.records j.string o₃ (joined x) none_on)
+            by_edition second (λ x. chain_exit L t (joined x) none_on)
             (λ x. wait_exit L.moves L.short low t R n o k e c m o' (waiting x) c₂ m₂ q₂ o₂ r none_on (joined_by j) o₃ (S.2 x z))
 
         -- a sign: one operand more
@@ -300,7 +300,7 @@ module _ {p : Reader Tree} (L : Level (is "**") power_sign p) (low : Gives Low p
           next_left : second ≡ false → Pending (is "**") power_sign p t y R n o (sign_of (k + 1)) d j.records o₃
           next_left x =
               subst (λ (s : ℕ). Pending (is "**") power_sign p t y R n o s d j.records o₃) (sym (eqb-true 12 c₂.code goes_on) ∙ sign_more k)
-              (pend_next L t y R n o c₂ j.records j.string o₃ (joined x) goes_on d v)
+              (pend_next L t (joined x) goes_on d v)
 
           next_right : second ≡ true → Waits p t R n o (k + 1) j.fits d j.records o₃
           next_right x =

@@ -1,16 +1,16 @@
 -- What each step of the expression readers' code comes to in the definition. Each law is over plain values, and an answer of a
 -- proof cites one.
-use mathlib.Core.Path.{◌≡◌, refl, sym, ap, ◌∙◌, subst}
+use mathlib.Core.Path.{◌≡◌, refl, sym, ap, ◌∙◌}
 use mathlib.Core.Bool.{Bool, true, false, ◌&&◌, not, true≢false}
 use mathlib.Core.Logic.{◌⊎◌, inl, inr, ⊎_elim}
 use mathlib.Core.List.{List, [], ◌∷◌}
 use mathlib.Core.Option.{none, some}
-use Prim.Native.Nat.{ℕ, zero, suc, ◌+◌, ◌-◌, ◌*◌, ◌≤◌, ◌<◌}
+use Prim.Native.Nat.{ℕ, zero, suc, ◌+◌, ◌-◌, ◌≤◌, ◌<◌}
 use Prim.Native.String.{String}
 use native.Mathlib.Omega.{arith}
 use lib.Dec.{eqb}
 use borrow.Author.Tests.{ne_eqb, eqb-true}
-use lib.ListN.{length, take}
+use lib.ListN.{take}
 use Rattle.tokens.specs.Limits.{most_bytes}
 use Rattle.tokens.specs.Text.{bytes, same, within}
 use Rattle.tokens.specs.Names.{names}
@@ -25,10 +25,10 @@ use Rattle.reading.specs.Joins.{Joins}
 use Rattle.reading.specs.declared.records.Node.{Node}
 use Rattle.reading.specs.declared.records.Joined.{Joined}
 use Rattle.reading.specs.Atoms.{literal, atom}
-use Rattle.reading.specs.Meets.{edition_by, language_in, toks_at, token_at, Holds, Room, Ready, Follows, Takes, Lone, Reads, Meets}
+use Rattle.reading.specs.Meets.{edition_by, language_in, toks_at, token_at, Holds, Room, Ready, Follows, Takes, Reads, Meets}
 use Rattle.reading.specs.Signs.{comparator, taken_in, raisable}
 use Rattle.reading.specs.Turns.{inner, power_at, sum_or, comparison_or, parenthesised, list_postfixed, negated_by, MeetsItems, Closed, MeetsTurns}
-use Rattle.std.specs.Prelude.{Result, Ok, Err, Some, None}
+use Rattle.std.specs.Prelude.{Result, Ok, Err}
 use Rattle.reading.specs.Faults.{refused_by}
 use Rattle.reading.specs.declared.answers.Fault.{Fault}
 use Rattle.reading.specs.declared.answers.Read.{Read}
@@ -38,7 +38,7 @@ use Rattle.std.proofs.lemmas.Result.{err_from_is_err_and}
 use Rattle.grammar.proofs.SignedLaws.{Bare, raised_alone, signed_stops, minus_stops}
 use Rattle.grammar.proofs.SizeLaws.{Sized, EachSized, nothing, just, primary_size}
 use Rattle.reading.proofs.HoldLaws.{first_kind, second_is, next_follows, ask_yes, ask_no, peek_is, read_then, read_next, the_then, the_next}
-use Rattle.reading.proofs.RowLaws.{size_some, size_one, size_two, after_one, after_two}
+use Rattle.reading.proofs.RowLaws.{size_one, size_two, after_one, after_two}
 use Rattle.reading.proofs.ChainLaws.{reads_within, binary_plain, by_sign}
 
 -- ---- answers of calls
@@ -101,12 +101,6 @@ module _ {A : Type 0} where
   unfolding deeper
   deeper_some u W d k ts h = rw (inner_some W d h)
 
--- ---- numbers: what was read leaves room for one record more
-
-pub read_numbers : (t : List ℕ) (p : Reader Tree) → Sized p → (c : Cursor) (n : ℕ) (o : List ℕ) (d : Cursor) (m q : ℕ) (o' : List ℕ)
-    → Reads t (p (toks_at t c.start)) n o d m q o' → Room t c n → (n < m) × (m ≤ 50000) × (m + 3 * length (toks_at t d.start) ≤ 50000)
-read_numbers t p h c n o d m q o' r room = omega (arith, reads_within t p h c n o d m q o' r room, size_some r.tree, r.counts)
-
 -- ---- a comparison has at most one comparator
 
 -- two of what p reads, with a comparator between them; or one, where a power is read alone
@@ -148,11 +142,6 @@ pub record Second (alone : Bool) (p : Reader Tree) (t : List ℕ) (c : Cursor) (
 
 abbrev pub Compares : Bool → Reader Tree → List ℕ → Cursor → ℕ → List ℕ → ℕ → Cursor → ℕ → List ℕ → Type 0
 Compares alone p t c n o k e m o' = (k ≡ 0 → First c n o e m o') × ((k ≡ 0 → ⊥) → Second alone p t c n o k e m o')
-
--- the second one is the last
-pub compare_less : (alone : Bool) (k j : ℕ) → k ≡ 0 → comparator alone j ≡ true → 1 - j < 1 - k
-compare_less alone k zero z y = absurd (true≢false (sym y ∙ comparator_no alone 0 refl))
-compare_less alone k (suc j) z y = omega arith
 
 module _ (alone : Bool) (p : Reader Tree) (short : Sized p) (t : List ℕ) (c : Cursor) (n : ℕ) (o : List ℕ) (ready : Ready t c n) where
   comparison_refused : (k b : ℕ) → p (toks_at t c.start) ≡ refused k b → comparison_by alone p (toks_at t c.start) ≡ refused k b
@@ -213,9 +202,6 @@ module _ (alone : Bool) (p : Reader Tree) (short : Sized p) (t : List ℕ) (c : 
             }
 
   -- an operand that is to be read
-  pub compare_first : Compares alone p t c n o 0 c n o
-  compare_first = (λ z. record { e_is = refl; m_is = refl; o_is = refl }, λ z. absurd (z refl))
-
   module _ (k : ℕ) (e : Cursor) (m : ℕ) (o' : List ℕ) (w : Compares alone p t c n o k e m o') where
     pub compare_ready : Ready t e m
     compare_ready =
@@ -227,7 +213,7 @@ module _ (alone : Bool) (p : Reader Tree) (short : Sized p) (t : List ℕ) (c : 
         by_sign k (λ z. comparison_refused f b (rw (w.0 z).e_is at g))
         (λ z. comparison_second (w.1 z).sign m (w.1 z).q o' (w.1 z).left (w.1 z).yes e (w.1 z).follows f b g)
 
-    module _ (d : Cursor) (m₂ q₂ : ℕ) (o₂ : List ℕ) (r : Reads t (p (toks_at t e.start)) m o' d m₂ q₂ o₂) where
+    module _ {d : Cursor} {m₂ q₂ : ℕ} {o₂ : List ℕ} (r : Reads t (p (toks_at t e.start)) m o' d m₂ q₂ o₂) where
       first_read : k ≡ 0 → Reads t (p (toks_at t c.start)) n o d m₂ q₂ o₂
       first_read z = let F = w.0 z in rw (F.e_is, F.m_is, F.o_is) at r
 
@@ -252,10 +238,6 @@ module _ (alone : Bool) (p : Reader Tree) (short : Sized p) (t : List ℕ) (c : 
           pub compare_none : comparator alone d.code ≡ false → Reads t (comparison_by alone p (toks_at t c.start)) n o d j.records j.string o₃
           compare_none = comparison_none d j.records j.string o₃ compare_alone
 
-          pub compare_next : comparator alone d.code ≡ true → (f : Cursor) → Follows t d f → Compares alone p t c n o d.code f j.records o₃
-          compare_next y f g =
-              (λ x. absurd (true≢false (sym y ∙ (ap (comparator alone) x ∙ comparator_no alone 0 refl))), λ x. record { sign = d; q = j.string; left = compare_alone; sign_is = refl; yes = y; follows = g })
-
 -- ---- parentheses
 
 module _ (W : Language) (t : List ℕ) (c d : Cursor) (n : ℕ) (o : List ℕ) (depth : ℕ) (w : Follows t c d) (is_open : c.code ≡ 40) where
@@ -273,7 +255,7 @@ module _ (W : Language) (t : List ℕ) (c d : Cursor) (n : ℕ) (o : List ℕ) (
         → parenthesised W depth (token_at t c) (toks_at t c.start) ≡ refused k b
     parenthesis_refused k b e = inside ∙ bind_refused (expression W (primary W (depth - 1))) _ (toks_at t d.start) k b e
 
-    module _ (e : Cursor) (m q : ℕ) (o' : List ℕ) (r : Reads t (expression W (primary W (depth - 1)) (toks_at t d.start)) n o e m q o') where
+    module _ {e : Cursor} {m q : ℕ} {o' : List ℕ} (r : Reads t (expression W (primary W (depth - 1)) (toks_at t d.start)) n o e m q o') where
       closing : parenthesised W depth (token_at t c) (toks_at t c.start) ≡ (the ")" >> give r.tree) (toks_at t e.start)
       unfolding ◌>>=◌
       closing = inside ∙ (rw r.is)

@@ -1,79 +1,47 @@
--- One ground after the other, in their order.
-use borrow.Author.Tests.{not-true, not-false}
-use native.Mathlib.Omega.{arith}
-use mathlib.Core.Path.{sym, ap, ◌∙◌, subst}
-use lib.Dec.{eqb}
-use Rattle.reading.specs.Meets.{edition_by}
-use Rattle.reading.specs.Judging.{lists_in}
-use Rattle.reading.proofs.ReadLaws.{judged_not, judged_good}
-use Rattle.amending.specs.Memory.{memory, rooms_in}
-use Rattle.amending.specs.Grounds.{Stands, fitting_by, MeetsVerdict}
-use Rattle.amending.proofs.Editions.{tested}
-use Rattle.amending.proofs.GroundLaws.{within_are, bounded, not_edition, not_within, not_ordered, not_there, one_stands, entry_in, not_clear, not_read, ends_ready, fitted}
+-- What is asked before the text is read, then the text, then whether it fits.
+use Rattle.std.proofs.Common.{Ok, rules}
+use mathlib.Core.Path.{◌≡◌, sym, ap, ◌∙◌, subst}
+use Rattle.tokens.specs.LentLists.{lists_of}
+use Rattle.amending.specs.Memory.{as_memory}
+use Rattle.amending.specs.Grounds.{Stands, fitting_by, MeetsGround, MeetsVerdict}
+use Rattle.amending.specs.Verdict.{as_verdict, as_fitting}
+use Rattle.amending.proofs.GroundLaws.{ok_was, admitted_stands, admitted_refused, admitted_ends, admitted_fits}
 use Rattle.amending.proofs.grounds.verdict_on.Goals as goal
+use Rattle.amending.proofs.grounds.verdict_on.Goals.{After-judge}
 
-pub returns-then-not-is_edition : goal.returns-then-not-is_edition
-returns-then-not-is_edition c =
-    let args = c.args in
-    not_edition (lists_in args.reserved.now args.currencies.now args.counters.now) (memory args.script.now args.records.now args.directory.now) args.held args.statement args.text.now (sym c.is_edition.ensures ∙ not-true _ c.if-not-is_edition.true-raw)
+row_is : (c : After-judge) → MeetsGround (as_memory c.args.memory.now) c.args.held c.args.statement c.args.text.now (Ok c.in_ok-row.row)
+row_is c =
+    subst (MeetsGround (as_memory c.args.memory.now) c.args.held c.args.statement c.args.text.now)
+    (ok_was _ c.admitted.result c.map_err.result c.in_ok-row.row c.map_err.ensures.cases (c.in_ok-row.was {u = tt})) c.admitted.ensures
 
-pub returns-then-not-is_within : goal.returns-then-not-is_within
-returns-then-not-is_within c =
-    let args = c.args in
-    not_within (lists_in args.reserved.now args.currencies.now args.counters.now) (memory args.script.now args.records.now args.directory.now) args.held args.statement args.text.now (edition_by (eqb args.held.edition 2)) (tested args.held.edition (sym c.is_edition.ensures ∙ not-false _ c.if-not-is_edition.false-raw)) (sym c.is_within.ensures ∙ not-true _ c.if-not-is_within.true-raw)
+pub returns-in_err-counts : goal.returns-in_err-counts
+returns-in_err-counts c =
+    let row = row_is (goal.at.returns-in_err-counts c).After-judge in
+    let refused = admitted_refused (as_memory c.args.memory.now) c.args.held c.args.statement c.args.text.now (lists_of c.args.lists.now) row.0 (sym (c.in_err-counts.ensures {u = tt})) in
+    search rules
 
-pub returns-then-not-in_order : goal.returns-then-not-in_order
-returns-then-not-in_order c =
-    let args = c.args in
-    let memory' = memory args.script.now args.records.now args.directory.now in
-    not_ordered (lists_in args.reserved.now args.currencies.now args.counters.now) memory' args.held args.statement args.text.now (edition_by (eqb args.held.edition 2)) (tested args.held.edition (sym c.is_edition.ensures ∙ not-false _ c.if-not-is_edition.false-raw)) (within_are (rooms_in memory') args.held (sym c.is_within.ensures ∙ not-false _ c.if-not-is_within.false-raw)) (sym c.in_order.ensures ∙ not-true _ c.if-not-in_order.true-raw)
+pub fitting-requires-clause-stands : goal.fitting-requires-clause-stands
+fitting-requires-clause-stands c =
+    let row = row_is (goal.at.fitting-requires-clause-stands c).After-judge in
+    subst (Stands c.args.held) (sym row.1) (admitted_stands (as_memory c.args.memory.now) c.args.held c.args.statement c.args.text.now (lists_of c.args.lists.now) row.0)
 
-pub returns-then-held-statement : goal.returns-then-held-statement
-returns-then-held-statement c =
-    let args = c.args in
-    let memory' = memory args.script.now args.records.now args.directory.now in
-    not_there (lists_in args.reserved.now args.currencies.now args.counters.now) memory' args.held args.statement args.text.now (edition_by (eqb args.held.edition 2)) (tested args.held.edition (sym c.is_edition.ensures ∙ not-false _ c.if-not-is_edition.false-raw)) (within_are (rooms_in memory') args.held (sym c.is_within.ensures ∙ not-false _ c.if-not-is_within.false-raw)) (sym c.in_order.ensures ∙ not-false _ c.if-not-in_order.false-raw) c.if-held-statement.true
+pub fitting-requires-clause-ends : goal.fitting-requires-clause-ends
+fitting-requires-clause-ends c =
+    let row = row_is (goal.at.fitting-requires-clause-ends c).After-judge in
+    admitted_ends (as_memory c.args.memory.now) c.args.held c.args.statement c.args.text.now (lists_of c.args.lists.now) row.0 (sym (c.in_ok-counts.ensures {u = tt}))
 
-pub returns-then-not-is_clear : goal.returns-then-not-is_clear
-returns-then-not-is_clear c =
-    let args = c.args in
-    let memory' = memory args.script.now args.records.now args.directory.now in
-    not_clear (lists_in args.reserved.now args.currencies.now args.counters.now) memory' args.held args.statement args.text.now (edition_by (eqb args.held.edition 2)) (tested args.held.edition (sym c.is_edition.ensures ∙ not-false _ c.if-not-is_edition.false-raw)) (within_are (rooms_in memory') args.held (sym c.is_within.ensures ∙ not-false _ c.if-not-is_within.false-raw)) (sym c.in_order.ensures ∙ not-false _ c.if-not-in_order.false-raw) c.if-held-statement.false (sym c.is_clear.ensures ∙ not-true _ c.if-not-is_clear.true-raw)
+pub returns-in_err-whole : goal.returns-in_err-whole
+returns-in_err-whole c =
+    let row = row_is (goal.at.returns-in_err-whole c).After-judge in
+    let fits = admitted_fits (as_memory c.args.memory.now) c.args.held c.args.statement c.args.text.now (lists_of c.args.lists.now) row.0 (sym (c.in_ok-counts.ensures {u = tt})) in
+    let same : as_verdict c.from_residual-in_err-whole.result ≡ as_fitting c.in_ok-counts.counts c.fitting.result = search rules in
+    subst (MeetsVerdict (lists_of c.args.lists.now) (as_memory c.args.memory.now) c.args.held c.args.statement c.args.text.now)
+    (sym (same ∙ c.fitting.ensures ∙ (λ i. fitting_by (c.rooms.ensures i) c.args.held (row.1 i) c.args.text.now c.in_ok-counts.counts))) fits
 
-pub overflow_mul-statement : goal.overflow_mul-statement
-overflow_mul-statement c =
-    let args = c.args in
-    let memory' = memory args.script.now args.records.now args.directory.now in
-    omega (arith, (bounded memory' args.held (within_are (rooms_in memory') args.held (sym c.is_within.ensures ∙ not-false _ c.if-not-is_within.false-raw))).1, c.if-held-statement.false)
-
-pub row_at-requires : goal.row_at-requires
-row_at-requires c =
-    let args = c.args in
-    let memory' = memory args.script.now args.records.now args.directory.now in
-    entry_in (lists_in args.reserved.now args.currencies.now args.counters.now) memory' args.held args.statement args.text.now (edition_by (eqb args.held.edition 2)) (tested args.held.edition (sym c.is_edition.ensures ∙ not-false _ c.if-not-is_edition.false-raw)) (within_are (rooms_in memory') args.held (sym c.is_within.ensures ∙ not-false _ c.if-not-is_within.false-raw)) (sym c.in_order.ensures ∙ not-false _ c.if-not-in_order.false-raw) c.if-held-statement.false
-
-pub fitting-requires : goal.fitting-requires
-fitting-requires c =
-    let args = c.args in
-    let lists = lists_in args.reserved.now args.currencies.now args.counters.now in
-    let memory' = memory args.script.now args.records.now args.directory.now in
-    let rooms = rooms_in memory' in
-    let edition = edition_by (eqb args.held.edition 2) in
-    (subst (Stands args.held) (sym c.row_at.ensures) (one_stands lists memory' args.held args.statement args.text.now edition (tested args.held.edition (sym c.is_edition.ensures ∙ not-false _ c.if-not-is_edition.false-raw)) (within_are rooms args.held (sym c.is_within.ensures ∙ not-false _ c.if-not-is_within.false-raw)) (sym c.in_order.ensures ∙ not-false _ c.if-not-in_order.false-raw) c.if-held-statement.false), ends_ready lists memory' args.held args.statement args.text.now edition (tested args.held.edition (sym c.is_edition.ensures ∙ not-false _ c.if-not-is_edition.false-raw)) (within_are rooms args.held (sym c.is_within.ensures ∙ not-false _ c.if-not-is_within.false-raw)) (sym c.in_order.ensures ∙ not-false _ c.if-not-in_order.false-raw) c.if-held-statement.false (sym c.is_clear.ensures ∙ not-false _ c.if-not-is_clear.false-raw) (judged_good edition lists args.text.now (sym c.judge.ensures ∙ c.in-Good.is)))
-
-pub returns-in-Refused : goal.returns-in-Refused
-returns-in-Refused c =
-    let args = c.args in
-    let lists = lists_in args.reserved.now args.currencies.now args.counters.now in
-    let memory' = memory args.script.now args.records.now args.directory.now in
-    let edition = edition_by (eqb args.held.edition 2) in
-    not_read lists memory' args.held args.statement args.text.now edition (tested args.held.edition (sym c.is_edition.ensures ∙ not-false _ c.if-not-is_edition.false-raw)) (within_are (rooms_in memory') args.held (sym c.is_within.ensures ∙ not-false _ c.if-not-is_within.false-raw)) (sym c.in_order.ensures ∙ not-false _ c.if-not-in_order.false-raw) c.if-held-statement.false (sym c.is_clear.ensures ∙ not-false _ c.if-not-is_clear.false-raw) (judged_not edition lists args.text.now (sym c.judge.ensures ∙ c.in-Refused.is))
-
-pub returns-in-Good : goal.returns-in-Good
-returns-in-Good c =
-    let args = c.args in
-    let lists = lists_in args.reserved.now args.currencies.now args.counters.now in
-    let memory' = memory args.script.now args.records.now args.directory.now in
-    let rooms = rooms_in memory' in
-    let edition = edition_by (eqb args.held.edition 2) in
-    subst (MeetsVerdict lists memory' args.held args.statement args.text.now) (sym (c.fitting.ensures ∙ ap (λ x. fitting_by rooms args.held x args.text.now c.in-Good.c) c.row_at.ensures)) (fitted lists memory' args.held args.statement args.text.now edition (tested args.held.edition (sym c.is_edition.ensures ∙ not-false _ c.if-not-is_edition.false-raw)) (within_are rooms args.held (sym c.is_within.ensures ∙ not-false _ c.if-not-is_within.false-raw)) (sym c.in_order.ensures ∙ not-false _ c.if-not-in_order.false-raw) c.if-held-statement.false (sym c.is_clear.ensures ∙ not-false _ c.if-not-is_clear.false-raw) (judged_good edition lists args.text.now (sym c.judge.ensures ∙ c.in-Good.is)))
+pub returns : goal.returns
+returns c =
+    let row = row_is (goal.at.returns c).After-judge in
+    let fits = admitted_fits (as_memory c.args.memory.now) c.args.held c.args.statement c.args.text.now (lists_of c.args.lists.now) row.0 (sym (c.in_ok-counts.ensures {u = tt})) in
+    let was = ok_was _ c.fitting.result c.map_err-2.result c.in_ok-whole.whole c.map_err-2.ensures.cases (c.in_ok-whole.was {u = tt}) in
+    subst (MeetsVerdict (lists_of c.args.lists.now) (as_memory c.args.memory.now) c.args.held c.args.statement c.args.text.now)
+    (sym (ap (as_fitting c.in_ok-counts.counts) (sym was) ∙ c.fitting.ensures ∙ (λ i. fitting_by (c.rooms.ensures i) c.args.held (row.1 i) c.args.text.now c.in_ok-counts.counts))) fits

@@ -1,14 +1,13 @@
--- what is known once an entry was read
+-- what the entries that were read leave of the test
 use mathlib.Core.Path.{◌≡◌}
-use Prim.Native.Nat.{◌+◌, ◌*◌}
+use Prim.Native.Nat.{◌-◌, ◌*◌}
 use lib.ListN.{drop}
 use Rattle.grammar.specs.Sizes.{entry_width}
 use Rattle.amending.specs.Entries.{rows_from}
 use Rattle.amending.proofs.OrderLaws.{told, counted}
 use Rattle.amending.proofs.orders.in_order.Given as goal
 
-abbrev pub invariant-loop-left : goal.invariant-loop-left
-invariant-loop-left l = (entry_width * l.left + l.at ≡ entry_width * l.statements) × (told l.bytes l.records l.tokens l.latest (rows_from l.statements l.directory) ≡ counted l.after l.bytes l.records_left l.tokens_left l.latest l.seen (rows_from l.left (drop l.at l.directory)))
-
-abbrev pub decreases-loop-left : goal.decreases-loop-left
-decreases-loop-left l = l.left
+abbrev pub invariant-loop-number : goal.invariant-loop-number
+invariant-loop-number l =
+    told l.held.bytes l.held.records l.held.tokens l.held.latest (rows_from l.held.statements l.directory)
+    ≡ counted l.rest.after l.held.bytes l.rest.records l.rest.tokens l.held.latest l.rest.latest (rows_from (l.held.statements - l.number) (drop (entry_width * l.number) l.directory))

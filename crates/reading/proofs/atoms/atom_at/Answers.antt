@@ -13,6 +13,6 @@ returns-in_default c = rw c.at.ensures (atom_not c.requires.0.0 (λ e. omega ari
 pub returns : goal.returns
 returns c =
     elim c.match-c.branch [
-      in-3 w ↦ true_reads c.requires.0.0 c.requires.1 w.in-3.is (rw (c.plain.ensures, w.kind-is) at c.put.ensures)
-    | in-4 w ↦ false_reads c.requires.0.0 c.requires.1 w.in-4.is (rw (c.plain.ensures, w.kind-is) at c.put.ensures)
+      | in-3 w ↦ true_reads c.requires.0.0 c.requires.1 w.in-3.is (rw (c.plain.ensures, w.kind-is) at c.put.ensures)
+      | in-4 w ↦ false_reads c.requires.0.0 c.requires.1 w.in-4.is (rw (c.plain.ensures, w.kind-is) at c.put.ensures)
     ]

@@ -11,8 +11,8 @@ returns-then-texts-eq0 c =
 pub returns-then-is_none : goal.returns-then-is_none
 returns-then-is_none c =
     λ es S p. elim c.then-is_none.branch [
-      then-is_none-via-then-is_none w ↦ cvg_date _ _ _ es S p c.if-texts-eq0.false c.if-texts-eq0-2.false c.if-texts-eq0-3.false c.date_at.ensures w.if-is_none.ensures
-    | then-is_none-via-else-is_none+then-is_none-2 w ↦ cvg_date_2 _ _ _ es S p c.if-texts-eq0.false c.if-texts-eq0-2.false c.if-texts-eq0-3.false c.date_at.ensures w.if-is_none.ensures w.date_at-else-is_none.ensures w.if-is_none-2.ensures
+      | then-is_none-via-then-is_none w ↦ cvg_date _ _ _ es S p c.if-texts-eq0.false c.if-texts-eq0-2.false c.if-texts-eq0-3.false c.date_at.ensures w.if-is_none.ensures
+      | then-is_none-via-else-is_none+then-is_none-2 w ↦ cvg_date_2 _ _ _ es S p c.if-texts-eq0.false c.if-texts-eq0-2.false c.if-texts-eq0-3.false c.date_at.ensures w.if-is_none.ensures w.date_at-else-is_none.ensures w.if-is_none-2.ensures
     ]
 
 pub returns-then-is_none-3 : goal.returns-then-is_none-3

@@ -13,7 +13,6 @@ use Rattle.reading.proofs.ChainLaws.{plus_or_minus, times_or_by, tighter, looser
 use Rattle.reading.specs.Signs.{tighter_sign, looser_sign, sum_sign, product_sign}
 use Rattle.reading.specs.Turns.{power_at, product_or, sum_or, comparison_or, expression_or, items_by, inner}
 use Rattle.reading.proofs.ItemLaws.{ItemChain, PayChain}
-use Rattle.grammar.specs.Grammar.{primary as primaryG, method_of, index_of, postfix_turn}
 use Rattle.reading.proofs.PostfixLaws.{PostChain}
 use Rattle.reading.proofs.expressions.+expressions.Given as goal
 
