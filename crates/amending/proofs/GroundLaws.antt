@@ -2,14 +2,14 @@
 use Rattle.std.specs.Prelude.{if◌then◌else◌, Result, Ok, Err, MatchResult}
 use Rattle.std.specs.Result.{IsErrAnd}
 use mathlib.Core.Path.{◌≡◌, refl, sym, ap, ◌∙◌, subst}
-use mathlib.Core.Bool.{true, false, ◌&&◌, not, false≢true}
+use mathlib.Core.Bool.{true, false, ◌&&◌, not}
 use mathlib.Core.List.{List, [], ◌∷◌, ◌++◌, map}
 use Prim.Native.Nat.{ℕ, ◌+◌, ◌-◌, ◌*◌, ◌/◌, ◌≤◌, ◌<◌}
 use native.Mathlib.Omega.{arith}
 use lib.Dec.{T, leb, eqb}
 use lib.ListN.{length, take, drop, length-append, length-drop, length-map}
 use lib.Seq.{length-take-le}
-use mathlib.Core.Logic.{◌⊎◌, ⊎_elim}
+use mathlib.Core.Logic.{⊎_elim}
 use Rattle.std.proofs.lemmas.Bool.{cases_Bool}
 use Rattle.std.proofs.lemmas.Bool.Decides.{nat_tests}
 use borrow.Author.Tests.{eq-eqb, ne_eqb}
@@ -24,7 +24,7 @@ use Rattle.grammar.specs.Words.{Row, row_of}
 use Rattle.reading.specs.Meets.{edition_by, listed}
 use Rattle.reading.specs.Judging.{last_end as text_end, judgement}
 use Rattle.reading.specs.declared.judging.Counts.{Counts}
-use Rattle.reading.specs.declared.judging.Judged.TheVariants as judged
+use Rattle.reading.specs.Judging as judged
 use Rattle.grammar.proofs.AmendBytes.{Text, Accepted, read_accepted, script_all, text_tokens, tokens_append}
 use Rattle.grammar.proofs.ReachLaws.{none_end}
 use Rattle.grammar.proofs.Endings.{Snoc, nil, snoc, snoc_of, LastToken, last_token}
@@ -375,13 +375,13 @@ module _ (M : Memory) (h : Held) (k : ℕ) (n : List ℕ) where
     pub admitted_stands : Stands h (words_at M.directory (entry_width * k))
     admitted_stands = one_stands l M h k n E (tested h.edition A.edition) (within_are (rooms_in M) h A.holds) A.ordered A.there
 
-    pub admitted_refused : {f b : ℕ} → judgement E l n ≡ judged.Refused f b → amend_in l M h k n ≡ unchanged f b
+    pub admitted_refused : {f b : ℕ} → judgement E l n ≡ judged.rejected f b → amend_in l M h k n ≡ unchanged f b
     admitted_refused j = not_read l M h k n E (tested h.edition A.edition) (within_are (rooms_in M) h A.holds) A.ordered A.there A.clear (judged_not E l n j)
 
-    pub admitted_ends : {c : Counts} → judgement E l n ≡ judged.Good c → Ends n c
+    pub admitted_ends : {c : Counts} → judgement E l n ≡ judged.good c → Ends n c
     admitted_ends j = ends_ready l M h k n E (tested h.edition A.edition) (within_are (rooms_in M) h A.holds) A.ordered A.there A.clear (judged_good E l n j)
 
-    pub admitted_fits : {c : Counts} → judgement E l n ≡ judged.Good c → MeetsVerdict l M h k n (fitting_by (rooms_in M) h (words_at M.directory (entry_width * k)) n c)
+    pub admitted_fits : {c : Counts} → judgement E l n ≡ judged.good c → MeetsVerdict l M h k n (fitting_by (rooms_in M) h (words_at M.directory (entry_width * k)) n c)
     admitted_fits j = fitted l M h k n E (tested h.edition A.edition) (within_are (rooms_in M) h A.holds) A.ordered A.there A.clear (judged_good E l n j)
 
 -- ---- a result whose refusal was given its byte

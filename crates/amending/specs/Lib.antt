@@ -9,4 +9,3 @@ pub mod Verdict
 pub mod Grounds
 pub mod States
 pub mod Kept
-pub mod Stub

@@ -10,8 +10,7 @@ use crate::memory::Memory;
 use crate::orders::in_order;
 use crate::rooms::Rooms;
 use crate::rows::Row;
-use crate::stub::judge;
-use reading::judging::{Counts, is_clear};
+use reading::judging::{Counts, is_clear, judge};
 use tokens::lists::Lists;
 use tokens::refusals::{Ground, Refusal};
 

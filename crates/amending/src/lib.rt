@@ -10,4 +10,3 @@ mod orders;
 mod rooms;
 mod rows;
 mod shifts;
-mod stub;

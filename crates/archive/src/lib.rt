@@ -1,5 +1,5 @@
 // The calls that `archive_c` exports to C and Rust: reading, amending, the lookup, and the calendar. Answers, places and days
-// are words of 32 bits in lent arrays.
+// are words of 32 bits in lent arrays, and the arguments are those of the C interface.
 #![tactic(auto)]
 
 ghost use Rattle.std.specs.Prelude.{◌≡◌};
@@ -30,15 +30,12 @@ pub fn script_read(
 )
     ensures { Reads edition (lists_in reserved.now currencies.now day_counters.now) script.now records.old directory.old answer.new records.new directory.new }
 {
-    let a = read(
-        script,
-        edition,
+    let lists = Lists {
         reserved,
         currencies,
-        day_counters,
-        records,
-        directory,
-    );
+        counters: day_counters,
+    };
+    let a = read(script, edition, &lists, records, directory);
     *answer = answer_words(a);
 }
 

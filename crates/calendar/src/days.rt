@@ -32,10 +32,11 @@ fn days_in(y: u32, m: u32) -> u32
 fn is_day(y: u32, m: u32, d: u32) -> bool
     ensures { result ≡ is_day (dated y m d) }
 {
-    1 <= y && (y <= LAST_YEAR && (1 <= m && (m <= 12 && (1 <= d && d <= days_in(y, m)))))
+    1 <= y && y <= LAST_YEAR && 1 <= m && m <= 12 && 1 <= d && d <= days_in(y, m)
 }
 
 // The days of the first n years: 365 each, and a leap day by the Gregorian rule.
+#[tactic(auto, using(crate::proofs::YearLaws::years_by_rule))]
 fn days_of_years(n: u32) -> u32
     requires { n ≤ last_year }
     ensures { result ≡ total year_days n }
@@ -44,6 +45,7 @@ fn days_of_years(n: u32) -> u32
 }
 
 // The days of the first n months of a year that is no leap year.
+#[tactic(auto, unfolding(crate::specs::Calendar::total))]
 fn days_of_plain_months(n: u32) -> u32
     requires { n ≤ 12 }
     ensures { result ≡ total (days_of 1) n }
@@ -66,6 +68,7 @@ fn days_of_plain_months(n: u32) -> u32
 }
 
 // The days of the first n months of the year y.
+#[tactic(auto, using(crate::proofs::YearLaws::months_of, crate::proofs::YearLaws::months_most))]
 fn days_of_months(y: u32, n: u32) -> u32
     requires { n ≤ 12 }
     ensures { result ≡ total (days_of y) n }
@@ -79,6 +82,7 @@ fn days_of_months(y: u32, n: u32) -> u32
 
 // The count of the day d of the month m of the year y, 0 where there is no such day. The three are handed over as they are,
 // since a `Day` goes through memory.
+#[tactic(auto, unfolding(crate::specs::Calendar::count_of))]
 pub fn count_of(y: u32, m: u32, d: u32) -> u32
     ensures { result ≡ count_of (dated y m d) }
 {
@@ -116,7 +120,7 @@ fn month_of(y: u32, n: u32) -> u32
     }
 }
 
-// The day that has the count n; year, month and day are 0 where none has it.
+// The day that has the count n; year, month and day are 0 where none has it, and so the archive's exports hand them on.
 pub fn day_of(n: u32) -> Day
     ensures { result ≡ day_of n }
 {
@@ -131,8 +135,8 @@ pub fn day_of(n: u32) -> Day
     let left = n - days_of_years(year - 1);
     let month = month_of(year, left);
     Day {
-        year: year,
-        month: month,
+        year,
+        month,
         day: left - days_of_months(year, month - 1),
     }
 }

@@ -22,7 +22,8 @@ use Rattle.grammar.specs.Trees.{Tree, node, nil, fields}
 use Rattle.grammar.specs.Readers.{Out, ok, refused, Reader, bind, ◌>>=◌, ◌>>◌, give, fail_at, the}
 use Rattle.grammar.specs.Grammar.{Language, content, optional, date_of, a_date, currency_of, a_currency, curve, df, rate_of, rate_index, equity, pair, spot_of, spot, call_of}
 use Rattle.reading.specs.Calls.{call_kind, call_by, method_kind, optional_by, ending}
-use Rattle.reading.specs.Meets.{toks_at, token_at, Holds, Follows, the_by, Takes, MeetsNumber, MeetsLeaf, Leads, Few}
+use Rattle.reading.specs.Meets.{toks_at, token_at, Holds, Follows, the_by, Takes, MeetsNumber, MeetsLeaf, Leads}
+use Rattle.reading.specs.Few.{Few}
 use Rattle.reading.specs.declared.records.Node.{Node}
 use Rattle.reading.specs.Faults.{refused_by, fault_at}
 use Rattle.reading.specs.declared.answers.Fault.{Fault}

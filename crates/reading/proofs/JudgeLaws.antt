@@ -23,7 +23,8 @@ use Rattle.tokens.proofs.TextLaws.{script_length}
 use Rattle.tokens.proofs.NameLaws.{good_few}
 use Rattle.grammar.specs.Grammar.{Edition}
 use Rattle.grammar.specs.Script.{refused, no_zero, of_tokens, read_script, statements, from, language, tokens_of}
-use Rattle.reading.specs.Meets.{listed, toks_at, Few}
+use Rattle.reading.specs.Meets.{listed, toks_at}
+use Rattle.reading.specs.Few.{Few}
 use Rattle.reading.specs.Scripts.{Clean, ReadsAll}
 use Rattle.reading.specs.Judging.{good, rejected, judged_of, last_end, judgement, text_judgement}
 use Rattle.grammar.proofs.ScriptLaws.{count_append}

@@ -16,7 +16,8 @@ use Rattle.grammar.specs.Grammar.{Edition}
 use Rattle.grammar.specs.Script.{Entry, Outcome, accepted, refused, fitting, read_script, reading_in, number_of, reading, statements, language, nodes, tokens_of}
 use Rattle.grammar.specs.Words.{words_of, row_of, row_words, directory_of, latest_of}
 use Rattle.reading.specs.Rows.{rows, put_rows, put_entries}
-use Rattle.reading.specs.Meets.{edition_by, toks_at, Few}
+use Rattle.reading.specs.Meets.{edition_by, toks_at}
+use Rattle.reading.specs.Few.{Few}
 use Rattle.reading.specs.Scripts.{Clean, rows_in, entries_in, ReadsAll}
 use Rattle.reading.specs.declared.judging.Counts.{Counts}
 use Rattle.reading.specs.declared.reading.Answer.{Answer}

@@ -3,6 +3,7 @@ pub mod Atoms
 pub mod Rows
 pub mod Joins
 pub mod Powers
+pub mod Few
 pub mod Faults
 pub mod Meets
 pub mod Calls

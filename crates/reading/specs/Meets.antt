@@ -136,10 +136,6 @@ Leads t k c (Ok d) =
     × ((f : Token → Reader Tree) → (the_by k >> (the_by 5 >>= f)) (toks_at t c.start) ≡ (the_by 5 >>= f) (toks_at t d.start))
 Leads t k c (Err e) = (f : Token → Reader Tree) → (the_by k >> (the_by 5 >>= f)) (toks_at t c.start) ≡ refused_by e
 
--- currencies have few names, so that a place fits a word
-abbrev pub Few : List ℕ → Type 0
-Few currencies = length (names currencies) ≤ 256
-
 -- the parts es stand before, from the record n on, and make m records in the memory o'
 pub record Before (n : ℕ) (o : List ℕ) (es : Trees) (m : ℕ) (o' : List ℕ) : Type 0 where
   pub counts : m ≡ n + sizes es

@@ -1,7 +1,7 @@
 // Statements that are one expression: what a name begins, pays, and expressions by themselves.
 ghost use Rattle.std.specs.Prelude.{◌≡◌, [], ◌≤◌};
 ghost use Rattle.grammar.specs.Grammar.{named};
-ghost use Rattle.reading.specs.Meets.{words_in, language_of, toks_at, token_at, Ready, Few, Follows, Meets};
+ghost use Rattle.reading.specs.Meets.{words_in, language_of, toks_at, token_at, Ready, Follows, Meets};
 ghost use Rattle.reading.specs.Bodies.{ended_at, paid_at, assign_at, compound_at, assign_paid_at, begun_at, sign_behind, MeetsTwice};
 
 use crate::answers::{Fault, Read};
@@ -24,7 +24,7 @@ pub fn ended(
     out: &mut [u32],
     n: u32,
 ) -> Result<Read, Fault>
-    requires { Ready s.now c n × Few language.now.lists.currencies.now }
+    requires { Ready s.now c n }
     ensures { Meets s.now (ended_at (language_of language.now) depth (toks_at s.now c.start)) n out.old result out.new }
 {
     let r = expression(s, language, false, c, depth, out, n)?;
@@ -46,7 +46,7 @@ pub fn paid(
     out: &mut [u32],
     n: u32,
 ) -> Result<Read, Fault>
-    requires { Ready s.now c n × (c.code ≡ 36) × Few language.now.lists.currencies.now }
+    requires { Ready s.now c n × (c.code ≡ 36) }
     ensures { Meets s.now (paid_at (language_of language.now) depth (toks_at s.now c.start)) n out.old result out.new }
 {
     let d = next(s, c);
@@ -71,7 +71,7 @@ fn assign(
     out: &mut [u32],
     n: u32,
 ) -> Result<Read, Fault>
-    requires { Ready s.now c n × Follows s.now c d × (c.code ≡ 1) × Few language.now.lists.currencies.now × (d.code ≡ 37) }
+    requires { Ready s.now c n × Follows s.now c d × (c.code ≡ 1) × (d.code ≡ 37) }
     ensures { Meets s.now (assign_at (language_of language.now) depth (toks_at s.now c.start)) n out.old result out.new }
 {
     let v = variable_at(s, language.lists.reserved, c, d, out, n)?;
@@ -118,7 +118,7 @@ fn compound(
     out: &mut [u32],
     n: u32,
 ) -> Result<Read, Fault>
-    requires { Ready s.now c n × Follows s.now c d × (c.code ≡ 1) × Few language.now.lists.currencies.now × (28 ≤ d.code) × (d.code ≤ 31) }
+    requires { Ready s.now c n × Follows s.now c d × (c.code ≡ 1) × (28 ≤ d.code) × (d.code ≤ 31) }
     ensures { Meets s.now (compound_at (language_of language.now) depth (toks_at s.now c.start)) n out.old result out.new }
 {
     let v = doubled(s, language.lists.reserved, c, d, out, n)?;
@@ -147,7 +147,7 @@ fn assign_paid(
     out: &mut [u32],
     n: u32,
 ) -> Result<Read, Fault>
-    requires { Ready s.now c n × Follows s.now c d × (c.code ≡ 1) × Few language.now.lists.currencies.now × (d.code ≡ 36) }
+    requires { Ready s.now c n × Follows s.now c d × (c.code ≡ 1) × (d.code ≡ 36) }
     ensures { Meets s.now (assign_paid_at (language_of language.now) depth (toks_at s.now c.start)) n out.old result out.new }
 {
     let v = doubled(s, language.lists.reserved, c, d, out, n)?;
@@ -183,7 +183,7 @@ pub fn begun(
     out: &mut [u32],
     n: u32,
 ) -> Result<Read, Fault>
-    requires { Ready s.now c n × (c.code ≡ 1) × Few language.now.lists.currencies.now }
+    requires { Ready s.now c n × (c.code ≡ 1) }
     ensures { Meets s.now (begun_at (language_of language.now) depth (toks_at s.now c.start)) n out.old result out.new }
 {
     let d = next(s, c);

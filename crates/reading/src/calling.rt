@@ -5,7 +5,7 @@ ghost use Rattle.tokens.specs.Dates.{date, unless_0};
 ghost use Rattle.grammar.specs.Trees.{Tree, Trees, parts};
 ghost use Rattle.grammar.specs.Readers.{Out};
 ghost use Rattle.grammar.specs.Grammar.{payday};
-ghost use Rattle.reading.specs.Meets.{words_in, toks_at, Holds, Ready, Few, Meets, MeetsLeaf, Before};
+ghost use Rattle.reading.specs.Meets.{words_in, toks_at, Holds, Ready, Meets, MeetsLeaf, Before};
 ghost use Rattle.reading.specs.Rows.{kind_number};
 ghost use Rattle.reading.specs.Turns.{Closing, FollowsItem, Shown, shown_by, Inside, content_at, cvg_fault, call_fault, ground_or_0, special_of, pays_stop, negated_by};
 
@@ -14,6 +14,7 @@ use crate::atoms::next;
 use crate::calls::{
     df_at, is_right_count, optional_currency, optional_date, rate_index_at, spot_at,
 };
+use crate::language::Language;
 use crate::records::{Kind, Node, plain, put};
 use tokens::codes::{CLOSE_PAREN, COMMA, EOF, IN, ON, SEMICOLON};
 use tokens::cursor::Cursor;
@@ -147,18 +148,18 @@ pub fn negative(r: Read, place: u16, out: &mut [u32], n: u32) -> Read
 // Spot, Df or RateIndex, by the kind of its record: the name stands at the place, and c behind it.
 pub fn special(
     s: &[u8],
-    currencies: &[u8],
+    language: &Language,
     kind: Kind,
     place: u16,
     c: Cursor,
     out: &mut [u32],
     n: u32,
 ) -> Result<Read, Fault>
-    requires { Ready s.now c n × Few currencies.now }
-    ensures { Meets s.now (special_of (words_in [] currencies.now []) (kind_number kind) place (toks_at s.now c.start)) n out.old result out.new }
+    requires { Ready s.now c n }
+    ensures { Meets s.now (special_of (words_in [] language.now.lists.currencies.now []) (kind_number kind) place (toks_at s.now c.start)) n out.old result out.new }
 {
     let leaf = match kind {
-        Kind::Spot => spot_at(s, currencies, place, c)?,
+        Kind::Spot => spot_at(s, language, place, c)?,
         Kind::Df => df_at(s, place, c)?,
         _ => rate_index_at(s, place, c)?,
     };
@@ -169,7 +170,7 @@ pub fn special(
 // `count` trees from n to m.
 pub fn payday_at(
     s: &[u8],
-    currencies: &[u8],
+    language: &Language,
     place: u16,
     c: Cursor,
     out: &mut [u32],
@@ -177,11 +178,11 @@ pub fn payday_at(
     m: u32,
     count: u32,
 ) -> Result<Read, Fault>
-    requires { Ready s.now c m × Few currencies.now × (n ≤ m) }
-    ensures { (es : Trees) (o : List ℕ) → Before n o es m out.old → count ≡ parts es → Meets s.now (payday (words_in [] currencies.now []) place es (toks_at s.now c.start)) n o result out.new }
+    requires { Ready s.now c m × (n ≤ m) }
+    ensures { (es : Trees) (o : List ℕ) → Before n o es m out.old → count ≡ parts es → Meets s.now (payday (words_in [] language.now.lists.currencies.now []) place es (toks_at s.now c.start)) n o result out.new }
 {
     let day = optional_date(s, c, ON)?;
-    let money = optional_currency(s, currencies, day.at, IN)?;
+    let money = optional_currency(s, language, day.at, IN)?;
     put(
         out,
         m,

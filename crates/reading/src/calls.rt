@@ -5,11 +5,12 @@ ghost use Rattle.grammar.specs.Grammar.{a_date, a_currency, df, curve, rate_inde
 ghost use Rattle.grammar.specs.Trees.{Tree};
 ghost use Rattle.grammar.specs.Readers.{Out, bind};
 ghost use Rattle.reading.specs.Calls.{call_kind, call_by, right_count, method_kind, optional_by, ending, date_in, kind_or_none};
-ghost use Rattle.reading.specs.Meets.{words_in, toks_at, token_at, Holds, Few, Follows, MeetsNumber, MeetsLeaf, Leads};
+ghost use Rattle.reading.specs.Meets.{words_in, toks_at, token_at, Holds, Follows, MeetsNumber, MeetsLeaf, Leads};
 ghost use Rattle.reading.specs.Rows.{kind_number};
 
 use crate::answers::{Fault, Leaf, Number};
 use crate::atoms::{next, take};
+use crate::language::Language;
 use crate::records::{Kind, leaf};
 use tokens::codes::{CLOSE_PAREN, COMMA, OPEN_PAREN, STRING};
 use tokens::cursor::Cursor;
@@ -87,14 +88,14 @@ fn date(s: &[u8], c: Cursor) -> Result<Number, Fault>
 }
 
 // A string token that must be a currency.
-fn currency(s: &[u8], currencies: &[u8], c: Cursor) -> Result<Number, Fault>
-    requires { Holds s.now c × Few currencies.now }
-    ensures { MeetsNumber s.now (a_currency (words_in [] currencies.now []) (toks_at s.now c.start)) result }
+fn currency(s: &[u8], language: &Language, c: Cursor) -> Result<Number, Fault>
+    requires { Holds s.now c }
+    ensures { MeetsNumber s.now (a_currency (words_in [] language.now.lists.currencies.now []) (toks_at s.now c.start)) result }
 {
     let at = take(s, c, STRING)?;
     let a = c.start as usize + 1;
     let e = c.end as usize - 1;
-    let Some(place) = place_in(currencies, &s[a..e]) else {
+    let Some(place) = place_in(language.lists.currencies, &s[a..e]) else {
         return Err(Fault::at(c, Ground::Currency));
     };
     Ok(Number {
@@ -115,14 +116,19 @@ pub fn optional_date(s: &[u8], c: Cursor, sign: u8) -> Result<Number, Fault>
 }
 
 // Where this sign stands, a currency behind it; else 0.
-pub fn optional_currency(s: &[u8], currencies: &[u8], c: Cursor, sign: u8) -> Result<Number, Fault>
-    requires { Holds s.now c × Few currencies.now × (sign ≡ 0 → ⊥) }
-    ensures { MeetsNumber s.now (optional_by sign 0 (a_currency (words_in [] currencies.now [])) (toks_at s.now c.start)) result }
+pub fn optional_currency(
+    s: &[u8],
+    language: &Language,
+    c: Cursor,
+    sign: u8,
+) -> Result<Number, Fault>
+    requires { Holds s.now c × (sign ≡ 0 → ⊥) }
+    ensures { MeetsNumber s.now (optional_by sign 0 (a_currency (words_in [] language.now.lists.currencies.now [])) (toks_at s.now c.start)) result }
 {
     if c.code != sign {
         return Ok(Number { at: c, value: 0 });
     }
-    currency(s, currencies, next(s, c))
+    currency(s, language, next(s, c))
 }
 
 // An equity: the string at c is its name, and d stands behind it. The word `Spot` stands at the place, as below.
@@ -140,9 +146,9 @@ fn equity_at(s: &[u8], place: u16, c: Cursor, d: Cursor) -> Result<Leaf, Fault>
 }
 
 // A pair of currencies, the first of which is known; c stands behind it.
-fn pair_at(s: &[u8], currencies: &[u8], place: u16, first: u32, c: Cursor) -> Result<Leaf, Fault>
-    requires { Holds s.now c × Few currencies.now }
-    ensures { MeetsLeaf s.now (pair (words_in [] currencies.now []) place first (toks_at s.now c.start)) result }
+fn pair_at(s: &[u8], language: &Language, place: u16, first: u32, c: Cursor) -> Result<Leaf, Fault>
+    requires { Holds s.now c }
+    ensures { MeetsLeaf s.now (pair (words_in [] language.now.lists.currencies.now []) place first (toks_at s.now c.start)) result }
 {
     if c.code != COMMA {
         return Ok(Leaf {
@@ -150,7 +156,7 @@ fn pair_at(s: &[u8], currencies: &[u8], place: u16, first: u32, c: Cursor) -> Re
             node: leaf(Kind::Spot, first, 1, 0, 0, place),
         });
     }
-    let second = currency(s, currencies, next(s, c))?;
+    let second = currency(s, language, next(s, c))?;
     let day = optional_date(s, second.at, COMMA)?;
     Ok(Leaf {
         at: day.at,
@@ -159,15 +165,15 @@ fn pair_at(s: &[u8], currencies: &[u8], place: u16, first: u32, c: Cursor) -> Re
 }
 
 // What stands behind the first string of a Spot, at c, up to its closing sign; d stands behind the string.
-fn spot_of(s: &[u8], currencies: &[u8], place: u16, c: Cursor, d: Cursor) -> Result<Leaf, Fault>
-    requires { Holds s.now c × Follows s.now c d × (c.code ≡ 5) × Few currencies.now }
-    ensures { MeetsLeaf s.now (spot_of (words_in [] currencies.now []) place (token_at s.now c) (toks_at s.now d.start)) result }
+fn spot_of(s: &[u8], language: &Language, place: u16, c: Cursor, d: Cursor) -> Result<Leaf, Fault>
+    requires { Holds s.now c × Follows s.now c d × (c.code ≡ 5) }
+    ensures { MeetsLeaf s.now (spot_of (words_in [] language.now.lists.currencies.now []) place (token_at s.now c) (toks_at s.now d.start)) result }
 {
     let a = c.start as usize + 1;
     let e = c.end as usize - 1;
-    match place_in(currencies, &s[a..e]) {
+    match place_in(language.lists.currencies, &s[a..e]) {
         None => equity_at(s, place, c, d),
-        Some(number) => pair_at(s, currencies, place, number as u32 + 1, d),
+        Some(number) => pair_at(s, language, place, number as u32 + 1, d),
     }
 }
 
@@ -184,13 +190,13 @@ fn closed(s: &[u8], leaf: Leaf) -> Result<Leaf, Fault>
 }
 
 // Spot, behind its name.
-pub fn spot_at(s: &[u8], currencies: &[u8], place: u16, c: Cursor) -> Result<Leaf, Fault>
-    requires { Holds s.now c × Few currencies.now }
-    ensures { MeetsLeaf s.now (spot (words_in [] currencies.now []) place (toks_at s.now c.start)) result }
+pub fn spot_at(s: &[u8], language: &Language, place: u16, c: Cursor) -> Result<Leaf, Fault>
+    requires { Holds s.now c }
+    ensures { MeetsLeaf s.now (spot (words_in [] language.now.lists.currencies.now []) place (toks_at s.now c.start)) result }
 {
     let name = take(s, c, OPEN_PAREN)?;
     let d = take(s, name, STRING)?;
-    closed(s, spot_of(s, currencies, place, name, d)?)
+    closed(s, spot_of(s, language, place, name, d)?)
 }
 
 // What stands behind the date of a Df, up to its closing sign.

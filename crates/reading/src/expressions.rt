@@ -5,7 +5,7 @@ ghost use Rattle.grammar.specs.Trees.{Tree};
 ghost use Rattle.grammar.specs.Grammar.{calls, call_of, primary};
 ghost use Rattle.reading.specs.Calls.{call_kind};
 ghost use Rattle.reading.specs.Rows.{kind_number};
-ghost use Rattle.reading.specs.Meets.{language_of, toks_at, token_at, Holds, Ready, Few, Follows, Meets};
+ghost use Rattle.reading.specs.Meets.{language_of, toks_at, token_at, Holds, Ready, Follows, Meets};
 ghost use Rattle.reading.specs.Signs.{postfix_sign};
 ghost use Rattle.reading.specs.Turns.{expression_or, comparison_or, sum_or, product_or, power_at, signed_at, minus_at, parenthesised, list_postfixed, pays_at, name_at, call_at, arguments_at, items_at, postfixes_at, postfix_turn_at, method_at, index_at, Closing, Closed, MeetsItems, Tops, MeetsTurns};
 
@@ -38,7 +38,7 @@ pub fn expression(
     out: &mut [u32],
     n: u32,
 ) -> Result<Read, Fault>
-    requires { Ready s.now c n × Few language.now.lists.currencies.now }
+    requires { Ready s.now c n }
     ensures { Meets s.now (expression_or alone (language_of language.now) depth (toks_at s.now c.start)) n out.old result out.new }
 {
     let mut at = c;
@@ -85,7 +85,7 @@ fn comparison(
     out: &mut [u32],
     n: u32,
 ) -> Result<Read, Fault>
-    requires { Ready s.now c n × Few language.now.lists.currencies.now }
+    requires { Ready s.now c n }
     ensures { Meets s.now (comparison_or alone (language_of language.now) depth (toks_at s.now c.start)) n out.old result out.new }
 {
     let mut at = c;
@@ -126,7 +126,7 @@ fn sum(
     out: &mut [u32],
     n: u32,
 ) -> Result<Read, Fault>
-    requires { Ready s.now c n × Few language.now.lists.currencies.now }
+    requires { Ready s.now c n }
     ensures { Meets s.now (sum_or alone (language_of language.now) depth (toks_at s.now c.start)) n out.old result out.new }
 {
     let mut at = c;
@@ -160,7 +160,7 @@ fn product(
     out: &mut [u32],
     n: u32,
 ) -> Result<Read, Fault>
-    requires { Ready s.now c n × Few language.now.lists.currencies.now }
+    requires { Ready s.now c n }
     ensures { Meets s.now (product_or alone (language_of language.now) depth (toks_at s.now c.start)) n out.old result out.new }
 {
     let mut at = c;
@@ -194,7 +194,7 @@ fn power(
     out: &mut [u32],
     n: u32,
 ) -> Result<Read, Fault>
-    requires { Ready s.now c n × Few language.now.lists.currencies.now }
+    requires { Ready s.now c n }
     ensures { Meets s.now (power_at (language_of language.now) depth (toks_at s.now c.start)) n out.old result out.new }
 {
     let mut at = c;
@@ -243,7 +243,7 @@ fn signed(
     out: &mut [u32],
     n: u32,
 ) -> Result<Read, Fault>
-    requires { Ready s.now c n × Few language.now.lists.currencies.now }
+    requires { Ready s.now c n }
     ensures { Meets s.now (signed_at (language_of language.now) depth (toks_at s.now c.start)) n out.old result out.new }
 {
     let code = c.code;
@@ -264,7 +264,7 @@ fn primary(
     out: &mut [u32],
     n: u32,
 ) -> Result<Read, Fault>
-    requires { Ready s.now c n × Few language.now.lists.currencies.now }
+    requires { Ready s.now c n }
     ensures { Meets s.now (primary (language_of language.now) depth (toks_at s.now c.start)) n out.old result out.new }
 {
     let d = next(s, c);
@@ -296,7 +296,7 @@ fn minus(
     out: &mut [u32],
     n: u32,
 ) -> Result<Read, Fault>
-    requires { Ready s.now c n × Follows s.now c d × (c.code ≡ 9) × Few language.now.lists.currencies.now }
+    requires { Ready s.now c n × Follows s.now c d × (c.code ≡ 9) }
     ensures { Meets s.now (minus_at (language_of language.now) depth (token_at s.now c) (toks_at s.now d.start)) n out.old result out.new }
 {
     if let Some(e) = lone_at(s, language.two, d) {
@@ -321,7 +321,7 @@ fn parenthesis(
     out: &mut [u32],
     n: u32,
 ) -> Result<Read, Fault>
-    requires { Ready s.now c n × Follows s.now c d × (c.code ≡ 40) × Few language.now.lists.currencies.now }
+    requires { Ready s.now c n × Follows s.now c d × (c.code ≡ 40) }
     ensures { Meets s.now (parenthesised (language_of language.now) depth (token_at s.now c) (toks_at s.now c.start)) n out.old result out.new }
 {
     if depth == 0 {
@@ -348,7 +348,7 @@ fn list(
     out: &mut [u32],
     n: u32,
 ) -> Result<Read, Fault>
-    requires { Ready s.now c n × Follows s.now c d × (c.code ≡ 44) × Few language.now.lists.currencies.now }
+    requires { Ready s.now c n × Follows s.now c d × (c.code ≡ 44) }
     ensures { Meets s.now (list_postfixed (language_of language.now) depth (token_at s.now c) (toks_at s.now c.start)) n out.old result out.new }
 {
     if depth == 0 {
@@ -376,7 +376,7 @@ pub fn pays(
     out: &mut [u32],
     n: u32,
 ) -> Result<Read, Fault>
-    requires { Ready s.now c n × Follows s.now c d × (c.code ≡ 36) × Few language.now.lists.currencies.now }
+    requires { Ready s.now c n × Follows s.now c d × (c.code ≡ 36) }
     ensures { Meets s.now (pays_at (language_of language.now) depth (toks_at s.now c.start)) n out.old result out.new }
 {
     if depth == 0 {
@@ -391,7 +391,7 @@ pub fn pays(
         m = r.records;
         count += 1;
     }
-    payday_at(s, language.lists.currencies, c.start, at, out, n, m, count)
+    payday_at(s, language, c.start, at, out, n, m, count)
 }
 
 // A call or a variable with postfixes: the name stands at c, and d behind it.
@@ -406,7 +406,7 @@ fn name(
     out: &mut [u32],
     n: u32,
 ) -> Result<Read, Fault>
-    requires { Ready s.now c n × Follows s.now c d × (c.code ≡ 1) × Few language.now.lists.currencies.now }
+    requires { Ready s.now c n × Follows s.now c d × (c.code ≡ 1) }
     ensures { Meets s.now (name_at (language_of language.now) depth (token_at s.now c) (toks_at s.now d.start)) n out.old result out.new }
 {
     let a = c.start as usize;
@@ -417,7 +417,7 @@ fn name(
     };
     match kind {
         Kind::Spot | Kind::Df | Kind::RateIndex => {
-            special(s, language.lists.currencies, kind, c.start, d, out, n)
+            special(s, language, kind, c.start, d, out, n)
         }
         _ => call(s, language, c, d, kind, depth, out, n),
     }
@@ -436,7 +436,7 @@ fn call(
     out: &mut [u32],
     n: u32,
 ) -> Result<Read, Fault>
-    requires { Ready s.now d n × Holds s.now c × (c.code ≡ 1) × Few language.now.lists.currencies.now × (kind_number kind ≡ call_kind (token_at s.now c).text) × (kind_number kind < 32) }
+    requires { Ready s.now d n × Holds s.now c × (c.code ≡ 1) × (kind_number kind ≡ call_kind (token_at s.now c).text) × (kind_number kind < 32) }
     ensures { Meets s.now (call_at (language_of language.now) depth (token_at s.now c) (call_of (token_at s.now c).text calls) (toks_at s.now d.start)) n out.old result out.new }
 {
     let r = arguments(s, language, d, depth, out, n)?;
@@ -463,7 +463,7 @@ fn arguments(
     out: &mut [u32],
     n: u32,
 ) -> Result<Items, Fault>
-    requires { Ready s.now c n × Few language.now.lists.currencies.now }
+    requires { Ready s.now c n }
     ensures { MeetsItems s.now (arguments_at (language_of language.now) depth (toks_at s.now c.start)) n out.old result out.new }
 {
     let d = take(s, c, OPEN_PAREN)?;
@@ -490,7 +490,7 @@ fn items(
     out: &mut [u32],
     n: u32,
 ) -> Result<Items, Fault>
-    requires { Ready s.now c n × Few language.now.lists.currencies.now × Closing close }
+    requires { Ready s.now c n × Closing close }
     ensures { MeetsItems s.now (items_at (language_of language.now) close depth (toks_at s.now c.start)) n out.old result out.new × Closed close result }
 {
     let mut at = c;
@@ -528,7 +528,7 @@ fn postfixes(
     n: u32,
     m: u32,
 ) -> Result<Read, Fault>
-    requires { Ready s.now c m × Few language.now.lists.currencies.now × (n < m) }
+    requires { Ready s.now c m × (n < m) }
     ensures { (x : Tree) (o : List ℕ) → Tops n o x m out.old → Meets s.now (postfixes_at (language_of language.now) depth place x (toks_at s.now c.start)) n o result out.new }
 {
     let mut at = c;
@@ -557,7 +557,7 @@ fn postfix(
     n: u32,
     m: u32,
 ) -> Result<Read, Fault>
-    requires { Ready s.now c m × Few language.now.lists.currencies.now × (n < m) × (postfix_sign c.code ≡ true) }
+    requires { Ready s.now c m × (n < m) × (postfix_sign c.code ≡ true) }
     ensures { MeetsTurns s.now (λ x. postfix_turn_at (language_of language.now) depth place x (toks_at s.now c.start)) n m out.old c result out.new }
 {
     let d = next(s, c);
@@ -582,7 +582,7 @@ fn method(
     n: u32,
     m: u32,
 ) -> Result<Read, Fault>
-    requires { Ready s.now c m × Few language.now.lists.currencies.now × (n < m) }
+    requires { Ready s.now c m × (n < m) }
     ensures { MeetsTurns s.now (λ x. method_at (language_of language.now) depth place x (toks_at s.now c.start)) n m out.old c result out.new }
 {
     let d = take(s, c, NAME)?;
@@ -613,7 +613,7 @@ fn index(
     n: u32,
     m: u32,
 ) -> Result<Read, Fault>
-    requires { Ready s.now c m × Few language.now.lists.currencies.now × (n < m) }
+    requires { Ready s.now c m × (n < m) }
     ensures { MeetsTurns s.now (λ x. index_at (language_of language.now) depth place x (toks_at s.now c.start)) n m out.old c result out.new }
 {
     let r = expression(s, language, false, c, depth, out, m)?;

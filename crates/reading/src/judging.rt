@@ -2,7 +2,7 @@
 ghost use Rattle.std.specs.Prelude.{◌≡◌, ◌≤◌, length};
 ghost use Rattle.tokens.specs.LentLists.{lists_of};
 ghost use Rattle.grammar.specs.Script.{no_zero};
-ghost use Rattle.reading.specs.Meets.{edition_by, Few};
+ghost use Rattle.reading.specs.Meets.{edition_by};
 ghost use Rattle.reading.specs.Judging.{judged, judgement, text_judgement};
 
 use crate::language::Language;
@@ -45,7 +45,7 @@ pub fn is_clear(text: &[u8]) -> bool
 
 // Judges the text of a script, with lists that are well formed. The reader is lent too little for a record or an entry.
 fn judge_text(s: &[u8], language: &Language) -> Result<Counts, Refusal>
-    requires { (length s.now ≤ 16384) × Few language.now.lists.currencies.now }
+    requires { (length s.now ≤ 16384) }
     ensures { judged result ≡ text_judgement (edition_by language.now.two) (lists_of language.now.lists) s.now }
 {
     let scanned = scan(s)?;

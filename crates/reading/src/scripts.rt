@@ -1,7 +1,7 @@
 // A whole script, statement by statement.
 ghost use Rattle.std.specs.Prelude.{◌≡◌, ◌≤◌};
 ghost use Rattle.grammar.specs.Script.{statements};
-ghost use Rattle.reading.specs.Meets.{language_of, toks_at, Few};
+ghost use Rattle.reading.specs.Meets.{language_of, toks_at};
 ghost use Rattle.reading.specs.Scripts.{Clean, rebase, MeetsAll};
 
 use crate::answers::All;
@@ -36,7 +36,7 @@ pub fn all(
     records: &mut [u32],
     directory: &mut [u32],
 ) -> Result<All, Refusal>
-    requires { Clean s.now × Few language.now.lists.currencies.now }
+    requires { Clean s.now }
     ensures { MeetsAll (statements (language_of language.now) (toks_at s.now 0)) records.old directory.old result records.new directory.new }
 {
     let mut base: usize = 0;

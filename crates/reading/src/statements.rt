@@ -1,7 +1,7 @@
 // Statements and the blocks that hold them, with the depth that is left as the falling number.
 ghost use Rattle.std.specs.Prelude.{◌≡◌};
 ghost use Rattle.grammar.specs.Grammar.{block, statement};
-ghost use Rattle.reading.specs.Meets.{language_of, toks_at, token_at, Ready, Few, Meets};
+ghost use Rattle.reading.specs.Meets.{language_of, toks_at, token_at, Ready, Meets};
 ghost use Rattle.reading.specs.Bodies.{conditional_in, repetition_in, MeetsBlock};
 
 use crate::answers::{Block, Fault, Read};
@@ -25,7 +25,7 @@ pub fn statement(
     out: &mut [u32],
     n: u32,
 ) -> Result<Read, Fault>
-    requires { Ready s.now c n × Few language.now.lists.currencies.now }
+    requires { Ready s.now c n }
     ensures { Meets s.now (statement (language_of language.now) depth (toks_at s.now c.start)) n out.old result out.new }
 {
     match c.code {
@@ -47,7 +47,7 @@ fn conditional(
     out: &mut [u32],
     n: u32,
 ) -> Result<Read, Fault>
-    requires { Ready s.now c n × (c.code ≡ 38) × Few language.now.lists.currencies.now }
+    requires { Ready s.now c n × (c.code ≡ 38) }
     ensures { Meets s.now (conditional_in (language_of language.now) depth (token_at s.now c) (toks_at s.now c.start)) n out.old result out.new }
 {
     let d = next(s, c);
@@ -86,7 +86,7 @@ fn repetition(
     out: &mut [u32],
     n: u32,
 ) -> Result<Read, Fault>
-    requires { Ready s.now c n × (c.code ≡ 39) × Few language.now.lists.currencies.now }
+    requires { Ready s.now c n × (c.code ≡ 39) }
     ensures { Meets s.now (repetition_in (language_of language.now) depth (token_at s.now c) (toks_at s.now c.start)) n out.old result out.new }
 {
     let d = next(s, c);
@@ -119,7 +119,7 @@ fn block(
     out: &mut [u32],
     n: u32,
 ) -> Result<Block, Fault>
-    requires { Ready s.now c n × Few language.now.lists.currencies.now }
+    requires { Ready s.now c n }
     ensures { MeetsBlock s.now (block (statement (language_of language.now) depth) (toks_at s.now c.start)) n out.old result out.new }
 {
     let mut at = take(s, c, OPEN_CURLY)?;

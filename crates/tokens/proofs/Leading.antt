@@ -1,15 +1,15 @@
 -- How far the bytes at a place of a text pass a test, one byte at a time.
-use mathlib.Core.Path.{◌≡◌, refl, ap}
-use mathlib.Core.Bool.{Bool, true, false, not}
+use mathlib.Core.Path.{◌≡◌, refl}
+use mathlib.Core.Bool.{Bool, true, false}
 use mathlib.Core.List.{List, [], ◌∷◌}
 use Prim.Native.Nat.{ℕ, zero, suc, ◌+◌, ◌≤◌, ◌<◌, min, max}
 use native.Mathlib.Numerals.{add-one}
 use native.Mathlib.Omega.{arith}
 use lib.Dec.{leb}
-use borrow.Author.Tests.{eq-eqb, ne_eqb, leb-true, leb-false}
+use borrow.Author.Tests.{leb-true, leb-false}
 use lib.ListN.{length, get_or, take, drop, drop_of_length-le}
 use lib.Seq.{drop-cons}
-use Rattle.tokens.specs.Text.{leading, other}
+use Rattle.tokens.specs.Text.{leading}
 
 module _ (f : ℕ → Bool) where
   leading_cons : (b : ℕ) (bs : List ℕ) → f b ≡ true → leading f (b ∷ bs) ≡ suc (leading f bs)

@@ -18,7 +18,6 @@ use Rattle.tokens.specs.Tokens.{piece, fault, word, numeral, quoted, sign, signs
 use Rattle.tokens.specs.Lexing.{lexeme_at, comment, word_at, number_at, string_at, gap_width, mark_of}
 use Rattle.tokens.specs.Keys.{key_of, keyword_by}
 use Rattle.tokens.proofs.Joins.{body}
-use Rattle.tokens.proofs.Shapes.{leading_le}
 use Rattle.tokens.proofs.KeyLaws.{Bytes, bytes_drop, bytes_take, smalls, keyword_is}
 
 -- ---- `lexeme` by its tests

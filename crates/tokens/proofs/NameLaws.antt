@@ -7,9 +7,9 @@ use native.Mathlib.Nat.{zero-add, add_comm}
 use native.Mathlib.Numerals.{add-one}
 use native.Mathlib.Omega.{arith}
 use lib.Dec.{eqb, leb, ltb}
-use borrow.Author.Tests.{ltb-true, ltb-false, leb-true, eq-eqb, ne_eqb, le-leb, not-true}
-use lib.ListN.{length, get_or, drop, take, drop_of_length-le, length-drop, take-append-drop}
-use lib.Seq.{drop-cons, drop-drop, take_all, take-add}
+use borrow.Author.Tests.{ltb-true, ltb-false, leb-true, eq-eqb, le-leb, not-true}
+use lib.ListN.{length, drop, take, drop_of_length-le, length-drop, take-append-drop}
+use lib.Seq.{drop-drop, take_all, take-add}
 use Rattle.tokens.specs.Text.{same, every, leading, other}
 use Rattle.std.specs.Prelude.{Some, None}
 use Rattle.tokens.specs.Names.{push, names, ended, place, index_of, member, distinct, good_name, good_names, usd_first, good_list}
@@ -227,13 +227,6 @@ place_le (m ∷ ms) n = go (same m n) refl (place_le ms n)
     go false e h = rw (place_miss m ms n e) (after_le (place ms n) (length ms) h)
 
 -- ---- whether a name stands among others
-pub member_test : (ns : List (List ℕ)) (n : List ℕ) → not (eqb (place ns n) 0) ≡ member ns n
-member_test ns n = go (place ns n)
-  where
-    go : (p : ℕ) → not (eqb p 0) ≡ leb 1 p
-    go zero = refl
-    go (suc p) = simp (ne_eqb (suc p) 0 (λ e. omega arith), le-leb 1 (suc p) (omega arith))
-
 member_cons : (m : List ℕ) (ms : List (List ℕ)) (n : List ℕ) → member (m ∷ ms) n ≡ (same m n || member ms n)
 unfolding after
 member_cons m ms n = go (same m n) refl (place ms n) refl

@@ -3,13 +3,11 @@ use Rattle.std.specs.Prelude.{if◌then◌else◌}
 use mathlib.Core.Path.{◌≡◌, refl, sym, ap, ◌∙◌}
 use mathlib.Core.Bool.{Bool, true, false, cond, not}
 use mathlib.Core.List.{List, [], ◌∷◌, ◌++◌, reverse}
-use Prim.Native.Nat.{ℕ, suc, ◌+◌, ◌≤◌, ◌<◌, min}
-use native.Mathlib.Nat.{zero-add, le_refl, min-le_left}
-use native.Mathlib.Numerals.{add-one}
-use native.Mathlib.Omega.{arith, min_cases}
+use Prim.Native.Nat.{ℕ, suc, ◌+◌, ◌≤◌, min}
+use native.Mathlib.Nat.{min-le_left}
+use native.Mathlib.Omega.{arith}
 use lib.Dec.{eqb}
-use lib.ListN.{length, take, get_or, length-take, take-append-drop}
-use lib.Seq.{slice, slice-cons, slice_empty, take_all, take-suc}
+use lib.ListN.{length, take, length-take}
 use borrow.Author.Tests.{eq-eqb, ne_eqb, eqb-true, eqb-false}
 use Rattle.tokens.specs.Text.{count, continuation}
 use Rattle.tokens.specs.Places.{line, since, column}
@@ -17,7 +15,7 @@ use Rattle.std.specs.List.{take_while}
 use Rattle.std.proofs.lemmas.List.{reverse-reverse, take_min}
 use Rattle.std.proofs.lemmas.Grind.{reverse_onto}
 use Rattle.std.proofs.lemmas.List.Sums.{take_while-cons}
-use Rattle.tokens.proofs.TextLaws.{count_few, count_join}
+use Rattle.tokens.proofs.TextLaws.{count_few}
 
 -- ---- the line
 

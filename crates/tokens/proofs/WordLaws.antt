@@ -82,21 +82,46 @@ pub spells_none : (w : List ℕ) → Bytes w
     → (length w ≡ 3 → get_or w 0 0 ≡ 110 → get_or w 1 0 ≡ 111 → get_or w 2 0 ≡ 116 → ⊥)
     → 1 ≡ keyword_by (key_of w)
 unfolding bytes
-spells_none w h no_if no_else no_and no_or no_for no_true no_false no_pays no_on no_in no_then no_end no_not = keyword_code w (smalls w h) 99 (none_entry w keywords
-    (same_not (bytes "if") w (λ e. no_if (ap length (sym e)) (read e 0) (read e 1)),
-    (same_not (bytes "else") w (λ e. no_else (ap length (sym e)) (read e 0) (read e 1) (read e 2) (read e 3)),
-    (same_not (bytes "and") w (λ e. no_and (ap length (sym e)) (read e 0) (read e 1) (read e 2)),
-    (same_not (bytes "or") w (λ e. no_or (ap length (sym e)) (read e 0) (read e 1)),
-    (same_not (bytes "for") w (λ e. no_for (ap length (sym e)) (read e 0) (read e 1) (read e 2)),
-    (same_not (bytes "true") w (λ e. no_true (ap length (sym e)) (read e 0) (read e 1) (read e 2) (read e 3)),
-    (same_not (bytes "false") w (λ e. no_false (ap length (sym e)) (read e 0) (read e 1) (read e 2) (read e 3) (read e 4)),
-    (same_not (bytes "pays") w (λ e. no_pays (ap length (sym e)) (read e 0) (read e 1) (read e 2) (read e 3)),
-    (same_not (bytes "on") w (λ e. no_on (ap length (sym e)) (read e 0) (read e 1)),
-    (same_not (bytes "in") w (λ e. no_in (ap length (sym e)) (read e 0) (read e 1)),
-    (same_not (bytes "then") w (λ e. no_then (ap length (sym e)) (read e 0) (read e 1) (read e 2) (read e 3)),
-    (same_not (bytes "end") w (λ e. no_end (ap length (sym e)) (read e 0) (read e 1) (read e 2)),
-    (same_not (bytes "not") w (λ e. no_not (ap length (sym e)) (read e 0) (read e 1) (read e 2)),
-    tt))))))))))))))
+spells_none w h no_if no_else no_and no_or no_for no_true no_false no_pays no_on no_in no_then no_end no_not = keyword_code w (smalls w h) 99 (none_entry w keywords (
+  same_not (bytes "if") w (λ e. no_if (ap length (sym e)) (read e 0) (read e 1)),
+  (
+    same_not (bytes "else") w (λ e. no_else (ap length (sym e)) (read e 0) (read e 1) (read e 2) (read e 3)),
+    (
+      same_not (bytes "and") w (λ e. no_and (ap length (sym e)) (read e 0) (read e 1) (read e 2)),
+      (
+        same_not (bytes "or") w (λ e. no_or (ap length (sym e)) (read e 0) (read e 1)),
+        (
+          same_not (bytes "for") w (λ e. no_for (ap length (sym e)) (read e 0) (read e 1) (read e 2)),
+          (
+            same_not (bytes "true") w (λ e. no_true (ap length (sym e)) (read e 0) (read e 1) (read e 2) (read e 3)),
+            (
+              same_not (bytes "false") w (λ e. no_false (ap length (sym e)) (read e 0) (read e 1) (read e 2) (read e 3) (read e 4)),
+              (
+                same_not (bytes "pays") w (λ e. no_pays (ap length (sym e)) (read e 0) (read e 1) (read e 2) (read e 3)),
+                (
+                  same_not (bytes "on") w (λ e. no_on (ap length (sym e)) (read e 0) (read e 1)),
+                  (
+                    same_not (bytes "in") w (λ e. no_in (ap length (sym e)) (read e 0) (read e 1)),
+                    (
+                      same_not (bytes "then") w (λ e. no_then (ap length (sym e)) (read e 0) (read e 1) (read e 2) (read e 3)),
+                      (
+                        same_not (bytes "end") w (λ e. no_end (ap length (sym e)) (read e 0) (read e 1) (read e 2)),
+                        (
+                          same_not (bytes "not") w (λ e. no_not (ap length (sym e)) (read e 0) (read e 1) (read e 2)),
+                          tt,
+                        ),
+                      ),
+                    ),
+                  ),
+                ),
+              ),
+            ),
+          ),
+        ),
+      ),
+    ),
+  ),
+))
 
 -- what each arm of a match on a word's bytes leaves to show
 pub ruleset spelled_words = (spells_if, spells_or, spells_on, spells_in, spells_and, spells_for, spells_end, spells_not, spells_else, spells_true, spells_pays, spells_then, spells_false, spells_none)

@@ -47,6 +47,7 @@ impl Cursor {
         let text = script_of(s);
         let mut i = at as usize;
         let mut broken = false;
+        // Each Newline says where the next token is looked for, so no range gives the places.
         loop {
             let m = mark_at(text, i);
             if m.code != NEWLINE {

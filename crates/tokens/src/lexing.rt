@@ -46,6 +46,7 @@ fn is_comment(b: u8, next: u8) -> bool
 }
 
 // Where the blank or the comment at a place ends; the place itself where there is none.
+#[tactic(auto, using(crate::proofs::LexLaws::gap_at_blank, crate::proofs::LexLaws::gap_at_comment, crate::proofs::LexLaws::gap_at_none))]
 fn gap_end(s: &[u8], at: usize) -> usize
     requires { at < length s.now }
     ensures { result ≡ at + gap_width (lexeme_at s.now at) }
@@ -117,6 +118,7 @@ fn number_at(s: &[u8], at: usize) -> Result<Mark, Refusal>
 }
 
 // The string at a place where a quote stands.
+#[tactic(auto, using(crate::proofs::LexLaws::string_closed, crate::proofs::LexLaws::string_open))]
 fn string_at(s: &[u8], at: usize) -> Result<Mark, Refusal>
     requires { at < length s.now }
     ensures { Tells (mark_of at (string_at s.now at)) result }
@@ -136,6 +138,7 @@ fn string_at(s: &[u8], at: usize) -> Result<Mark, Refusal>
 }
 
 // The token at a place where no blank and no comment stands.
+#[tactic(auto, using(crate::proofs::LexLaws::word_here, crate::proofs::LexLaws::number_here, crate::proofs::LexLaws::string_here, crate::proofs::LexLaws::line_here, crate::proofs::LexLaws::sign_here, crate::proofs::ScanLaws::tells))]
 fn token_at(s: &[u8], at: usize) -> Result<Mark, Refusal>
     requires { (at < length s.now) × (gap_width (lexeme_at s.now at) ≡ 0) }
     ensures { Tells (mark_of at (lexeme_at s.now at)) result }
@@ -161,9 +164,11 @@ fn token_at(s: &[u8], at: usize) -> Result<Mark, Refusal>
 }
 
 // The first token at or behind a place, Newlines among them, or a refusal there.
+#[tactic(auto, using(crate::proofs::MarkLaws::mark_over, crate::proofs::MarkLaws::mark_on, crate::proofs::MarkLaws::mark_here, crate::proofs::ScanLaws::tells))]
 pub fn lex(s: &[u8], at: usize) -> Result<Mark, Refusal>
     ensures { Tells (mark_at s.now at) result }
 {
+    // A gap may have any length, so no range gives the places.
     let mut i = at;
     while i < s.len() {
         let end = gap_end(s, i);

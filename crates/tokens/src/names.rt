@@ -97,6 +97,7 @@ fn is_good_name(money: bool, name: &[u8]) -> bool
 }
 
 // A slot for a name: two equal names have the same.
+#[tactic(auto, using(crate::proofs::SlotLaws::slot_turn, crate::proofs::SlotLaws::slot_end))]
 fn slot_of(name: &[u8]) -> usize
     ensures { (result ≡ slot_of name.now) × (result < 2048) }
 {
@@ -125,6 +126,7 @@ fn are_good(money: bool, list: &[u8]) -> bool
     let mut slots = [0u8; 2048];
     let mut at: usize = 0;
     let mut k: usize = 0;
+    // Each name says where the next begins, so no range gives the places.
     while at < list.len() {
         if k == MOST_NAMES {
             return false;
@@ -150,6 +152,7 @@ fn is_ended(list: &[u8]) -> bool
     matches!(list, [] | [.., b'\n'])
 }
 
+#[tactic(auto, unfolding(crate::specs::Text::bytes))]
 fn is_usd_first(list: &[u8]) -> bool
     ensures { result ≡ eqb (place (names list.now) (bytes "USD")) 1 }
 {

@@ -103,6 +103,7 @@ fn judged(dots: u32, digits: u64, decimals: u32) -> Result<(), Ground>
 }
 
 // Whether the bytes of a literal are taken, or the ground on which they are refused: 5 before 6.
+#[tactic(auto, using(crate::proofs::NumberLaws::fault_said))]
 pub fn number_fault(w: &[u8]) -> Result<(), Ground>
     ensures { as_fault result ≡ number_fault w.now }
 {
@@ -110,6 +111,7 @@ pub fn number_fault(w: &[u8]) -> Result<(), Ground>
     judged(run.dots, run.digits, run.decimals)
 }
 
+#[tactic(auto, using(crate::proofs::TableLaws::tens_is))]
 fn ten_to(n: usize) -> u64
     requires { n < 16 }
     ensures { result ≡ 10 ^ n }
@@ -118,6 +120,7 @@ fn ten_to(n: usize) -> u64
 }
 
 // The value of a literal, by one division; 0 where its bytes are refused (5, 6).
+#[tactic(auto, using(crate::proofs::NumberLaws::fault_none, crate::proofs::NumberLaws::value_said, crate::proofs::NumberLaws::value_none, crate::proofs::FloatLaws::zero_is, crate::proofs::RefusalLaws::number_in))]
 pub fn value_of(w: &[u8]) -> f64
     ensures { result ≡ value_of w.now }
 {
@@ -145,6 +148,7 @@ fn parted(x: f64) -> Bits
 }
 
 // The bits of a literal's value, negated where a minus stands before it.
+#[tactic(auto, using(crate::proofs::FloatLaws::value_number, crate::proofs::FloatLaws::neg_number))]
 pub fn bits_of(w: &[u8], minus: bool) -> Bits
     ensures { result ≡ bits_of (signed minus (value_of w.now)) }
 {

@@ -27,6 +27,7 @@ pub struct Summary {
 }
 
 // The token step: the first token at or behind a place, or the ground and place on which the text is refused there.
+#[tactic(auto, using(crate::proofs::ScanLaws::step_number, crate::proofs::ScanLaws::step_other, crate::proofs::ScanLaws::number_within))]
 pub fn step(s: &[u8], at: usize) -> Result<Token, Refusal>
     ensures { as_found result ≡ step_at s.now at }
 {
@@ -54,12 +55,14 @@ fn judged(tokens: usize, last: usize, end: usize) -> Result<Summary, Refusal>
 }
 
 // Scans a whole text: the first of 3 to 6 from the left, then 7 where there are too many tokens.
+#[tactic(auto, unfolding(crate::specs::Lexing::scan_of), using(crate::proofs::ScanLaws::summary_end, crate::proofs::ScanLaws::summary_line, crate::proofs::ScanLaws::mark_progress))]
 pub fn scan(s: &[u8]) -> Result<Summary, Refusal>
     ensures { as_scanned result ≡ scan_of s.now }
 {
     let mut at: usize = 0;
     let mut count: usize = 0;
     let mut last: usize = 0;
+    // Each token says where the next is looked for, so no range gives the places.
     loop {
         let m = lex(s, at)?;
         if m.code == EOF {

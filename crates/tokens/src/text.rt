@@ -53,6 +53,7 @@ pub fn is_continuation(b: u8) -> bool
 }
 
 // Where the bytes from a place on that pass a test end.
+#[tactic(auto, using(crate::proofs::Leading::end_on, crate::proofs::Leading::end_over))]
 pub fn run_end<F: Fn(u8) -> bool>(s: &[u8], at: usize, goes_on: F) -> usize
     requires { F.IsAlwaysCallable goes_on }
     ensures after { at ≤ result }
@@ -75,6 +76,7 @@ pub fn find(s: &[u8], at: usize, b: u8) -> usize
 }
 
 // Equal bytes.
+#[tactic(auto, using(crate::proofs::TextLaws::pointwise_is))]
 pub fn equal(a: &[u8], b: &[u8]) -> bool
     ensures { result ≡ same a.now b.now }
 {
@@ -82,6 +84,7 @@ pub fn equal(a: &[u8], b: &[u8]) -> bool
 }
 
 // The script is the bytes before the first zero byte. It is not looked for behind the most bytes that a script may have.
+#[tactic(auto, using(crate::proofs::TextLaws::script_at, crate::proofs::TextLaws::script_long, crate::proofs::Leading::leading_take, crate::proofs::Shapes::leading_le))]
 pub fn script_end(bytes: &[u8]) -> Result<usize, Refusal>
     ensures { as_end result ≡ script_end bytes.now }
 {

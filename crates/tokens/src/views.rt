@@ -26,6 +26,7 @@ fn behind(s: &[u8], at: usize) -> usize
 }
 
 // The place behind so many tokens from a place on.
+#[tactic(auto, using(crate::proofs::ViewLaws::after_none, crate::proofs::ViewLaws::after_same))]
 fn place_after(s: &[u8], at: usize, tokens: usize) -> usize
     ensures { result ≡ place_after s.now at tokens }
 {

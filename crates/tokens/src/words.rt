@@ -5,14 +5,15 @@ ghost use Rattle.tokens.specs.Keys.{key_of, keyword_by, known, pair_by, lone_by}
 use crate::codes::{
     AND, ASSIGN, CLOSE_BRACKET, CLOSE_CURLY, CLOSE_PAREN, COMMA, DIVIDE, DIVIDE_ASSIGN, DOT, ELSE,
     END, EQUAL, FALSE, FOR, IF, IN, INFERIOR, INFERIOR_OR_EQUAL, MINUS, MINUS_ASSIGN, MULTIPLY,
-    MULTIPLY_ASSIGN, NAME, NOT, NOT_EQUAL, ON, OPEN_BRACKET, OPEN_CURLY, OPEN_PAREN, OR,
-    PAYS, PLUS, PLUS_ASSIGN, POWER, SEMICOLON, SUPERIOR, SUPERIOR_OR_EQUAL, THEN, TRUE,
+    MULTIPLY_ASSIGN, NAME, NOT, NOT_EQUAL, ON, OPEN_BRACKET, OPEN_CURLY, OPEN_PAREN, OR, PAYS,
+    PLUS, PLUS_ASSIGN, POWER, SEMICOLON, SUPERIOR, SUPERIOR_OR_EQUAL, THEN, TRUE,
 };
 
 // A part longer than this has no key.
 const LONGEST_KEY: usize = 6;
 
 // The bytes of a short part as one number, the first lowest, with a one above the last. 0 where the part is longer.
+#[tactic(auto, unfolding(crate::specs::Keys::key_of), using(crate::proofs::KeyLaws::onto_all, crate::proofs::KeyLaws::onto_turn, crate::proofs::KeyLaws::onto_none, crate::proofs::KeyLaws::onto_room))]
 pub fn key_of(w: &[u8]) -> u64
     ensures { result ≡ key_of w.now }
 {

@@ -7,9 +7,6 @@ use Rattle.calendar.proofs.Sums.{behind}
 use Rattle.calendar.proofs.YearLaws.{year_most, months_of_year, month_low, month_high}
 use Rattle.calendar.proofs.days.month_of.Goals as goal
 
-pub days_of_months-requires : goal.days_of_months-requires
-days_of_months-requires c = omega (arith, c.requires, year_most c.args.y)
-
 pub returns-then-n-days_of_months : goal.returns-then-n-days_of_months
 returns-then-n-days_of_months c =
     let y = c.args.y in

@@ -21,21 +21,21 @@ ended-requires c =
     let args = c.args in
     let pre = c.requires in
     let words = language_of args.language.now in
-    (assign_ready args.language.now _ _ _ _ _ pre.0 pre.1 pre.2 _ _ _ _ c.in_ok-v.ensures (primary words args.depth) (primary_size words args.depth) (λ z. omega (arith, z, pre.4)) _ c.next.ensures, pre.3)
+    (assign_ready args.language.now _ _ _ _ _ pre.0 pre.1 pre.2 _ _ _ _ c.in_ok-v.ensures (primary words args.depth) (primary_size words args.depth) (λ z. omega (arith, z, pre.3)) _ c.next.ensures)
 
 pub returns-in_err-r : goal.returns-in_err-r
 returns-in_err-r c =
     let args = c.args in
     let pre = c.requires in
     let words = language_of args.language.now in
-    meets_err _ _ _ _ _ _ _ c.from_residual-in_err-r.ensures.1 (assign_wrong args.language.now _ _ _ _ _ pre.0 pre.1 pre.2 _ _ _ _ c.in_ok-v.ensures (primary words args.depth) (primary_size words args.depth) (λ z. omega (arith, z, pre.4)) _ c.next.ensures _ _ c.in_err-r.ensures)
+    meets_err _ _ _ _ _ _ _ c.from_residual-in_err-r.ensures.1 (assign_wrong args.language.now _ _ _ _ _ pre.0 pre.1 pre.2 _ _ _ _ c.in_ok-v.ensures (primary words args.depth) (primary_size words args.depth) (λ z. omega (arith, z, pre.3)) _ c.next.ensures _ _ c.in_err-r.ensures)
 
 numbers : (c : In_ok-r) → (c.args.n ≤ c.in_ok-r.r.records) × (c.in_ok-r.r.records ≤ 50000)
 numbers c =
     let args = c.args in
     let pre = c.requires in
     let words = language_of args.language.now in
-    assign_numbers args.language.now _ _ _ _ _ pre.0 pre.1 pre.2 _ _ _ _ c.in_ok-v.ensures (primary words args.depth) (primary_size words args.depth) (λ z. omega (arith, z, pre.4)) _ c.next.ensures _ _ _ _ c.in_ok-r.ensures
+    assign_numbers args.language.now _ _ _ _ _ pre.0 pre.1 pre.2 _ _ _ _ c.in_ok-v.ensures (primary words args.depth) (primary_size words args.depth) (λ z. omega (arith, z, pre.3)) _ c.next.ensures _ _ _ _ c.in_ok-r.ensures
 
 pub overflow_add-k : goal.overflow_add-k
 overflow_add-k c = omega (arith, numbers (goal.at.overflow_add-k c).In_ok-r)
@@ -48,4 +48,4 @@ returns c =
     let args = c.args in
     let pre = c.requires in
     let words = language_of args.language.now in
-    assign_reads args.language.now _ _ _ _ _ pre.0 pre.1 pre.2 _ _ _ _ c.in_ok-v.ensures (primary words args.depth) (primary_size words args.depth) (λ z. omega (arith, z, pre.4)) _ c.next.ensures _ _ _ _ c.in_ok-r.ensures _ (put_fields _ _ _ _ _ _ _ _ _ _ c.plain.ensures c.put.ensures)
+    assign_reads args.language.now _ _ _ _ _ pre.0 pre.1 pre.2 _ _ _ _ c.in_ok-v.ensures (primary words args.depth) (primary_size words args.depth) (λ z. omega (arith, z, pre.3)) _ c.next.ensures _ _ _ _ c.in_ok-r.ensures _ (put_fields _ _ _ _ _ _ _ _ _ _ c.plain.ensures c.put.ensures)

@@ -21,14 +21,14 @@ returns-in_err-r c =
     let args = c.args in
     let pre = c.requires in
     let words = language_of args.language.now in
-    meets_err _ _ _ _ _ _ _ c.from_residual-in_err-r.ensures.1 (compound_wrong args.language.now _ _ _ _ _ pre.0 pre.1 pre.2 _ _ _ c.in_ok-v.ensures (λ z. omega (arith, z, pre.4)) _ c.next.ensures (primary words args.depth) (primary_size words args.depth) _ _ c.in_err-r.ensures)
+    meets_err _ _ _ _ _ _ _ c.from_residual-in_err-r.ensures.1 (compound_wrong args.language.now _ _ _ _ _ pre.0 pre.1 pre.2 _ _ _ c.in_ok-v.ensures (λ z. omega (arith, z, pre.3)) _ c.next.ensures (primary words args.depth) (primary_size words args.depth) _ _ c.in_err-r.ensures)
 
 numbers : (c : In_ok-r) → (c.args.n ≤ c.in_ok-r.r.records) × (c.in_ok-r.r.records ≤ 50000)
 numbers c =
     let args = c.args in
     let pre = c.requires in
     let words = language_of args.language.now in
-    compound_numbers args.language.now _ _ _ _ _ pre.0 pre.1 pre.2 _ _ _ c.in_ok-v.ensures (λ z. omega (arith, z, pre.4)) _ c.next.ensures (primary words args.depth) (primary_size words args.depth) _ _ _ _ c.in_ok-r.ensures
+    compound_numbers args.language.now _ _ _ _ _ pre.0 pre.1 pre.2 _ _ _ c.in_ok-v.ensures (λ z. omega (arith, z, pre.3)) _ c.next.ensures (primary words args.depth) (primary_size words args.depth) _ _ _ _ c.in_ok-r.ensures
 
 pub overflow_add-k : goal.overflow_add-k
 overflow_add-k c = omega (arith, numbers (goal.at.overflow_add-k c).In_ok-r)
@@ -44,4 +44,4 @@ returns c =
     let args = c.args in
     let pre = c.requires in
     let words = language_of args.language.now in
-    compound_reads args.language.now _ _ _ _ _ pre.0 pre.1 pre.2 _ _ _ c.in_ok-v.ensures (λ z. omega (arith, z, pre.4)) _ c.next.ensures (primary words args.depth) (primary_size words args.depth) _ _ _ _ c.in_ok-r.ensures _ _ (put_fields _ _ _ _ _ _ _ _ _ _ c.plain.ensures c.put.ensures) (put_fields _ _ _ _ _ _ _ _ _ _ c.plain-2.ensures c.put-2.ensures)
+    compound_reads args.language.now _ _ _ _ _ pre.0 pre.1 pre.2 _ _ _ c.in_ok-v.ensures (λ z. omega (arith, z, pre.3)) _ c.next.ensures (primary words args.depth) (primary_size words args.depth) _ _ _ _ c.in_ok-r.ensures _ _ (put_fields _ _ _ _ _ _ _ _ _ _ c.plain.ensures c.put.ensures) (put_fields _ _ _ _ _ _ _ _ _ _ c.plain-2.ensures c.put-2.ensures)

@@ -20,13 +20,13 @@ pub slice_bounds-place_in-end : goal.slice_bounds-place_in-end
 slice_bounds-place_in-end c = omega (arith, string_wide c.requires.0 c.requires.2, end_in c.requires.0)
 
 pub overflow_cast-number : goal.overflow_cast-number
-overflow_cast-number c = omega (arith, place_fits c.args.currencies.now c.requires.3 _ c.place_in.ensures c.in-Some.is)
+overflow_cast-number c = omega (arith, place_fits c.args.language.now.lists.currencies.now c.args.language.now.few _ c.place_in.ensures c.in-Some.is)
 
 pub overflow_add-number : goal.overflow_add-number
-overflow_add-number c = omega (arith, place_fits c.args.currencies.now c.requires.3 _ c.place_in.ensures c.in-Some.is)
+overflow_add-number c = omega (arith, place_fits c.args.language.now.lists.currencies.now c.args.language.now.few _ c.place_in.ensures c.in-Some.is)
 
 pub returns-in-None : goal.returns-in-None
-returns-in-None c = leaf_as c.args.s.now c.equity_at.result (spot_equity c.requires.0 c.requires.2 (words_in [] c.args.currencies.now []) c.args.place c.place_in.ensures _ (words_in [] [] []) c.in-None.is) c.equity_at.ensures
+returns-in-None c = leaf_as c.args.s.now c.equity_at.result (spot_equity c.requires.0 c.requires.2 (words_in [] c.args.language.now.lists.currencies.now []) c.args.place c.place_in.ensures _ (words_in [] [] []) c.in-None.is) c.equity_at.ensures
 
 pub returns-in-Some : goal.returns-in-Some
-returns-in-Some c = leaf_as c.args.s.now c.pair_at.result (spot_pair c.requires.0 c.requires.2 (words_in [] c.args.currencies.now []) c.args.place c.place_in.ensures _ c.in-Some.is) c.pair_at.ensures
+returns-in-Some c = leaf_as c.args.s.now c.pair_at.result (spot_pair c.requires.0 c.requires.2 (words_in [] c.args.language.now.lists.currencies.now []) c.args.place c.place_in.ensures _ c.in-Some.is) c.pair_at.ensures

@@ -23,13 +23,13 @@ use Rattle.reading.proofs.PostfixLaws.{turns_as, ready_behind, each_inner, index
 use Rattle.reading.proofs.expressions.+expressions.Goals as goal
 
 pub arguments-returns : goal.arguments-returns
-arguments-returns t c = arguments_done _ _ _ _ c.requires.0.0 c.in_ok-d.ensures.1 c.if-depth-eq0.false _ c.in_ok-d.ensures.0 c.in_ok-r.ensures.0 c.in_ok-r.ensures.1 c.next.ensures
+arguments-returns t c = arguments_done _ _ _ _ c.requires.0 c.in_ok-d.ensures.1 c.if-depth-eq0.false _ c.in_ok-d.ensures.0 c.in_ok-r.ensures.0 c.in_ok-r.ensures.1 c.next.ensures
 
 pub call-call_fault-requires : goal.call-call_fault-requires
 call-call_fault-requires t c = shown_inside _ _ _ c.in_ok-r.ensures.shown
 
 pub call-returns-in-Err : goal.call-returns-in-Err
-call-returns-in-Err t c = rw c.at.ensures (call_faulty _ _ _ _ c.requires.4 c.requires.5 _ c.args.d c.in_ok-r.ensures _ c.in-Err.ensures)
+call-returns-in-Err t c = rw c.at.ensures (call_faulty _ _ _ _ c.requires.3 c.requires.4 _ c.args.d c.in_ok-r.ensures _ c.in-Err.ensures)
 
 pub call-overflow_add-m : goal.call-overflow_add-m
 call-overflow_add-m t c = omega (arith, arguments_within _ _ _ c.args.d c.in_ok-r.ensures c.requires.0.1)
@@ -38,25 +38,25 @@ pub call-overflow_add-result : goal.call-overflow_add-result
 call-overflow_add-result t c = omega (arith, arguments_within _ _ _ c.args.d c.in_ok-r.ensures c.requires.0.1)
 
 pub call-returns : goal.call-returns
-call-returns t c = call_done _ _ _ _ c.requires.4 c.requires.5 _ c.args.d c.in_ok-r.ensures c.in_default.ensures (put_fields _ _ _ _ _ _ _ _ _ _ (rw c.number.ensures at c.plain.ensures) c.put.ensures)
+call-returns t c = call_done _ _ _ _ c.requires.3 c.requires.4 _ c.args.d c.in_ok-r.ensures c.in_default.ensures (put_fields _ _ _ _ _ _ _ _ _ _ (rw c.number.ensures at c.plain.ensures) c.put.ensures)
 
 pub comparison-sum-requires : goal.comparison-sum-requires
-comparison-sum-requires t c = (omega (arith, c.decreases), (compare_ready _ _ (sum_short _ _ _) _ _ _ _ c.requires.0 _ _ _ _ c.loop-r.invariant.1, c.requires.1))
+comparison-sum-requires t c = (omega (arith, c.decreases), (compare_ready _ _ (sum_short _ _ _) _ _ _ _ c.requires _ _ _ _ c.loop-r.invariant.1))
 
 pub comparison-returns-in_err-r : goal.comparison-returns-in_err-r
-comparison-returns-in_err-r t c = meets_err _ _ _ _ _ _ _ c.from_residual.ensures.1 (ap (λ (q : Reader Tree). q (toks_at c.args.s.now c.args.c.start)) (comparison_gates _ _ _) ∙ compare_refused _ _ (sum_short _ _ _) _ _ _ _ c.requires.0 _ _ _ _ c.loop-r.invariant.1 _ _ c.in_err-r.ensures)
+comparison-returns-in_err-r t c = meets_err _ _ _ _ _ _ _ c.from_residual.ensures.1 (ap (λ (q : Reader Tree). q (toks_at c.args.s.now c.args.c.start)) (comparison_gates _ _ _) ∙ compare_refused _ _ (sum_short _ _ _) _ _ _ _ c.requires _ _ _ _ c.loop-r.invariant.1 _ _ c.in_err-r.ensures)
 
 pub comparison-join-j-requires : goal.comparison-join-j-requires
-comparison-join-j-requires t c = compare_numbers _ _ (sum_short _ _ _) _ _ _ _ c.requires.0 _ _ _ _ c.loop-r.invariant.1 c.in_ok-r.ensures
+comparison-join-j-requires t c = compare_numbers _ _ (sum_short _ _ _) _ _ _ _ c.requires _ _ _ _ c.loop-r.invariant.1 c.in_ok-r.ensures
 
 pub comparison-returns-then-sign-ne0 : goal.comparison-returns-then-sign-ne0
-comparison-returns-then-sign-ne0 t c = reads_as _ _ _ _ _ _ _ _ _ (ap (λ (q : Reader Tree). q (toks_at c.args.s.now c.args.c.start)) (comparison_gates _ _ _)) (compare_last _ _ (sum_short _ _ _) _ _ _ _ c.requires.0 _ _ _ _ c.loop-r.invariant.1 c.in_ok-r.ensures _ _ c.join-j.ensures c.if-sign-ne0.true)
+comparison-returns-then-sign-ne0 t c = reads_as _ _ _ _ _ _ _ _ _ (ap (λ (q : Reader Tree). q (toks_at c.args.s.now c.args.c.start)) (comparison_gates _ _ _)) (compare_last _ _ (sum_short _ _ _) _ _ _ _ c.requires _ _ _ _ c.loop-r.invariant.1 c.in_ok-r.ensures _ _ c.join-j.ensures c.if-sign-ne0.true)
 
 pub comparison-returns-then-not-is_comparator : goal.comparison-returns-then-not-is_comparator
-comparison-returns-then-not-is_comparator t c = reads_as _ _ _ _ _ _ _ _ _ (ap (λ (q : Reader Tree). q (toks_at c.args.s.now c.args.c.start)) (comparison_gates _ _ _)) (compare_none _ _ (sum_short _ _ _) _ _ _ _ c.requires.0 _ _ _ _ c.loop-r.invariant.1 c.in_ok-r.ensures _ _ c.join-j.ensures c.if-sign-ne0.false (sym c.is_comparator.ensures ∙ c.if-not-is_comparator.true))
+comparison-returns-then-not-is_comparator t c = reads_as _ _ _ _ _ _ _ _ _ (ap (λ (q : Reader Tree). q (toks_at c.args.s.now c.args.c.start)) (comparison_gates _ _ _)) (compare_none _ _ (sum_short _ _ _) _ _ _ _ c.requires _ _ _ _ c.loop-r.invariant.1 c.in_ok-r.ensures _ _ c.join-j.ensures c.if-sign-ne0.false (sym c.is_comparator.ensures ∙ c.if-not-is_comparator.true))
 
 pub expression-loop-r-init : goal.expression-loop-r-init
-expression-loop-r-init t c = (refl, nests_as _ _ _ _ _ _ _ _ _ _ c.requires.0)
+expression-loop-r-init t c = (refl, nests_as _ _ _ _ _ _ _ _ _ _ c.requires)
 
 pub expression-returns-in_err-r : goal.expression-returns-in_err-r
 expression-returns-in_err-r t c = meets_err _ _ _ _ _ _ _ c.from_residual.ensures.1 (nest_refused (looser_level _ _ _ _) (tighter_level _ _ _ _) _ c.loop-r.invariant.1 _ _ c.in_err-r.ensures)
@@ -89,13 +89,13 @@ pub index-returns-in_err-at : goal.index-returns-in_err-at
 index-returns-in_err-at t c = turns_err _ _ _ _ _ _ c.args.c _ _ c.from_residual-in_err-at.ensures.1 (index_open _ _ _ _ c.args.c c.in_ok-r.ensures _ c.in_err-at.ensures)
 
 pub index-overflow_add-k : goal.index-overflow_add-k
-index-overflow_add-k t c = omega (arith, index_numbers (language_of c.args.language.now) c.args.depth c.args.place c.args.s.now c.args.c c.in_ok-r.ensures c.requires.0.1 _ c.requires.2 _ c.in_ok-at.ensures)
+index-overflow_add-k t c = omega (arith, index_numbers (language_of c.args.language.now) c.args.depth c.args.place c.args.s.now c.args.c c.in_ok-r.ensures c.requires.0.1 _ c.requires.1 _ c.in_ok-at.ensures)
 
 pub index-overflow_add-result : goal.index-overflow_add-result
-index-overflow_add-result t c = omega (arith, index_numbers (language_of c.args.language.now) c.args.depth c.args.place c.args.s.now c.args.c c.in_ok-r.ensures c.requires.0.1 _ c.requires.2 _ c.in_ok-at.ensures)
+index-overflow_add-result t c = omega (arith, index_numbers (language_of c.args.language.now) c.args.depth c.args.place c.args.s.now c.args.c c.in_ok-r.ensures c.requires.0.1 _ c.requires.1 _ c.in_ok-at.ensures)
 
 pub index-returns : goal.index-returns
-index-returns t c = index_reads _ _ _ _ c.args.c c.in_ok-r.ensures c.requires.0.1 _ c.requires.2 _ c.in_ok-at.ensures (put_fields _ _ _ _ _ _ _ _ _ _ c.plain.ensures c.put.ensures)
+index-returns t c = index_reads _ _ _ _ c.args.c c.in_ok-r.ensures c.requires.0.1 _ c.requires.1 _ c.in_ok-at.ensures (put_fields _ _ _ _ _ _ _ _ _ _ c.plain.ensures c.put.ensures)
 
 pub items-loop-at-init : goal.items-loop-at-init
 items-loop-at-init t c = (refl, items_start _ _ _ (primary_law _ _) (primary_size _ _) _ _ _ _ c.requires.0)
@@ -128,7 +128,7 @@ pub list-overflow_add-m-2 : goal.list-overflow_add-m-2
 list-overflow_add-m-2 t c = omega (arith, list_numbers _ _ _ _ _ c.requires.1 c.requires.2 c.if-depth-eq0.false c.requires.0.1 c.in_ok-r.ensures.0)
 
 pub list-postfixes-requires : goal.list-postfixes-requires
-list-postfixes-requires t c = (omega (arith, c.decreases), (list_after _ _ _ _ _ c.requires.1 c.requires.2 c.if-depth-eq0.false c.requires.0.1 c.in_ok-r.ensures.0 c.in_ok-r.ensures.1 c.next-f.ensures, c.requires.3, omega (arith, list_numbers _ _ _ _ _ c.requires.1 c.requires.2 c.if-depth-eq0.false c.requires.0.1 c.in_ok-r.ensures.0)))
+list-postfixes-requires t c = (omega (arith, c.decreases), (list_after _ _ _ _ _ c.requires.1 c.requires.2 c.if-depth-eq0.false c.requires.0.1 c.in_ok-r.ensures.0 c.in_ok-r.ensures.1 c.next-f.ensures, omega (arith, list_numbers _ _ _ _ _ c.requires.1 c.requires.2 c.if-depth-eq0.false c.requires.0.1 c.in_ok-r.ensures.0)))
 
 pub list-returns : goal.list-returns
 list-returns t c = meets_as _ _ _ _ _ _ _ (list_done _ _ _ _ _ c.requires.1 c.requires.2 c.if-depth-eq0.false c.requires.0.1 c.in_ok-r.ensures.0 c.in_ok-r.ensures.1 c.next-f.ensures) (c.postfixes.ensures _ _ (list_tops _ _ _ _ _ c.requires.1 c.requires.2 c.if-depth-eq0.false c.requires.0.1 c.in_ok-r.ensures.0 (put_fields _ _ _ _ _ _ _ _ _ _ c.plain.ensures c.put.ensures)))
@@ -152,16 +152,16 @@ pub method-returns-in_default : goal.method-returns-in_default
 method-returns-in_default t c = rw c.at.ensures (λ x o h. method_none (language_of c.args.language.now) c.args.depth c.args.place c.args.s.now c.args.c c.requires.0.0 _ c.in_ok-d.ensures c.in_ok-r.ensures c.in_default.ensures x, tt)
 
 pub method-overflow_add-k : goal.method-overflow_add-k
-method-overflow_add-k t c = omega (arith, method_numbers (language_of c.args.language.now) c.args.depth c.args.place c.args.s.now c.args.c c.requires.0.0 _ c.in_ok-d.ensures c.in_ok-r.ensures c.requires.0.1 _ c.requires.2)
+method-overflow_add-k t c = omega (arith, method_numbers (language_of c.args.language.now) c.args.depth c.args.place c.args.s.now c.args.c c.requires.0.0 _ c.in_ok-d.ensures c.in_ok-r.ensures c.requires.0.1 _ c.requires.1)
 
 pub method-overflow_add-r : goal.method-overflow_add-r
-method-overflow_add-r t c = omega (arith, method_numbers (language_of c.args.language.now) c.args.depth c.args.place c.args.s.now c.args.c c.requires.0.0 _ c.in_ok-d.ensures c.in_ok-r.ensures c.requires.0.1 _ c.requires.2)
+method-overflow_add-r t c = omega (arith, method_numbers (language_of c.args.language.now) c.args.depth c.args.place c.args.s.now c.args.c c.requires.0.0 _ c.in_ok-d.ensures c.in_ok-r.ensures c.requires.0.1 _ c.requires.1)
 
 pub method-overflow_add-result : goal.method-overflow_add-result
-method-overflow_add-result t c = omega (arith, method_numbers (language_of c.args.language.now) c.args.depth c.args.place c.args.s.now c.args.c c.requires.0.0 _ c.in_ok-d.ensures c.in_ok-r.ensures c.requires.0.1 _ c.requires.2)
+method-overflow_add-result t c = omega (arith, method_numbers (language_of c.args.language.now) c.args.depth c.args.place c.args.s.now c.args.c c.requires.0.0 _ c.in_ok-d.ensures c.in_ok-r.ensures c.requires.0.1 _ c.requires.1)
 
 pub method-returns : goal.method-returns
-method-returns t c = method_reads _ _ _ _ _ c.requires.0.0 _ c.in_ok-d.ensures c.in_ok-r.ensures c.requires.0.1 _ c.requires.2 (c.number.ensures ∙ c.in-Some.ensures) (λ z. omega (arith, z, c.number.ensures, kind_some c.in-Some.kind)) (put_fields _ _ _ _ _ _ _ _ _ _ c.plain.ensures c.put.ensures)
+method-returns t c = method_reads _ _ _ _ _ c.requires.0.0 _ c.in_ok-d.ensures c.in_ok-r.ensures c.requires.0.1 _ c.requires.1 (c.number.ensures ∙ c.in-Some.ensures) (λ z. omega (arith, z, c.number.ensures, kind_some c.in-Some.kind)) (put_fields _ _ _ _ _ _ _ _ _ _ c.plain.ensures c.put.ensures)
 
 pub minus-returns-in-Some : goal.minus-returns-in-Some
 minus-returns-in-Some t c = meets_as _ _ _ _ _ (Ok c.constant_at.result) _ (minus_lone _ _ c.args.c c.args.d _ _ c.requires.1.holds c.in-Some.ensures.0 c.in-Some.ensures.1 c.in-Some.ensures.2) c.constant_at.ensures
@@ -184,10 +184,10 @@ name-slice_bounds-call_of-end t c = omega (arith, start_in c.requires.0.0, end_i
 pub name-postfixes-requires : goal.name-postfixes-requires
 name-postfixes-requires t c =
     let g = name_numbers c.args.language.now.two c.args.language.now.lists.reserved.now c.args.language.now.lists.currencies.now c.args.language.now.lists.counters.now (inner (language_of c.args.language.now) c.args.depth) c.args.s.now c.args.c c.args.d c.args.n c.args.out.now 0 c.in_default.ensures c.in_ok-r.ensures c.requires.0.1 c.requires.1 c.requires.2 in
-    (omega (arith, c.decreases), (g.0, c.requires.3, g.1))
+    (omega (arith, c.decreases), (g.0, g.1))
 
 pub name-call-requires : goal.name-call-requires
-name-call-requires t c = (omega (arith, c.decreases), (ready_behind _ _ _ _ 0 c.requires.0.1 c.requires.1 c.requires.2, c.requires.0.0, c.requires.2, c.requires.3, c.in-Some.ensures, call_kind_low c.in-Some.kind _ c.in-Some.ensures c.in_default-kind.not-Spot c.in_default-kind.not-Df c.in_default-kind.not-RateIndex))
+name-call-requires t c = (omega (arith, c.decreases), (ready_behind _ _ _ _ 0 c.requires.0.1 c.requires.1 c.requires.2, c.requires.0.0, c.requires.2, c.in-Some.ensures, call_kind_low c.in-Some.kind _ c.in-Some.ensures c.in_default-kind.not-Spot c.in_default-kind.not-Df c.in_default-kind.not-RateIndex))
 
 pub name-returns-in_default-kind : goal.name-returns-in_default-kind
 name-returns-in_default-kind t c = name_call _ _ _ _ _ _ c.args.c c.args.d _ _ _ c.in-Some.ensures (kind_some c.in-Some.kind) (call_kind_low c.in-Some.kind _ c.in-Some.ensures c.in_default-kind.not-Spot c.in_default-kind.not-Df c.in_default-kind.not-RateIndex) c.call.result _ c.call.ensures
@@ -223,13 +223,13 @@ pub pays-returns : goal.pays-returns
 pays-returns t c = pays_done _ _ _ _ _ _ _ _ c.requires.0.0 c.requires.1 c.requires.2 c.if-depth-eq0.false _ _ _ _ _ _ c.loop-out.invariant.1 (sym c.stops_pays.ensures ∙ c.loop-out-test.false) _ _ c.payday_at.ensures
 
 pub postfix-returns-then-c-eq-DOT : goal.postfix-returns-then-c-eq-DOT
-postfix-returns-then-c-eq-DOT t c = turns_as c.args.s.now (λ x. postfix_turn_at (language_of c.args.language.now) c.args.depth c.args.place x (toks_at c.args.s.now c.args.c.start)) (λ x. method_at (language_of c.args.language.now) c.args.depth c.args.place x (toks_at c.args.s.now c.next-d.result.start)) _ _ _ _ c.args.c c.next-d.result c.method.result (postfix_dot (language_of c.args.language.now) c.args.depth c.args.place c.args.s.now c.args.c c.next-d.result c.requires.0.0 c.next-d.ensures c.if-c-eq-DOT.true) (omega (arith, postfix_fewer (language_of c.args.language.now) c.args.depth c.args.place c.args.s.now c.args.c c.next-d.result c.requires.0.0 c.next-d.ensures c.requires.3)) c.method.ensures
+postfix-returns-then-c-eq-DOT t c = turns_as c.args.s.now (λ x. postfix_turn_at (language_of c.args.language.now) c.args.depth c.args.place x (toks_at c.args.s.now c.args.c.start)) (λ x. method_at (language_of c.args.language.now) c.args.depth c.args.place x (toks_at c.args.s.now c.next-d.result.start)) _ _ _ _ c.args.c c.next-d.result c.method.result (postfix_dot (language_of c.args.language.now) c.args.depth c.args.place c.args.s.now c.args.c c.next-d.result c.requires.0.0 c.next-d.ensures c.if-c-eq-DOT.true) (omega (arith, postfix_fewer (language_of c.args.language.now) c.args.depth c.args.place c.args.s.now c.args.c c.next-d.result c.requires.0.0 c.next-d.ensures c.requires.2)) c.method.ensures
 
 pub postfix-returns-then-depth-eq0 : goal.postfix-returns-then-depth-eq0
-postfix-returns-then-depth-eq0 t c = rw c.at.ensures (λ x o h. postfix_low (language_of c.args.language.now) c.args.depth c.args.place c.args.s.now c.args.c c.next-d.result c.requires.0.0 c.next-d.ensures c.requires.3 c.if-c-eq-DOT.false c.if-depth-eq0.true x, tt)
+postfix-returns-then-depth-eq0 t c = rw c.at.ensures (λ x o h. postfix_low (language_of c.args.language.now) c.args.depth c.args.place c.args.s.now c.args.c c.next-d.result c.requires.0.0 c.next-d.ensures c.requires.2 c.if-c-eq-DOT.false c.if-depth-eq0.true x, tt)
 
 pub postfix-returns : goal.postfix-returns
-postfix-returns t c = turns_as c.args.s.now (λ x. postfix_turn_at (language_of c.args.language.now) c.args.depth c.args.place x (toks_at c.args.s.now c.args.c.start)) (λ x. index_at (language_of c.args.language.now) (c.args.depth - 1) c.args.place x (toks_at c.args.s.now c.next-d.result.start)) _ _ _ _ c.args.c c.next-d.result c.index.result (postfix_index (language_of c.args.language.now) c.args.depth c.args.place c.args.s.now c.args.c c.next-d.result c.requires.0.0 c.next-d.ensures c.requires.3 c.if-c-eq-DOT.false c.if-depth-eq0.false) (omega (arith, postfix_fewer (language_of c.args.language.now) c.args.depth c.args.place c.args.s.now c.args.c c.next-d.result c.requires.0.0 c.next-d.ensures c.requires.3)) c.index.ensures
+postfix-returns t c = turns_as c.args.s.now (λ x. postfix_turn_at (language_of c.args.language.now) c.args.depth c.args.place x (toks_at c.args.s.now c.args.c.start)) (λ x. index_at (language_of c.args.language.now) (c.args.depth - 1) c.args.place x (toks_at c.args.s.now c.next-d.result.start)) _ _ _ _ c.args.c c.next-d.result c.index.result (postfix_index (language_of c.args.language.now) c.args.depth c.args.place c.args.s.now c.args.c c.next-d.result c.requires.0.0 c.next-d.ensures c.requires.2 c.if-c-eq-DOT.false c.if-depth-eq0.false) (omega (arith, postfix_fewer (language_of c.args.language.now) c.args.depth c.args.place c.args.s.now c.args.c c.next-d.result c.requires.0.0 c.next-d.ensures c.requires.2)) c.index.ensures
 
 pub postfixes-returns-in_err-r : goal.postfixes-returns-in_err-r
 postfixes-returns-in_err-r t c =
@@ -243,7 +243,7 @@ pub postfixes-returns : goal.postfixes-returns
 postfixes-returns t c = λ x o h. post_exit (c.loop-out.invariant.3 _ o (post_enter _ _ (each_inner _ _) _ _ x _ h)) c.loop-out.invariant.1.0 (sym c.is_postfix.ensures ∙ c.loop-out-test.false)
 
 pub power-loop-r-init : goal.power-loop-r-init
-power-loop-r-init t c = (refl, powers_first (power_level _ _) (primary_low _ _) _ _ _ _ _ _ _ _ c.requires.0)
+power-loop-r-init t c = (refl, powers_first (power_level _ _) (primary_low _ _) _ _ _ _ _ _ _ _ c.requires)
 
 pub power-returns-in_err-r : goal.power-returns-in_err-r
 power-returns-in_err-r t c = meets_err _ _ _ _ _ _ _ c.from_residual.ensures.1 (powers_refused (power_level _ _) (primary_low _ _) _ _ _ _ _ _ _ _ _ _ _ c.loop-r.invariant.1 _ _ c.in_err-r.ensures)
@@ -261,7 +261,7 @@ pub power-loop-r-preserved : goal.power-loop-r-preserved
 power-loop-r-preserved t c = (c.step-j.auto.out ∙ (c.primary.auto.out ∙ c.loop-r.invariant.0), powers_next (power_level _ _) (primary_low _ _) _ _ _ _ _ _ _ _ _ _ _ c.loop-r.invariant.1 _ _ _ _ c.in_ok-r.ensures _ c.is_power-more.ensures _ _ c.step-j.ensures c.if-not-more.false _ c.next-at.ensures)
 
 pub product-loop-r-init : goal.product-loop-r-init
-product-loop-r-init t c = (refl, pend_as (product_level _ _ _) _ _ (product_gates _ _ _) _ _ _ c.requires.0)
+product-loop-r-init t c = (refl, pend_as (product_level _ _ _) _ _ (product_gates _ _ _) _ _ _ c.requires)
 
 pub product-returns-in_err-r : goal.product-returns-in_err-r
 product-returns-in_err-r t c = meets_err _ _ _ _ _ _ _ c.from_residual.ensures.1 (pend_refused (product_level _ _ _) _ c.loop-r.invariant.1 _ _ c.in_err-r.ensures)
@@ -279,7 +279,7 @@ pub product-loop-r-preserved : goal.product-loop-r-preserved
 product-loop-r-preserved t c = (c.join-j.auto.out ∙ (c.power.auto.out ∙ c.loop-r.invariant.0), pend_next (product_level _ _ _) _ (pend_chain (product_level _ _ _) _ c.loop-r.invariant.1 c.in_ok-r.ensures _ _ c.join-j.ensures) (sym c.is_product.ensures ∙ c.if-not-is_product.false) _ c.next-at.ensures)
 
 pub sum-loop-r-init : goal.sum-loop-r-init
-sum-loop-r-init t c = (refl, pend_as (sum_level _ _ _) _ _ (sum_gates _ _ _) _ _ _ c.requires.0)
+sum-loop-r-init t c = (refl, pend_as (sum_level _ _ _) _ _ (sum_gates _ _ _) _ _ _ c.requires)
 
 pub sum-returns-in_err-r : goal.sum-returns-in_err-r
 sum-returns-in_err-r t c = meets_err _ _ _ _ _ _ _ c.from_residual.ensures.1 (pend_refused (sum_level _ _ _) _ c.loop-r.invariant.1 _ _ c.in_err-r.ensures)

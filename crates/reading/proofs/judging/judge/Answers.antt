@@ -23,7 +23,10 @@ slice_bounds-judge_text-end c = sym (length-take-le _ c.args.script.now (end_sho
 pub judge_text-requires : goal.judge_text-requires
 judge_text-requires c =
     let short = end_short c.args.script.now (sym c.in_ok-n.ensures) in
-    (omega (arith, length-take-le _ c.args.script.now short.1, short.0), lists_few (lists_of c.args.lists.now) (sym c.are_well_formed.ensures ∙ c.if-not-are_well_formed.false))
+    omega (arith, length-take-le _ c.args.script.now short.1, short.0)
+
+pub invariant_of-judge_text : goal.invariant_of-judge_text
+invariant_of-judge_text c = record { few = lists_few (lists_of c.args.lists.now) (sym c.are_well_formed.ensures ∙ c.if-not-are_well_formed.false) }
 
 pub returns : goal.returns
 returns c =

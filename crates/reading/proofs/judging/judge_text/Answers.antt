@@ -15,7 +15,7 @@ returns-in_err-scanned c =
 pub all-requires : goal.all-requires
 all-requires c =
     let language = c.args.language.now in
-    (text_clean (edition_by language.two) (lists_of language.lists) c.args.s.now (passed c.args.s.now (sym c.in_ok-scanned.ensures)) c.requires.0, c.requires.1)
+    (text_clean (edition_by language.two) (lists_of language.lists) c.args.s.now (passed c.args.s.now (sym c.in_ok-scanned.ensures)) c.requires)
 
 pub returns-in_err-read : goal.returns-in_err-read
 returns-in_err-read c =

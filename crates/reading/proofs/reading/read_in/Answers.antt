@@ -31,7 +31,10 @@ slice_bounds-all-end c =
     sym (length-take-le _ c.args.script.now (bytes_in (edition_by c.args.two) (lists_of c.args.lists.now) c.args.script.now (judged_so (goal.at.slice_bounds-all-end c).In_ok-c)))
 
 pub all-requires : goal.all-requires
-all-requires c = text_ready (edition_by c.args.two) (lists_of c.args.lists.now) c.args.script.now (judged_so (goal.at.all-requires c).In_ok-c)
+all-requires c = (text_ready (edition_by c.args.two) (lists_of c.args.lists.now) c.args.script.now (judged_so (goal.at.all-requires c).In_ok-c)).0
+
+pub invariant_of-language : goal.invariant_of-language
+invariant_of-language c = record { few = (text_ready (edition_by c.args.two) (lists_of c.args.lists.now) c.args.script.now (judged_so (goal.at.invariant_of-language c).In_ok-c)).1 }
 
 -- the second reading can refuse in the types only
 pub returns-in_err-r : goal.returns-in_err-r

@@ -9,7 +9,7 @@ use Rattle.reading.proofs.WholeLaws.{chain_start, chain_exit, chain_less, chain_
 use Rattle.reading.proofs.scripts.all.Goals as goal
 
 pub loop-at-init : goal.loop-at-init
-loop-at-init c = (refl, refl, chain_start (language_of c.args.language.now) c.args.s.now _ _ c.requires.0 _ c.start-at.ensures)
+loop-at-init c = (refl, refl, chain_start (language_of c.args.language.now) c.args.s.now _ _ c.requires _ c.start-at.ensures)
 
 pub returns : goal.returns
 returns c = chain_exit (language_of c.args.language.now) c.args.s.now _ _ c.loop-at.invariant.2 c.loop-at-test.false
@@ -18,7 +18,7 @@ pub rebased-c-requires : goal.rebased-c-requires
 rebased-c-requires c = start_in c.loop-at.invariant.2.holds
 
 pub statement-requires : goal.statement-requires
-statement-requires c = (ready_at (language_of c.args.language.now) c.args.s.now _ _ c.loop-at.invariant.2 c.rebased-c.ensures, c.requires.1)
+statement-requires c = (ready_at (language_of c.args.language.now) c.args.s.now _ _ c.loop-at.invariant.2 c.rebased-c.ensures)
 
 pub returns-in-Err : goal.returns-in-Err
 returns-in-Err c =

@@ -20,7 +20,7 @@ block-returns-in_err-at t c =
 pub block-loop-at-init : goal.block-loop-at-init
 block-loop-at-init t c =
     let words = language_of c.args.language.now in
-    (refl, block_start (G.statement words c.args.depth) (statement_law words c.args.depth) (statement_size words c.args.depth) c.args.s.now c.args.c c.requires.0.0 c.in_ok-at.at c.in_ok-at.ensures _ _ c.requires.0.1)
+    (refl, block_start (G.statement words c.args.depth) (statement_law words c.args.depth) (statement_size words c.args.depth) c.args.s.now c.args.c c.requires.0 c.in_ok-at.at c.in_ok-at.ensures _ _ c.requires.1)
 
 pub block-returns-in_err-r : goal.block-returns-in_err-r
 block-returns-in_err-r t c =
@@ -28,7 +28,7 @@ block-returns-in_err-r t c =
     let reader = G.statement words c.args.depth in
     let reader-sized = statement_size words c.args.depth in
     let reader-law = statement_law words c.args.depth in
-    block_err _ _ _ _ _ _ _ c.from_residual-in_err-r.ensures.1 (block_wrong reader reader-law reader-sized c.args.s.now _ _ _ _ _ _ _ c.loop-at.invariant.1 c.loop-at-test.true _ _ _ (block_opened reader reader-law reader-sized c.args.s.now c.args.c c.requires.0.0 _ c.in_ok-at.ensures) c.in_err-r.ensures)
+    block_err _ _ _ _ _ _ _ c.from_residual-in_err-r.ensures.1 (block_wrong reader reader-law reader-sized c.args.s.now _ _ _ _ _ _ _ c.loop-at.invariant.1 c.loop-at-test.true _ _ _ (block_opened reader reader-law reader-sized c.args.s.now c.args.c c.requires.0 _ c.in_ok-at.ensures) c.in_err-r.ensures)
 
 pub block-overflow_add-count : goal.block-overflow_add-count
 block-overflow_add-count t c =
@@ -51,7 +51,7 @@ block-returns t c =
     let reader = G.statement words c.args.depth in
     let reader-sized = statement_size words c.args.depth in
     let reader-law = statement_law words c.args.depth in
-    block_exit reader reader-law reader-sized c.args.s.now _ _ _ _ _ _ _ c.loop-at.invariant.1 c.loop-at-test.false _ c.next.ensures _ (block_opened reader reader-law reader-sized c.args.s.now c.args.c c.requires.0.0 _ c.in_ok-at.ensures)
+    block_exit reader reader-law reader-sized c.args.s.now _ _ _ _ _ _ _ c.loop-at.invariant.1 c.loop-at-test.false _ c.next.ensures _ (block_opened reader reader-law reader-sized c.args.s.now c.args.c c.requires.0 _ c.in_ok-at.ensures)
 
 pub conditional-returns-then-depth-eq0 : goal.conditional-returns-then-depth-eq0
 conditional-returns-then-depth-eq0 t c = rw c.at.ensures (if_0 (language_of c.args.language.now) c.args.depth _ _ _ c.next-d.ensures c.requires.1 c.if-depth-eq0.true)
@@ -64,7 +64,7 @@ conditional-returns-in_err-r t c =
 pub conditional-block-requires : goal.conditional-block-requires
 conditional-block-requires t c =
     let args = c.args in
-    (omega arith, (if_body_ready (language_of args.language.now) args.depth _ _ _ c.next-d.ensures c.requires.1 c.if-depth-eq0.false _ c.requires.0.1 _ _ _ _ _ c.in_ok-r.ensures, c.requires.2))
+    (omega arith, (if_body_ready (language_of args.language.now) args.depth _ _ _ c.next-d.ensures c.requires.1 c.if-depth-eq0.false _ c.requires.0.1 _ _ _ _ _ c.in_ok-r.ensures))
 
 pub conditional-returns-in_err-body : goal.conditional-returns-in_err-body
 conditional-returns-in_err-body t c =
@@ -94,7 +94,7 @@ conditional-returns-then-body-ne-ELSE t c =
 pub conditional-block-requires-2 : goal.conditional-block-requires-2
 conditional-block-requires-2 t c =
     let args = c.args in
-    (omega arith, (else_ready (language_of args.language.now) args.depth _ _ _ c.next-d.ensures c.requires.1 c.if-depth-eq0.false _ c.requires.0.1 _ _ _ _ _ c.in_ok-r.ensures _ _ _ _ c.in_ok-body.ensures c.if-body-ne-ELSE.false _ c.next.ensures, c.requires.2))
+    (omega arith, (else_ready (language_of args.language.now) args.depth _ _ _ c.next-d.ensures c.requires.1 c.if-depth-eq0.false _ c.requires.0.1 _ _ _ _ _ c.in_ok-r.ensures _ _ _ _ c.in_ok-body.ensures c.if-body-ne-ELSE.false _ c.next.ensures))
 
 pub conditional-returns-in_err-other : goal.conditional-returns-in_err-other
 conditional-returns-in_err-other t c =
@@ -139,7 +139,7 @@ repetition-returns-in_err-e t c =
 pub repetition-expression-requires : goal.repetition-expression-requires
 repetition-expression-requires t c =
     let args = c.args in
-    (for_ready args.language.now args.depth _ _ _ c.next-d.ensures c.requires.1 c.if-depth-eq0.false _ c.in_ok-e.ensures _ c.requires.0.1, c.requires.2)
+    (for_ready args.language.now args.depth _ _ _ c.next-d.ensures c.requires.1 c.if-depth-eq0.false _ c.in_ok-e.ensures _ c.requires.0.1)
 
 pub repetition-returns-in_err-r : goal.repetition-returns-in_err-r
 repetition-returns-in_err-r t c =
@@ -149,7 +149,7 @@ repetition-returns-in_err-r t c =
 pub repetition-block-requires : goal.repetition-block-requires
 repetition-block-requires t c =
     let args = c.args in
-    (omega arith, (for_body_ready args.language.now args.depth _ _ _ c.next-d.ensures c.requires.1 c.if-depth-eq0.false _ c.in_ok-e.ensures _ c.requires.0.1 _ _ _ _ _ c.in_ok-r.ensures, c.requires.2))
+    (omega arith, (for_body_ready args.language.now args.depth _ _ _ c.next-d.ensures c.requires.1 c.if-depth-eq0.false _ c.in_ok-e.ensures _ c.requires.0.1 _ _ _ _ _ c.in_ok-r.ensures))
 
 pub repetition-returns-in_err-body : goal.repetition-returns-in_err-body
 repetition-returns-in_err-body t c =
@@ -180,17 +180,17 @@ repetition-returns t c =
     for_done args.language.now args.depth _ _ _ c.next-d.ensures c.requires.1 c.if-depth-eq0.false _ c.in_ok-e.ensures _ c.requires.0.1 _ _ _ _ _ c.in_ok-r.ensures _ _ _ _ c.in_ok-body.ensures _ (put_fields _ _ _ _ _ _ _ _ _ _ c.named_node.ensures c.put.ensures)
 
 pub statement-returns-in-1 : goal.statement-returns-in-1
-statement-returns-in-1 t c = meets_as _ _ _ _ _ c.begun.result _ (stat_name (language_of c.args.language.now) _ _ c.requires.0.0 c.args.depth c.in-1.is) c.begun.ensures
+statement-returns-in-1 t c = meets_as _ _ _ _ _ c.begun.result _ (stat_name (language_of c.args.language.now) _ _ c.requires.0 c.args.depth c.in-1.is) c.begun.ensures
 
 pub statement-returns-in-38 : goal.statement-returns-in-38
-statement-returns-in-38 t c = meets_as _ _ _ _ _ c.conditional.result _ (stat_if (language_of c.args.language.now) _ _ c.requires.0.0 c.args.depth c.in-38.is) c.conditional.ensures
+statement-returns-in-38 t c = meets_as _ _ _ _ _ c.conditional.result _ (stat_if (language_of c.args.language.now) _ _ c.requires.0 c.args.depth c.in-38.is) c.conditional.ensures
 
 pub statement-returns-in-39 : goal.statement-returns-in-39
-statement-returns-in-39 t c = meets_as _ _ _ _ _ c.repetition.result _ (stat_for (language_of c.args.language.now) _ _ c.requires.0.0 c.args.depth c.in-39.is) c.repetition.ensures
+statement-returns-in-39 t c = meets_as _ _ _ _ _ c.repetition.result _ (stat_for (language_of c.args.language.now) _ _ c.requires.0 c.args.depth c.in-39.is) c.repetition.ensures
 
 pub statement-returns-in-36 : goal.statement-returns-in-36
-statement-returns-in-36 t c = meets_as _ _ _ _ _ c.paid.result _ (stat_pays (language_of c.args.language.now) _ _ c.requires.0.0 c.args.depth c.in-36.is) c.paid.ensures
+statement-returns-in-36 t c = meets_as _ _ _ _ _ c.paid.result _ (stat_pays (language_of c.args.language.now) _ _ c.requires.0 c.args.depth c.in-36.is) c.paid.ensures
 
 pub statement-returns-in_default : goal.statement-returns-in_default
 statement-returns-in_default t c =
-    meets_as _ _ _ _ _ c.ended.result _ (stat_ended (language_of c.args.language.now) _ _ c.requires.0.0 c.args.depth (λ z. omega arith) (λ z. omega arith) (λ z. omega arith) (λ z. omega arith)) c.ended.ensures
+    meets_as _ _ _ _ _ c.ended.result _ (stat_ended (language_of c.args.language.now) _ _ c.requires.0 c.args.depth (λ z. omega arith) (λ z. omega arith) (λ z. omega arith) (λ z. omega arith)) c.ended.ensures

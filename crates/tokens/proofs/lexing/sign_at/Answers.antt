@@ -1,7 +1,6 @@
 -- The code of the longer sign is asked for first.
 use mathlib.Core.Path.{refl, sym, ap, ◌∙◌, subst}
 use native.Mathlib.Omega.{arith}
-use Rattle.tokens.specs.Tokens.{sign, piece, fault}
 use Rattle.tokens.specs.Keys.{pair_by}
 use Rattle.tokens.specs.Lexing.{mark_of}
 use Rattle.tokens.proofs.KeyLaws.{known_some, known_none, sign_two, sign_one, sign_none}

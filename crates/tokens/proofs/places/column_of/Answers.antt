@@ -18,10 +18,10 @@ returns c =
     let before = take c.min.result c.args.s.now in
     let line = take_while in_line (reverse before) in
     let e : c.count.result ≡ length (filter starts line) =
-        count_from_yields_List c.filter.result c.count.result c.count.ensures.ran
-        (YieldsList-from_filter _ starts
-        (YieldsList-at c.filter.ensures.source
-        (YieldsList-from_take_while _ in_line (YieldsList-from_rev_slice before (cc)) c.take_while-line.ensures.closure c.take_while-line.ensures.done (λ x b q k. search (rules, tests))))
-        c.filter.ensures.closure (λ x b q k. search (rules, tests)))
+    count_from_yields_List c.filter.result c.count.result c.count.ensures.ran
+    (YieldsList-from_filter _ starts
+    (YieldsList-at c.filter.ensures.source
+    (YieldsList-from_take_while _ in_line (YieldsList-from_rev_slice before (cc)) c.take_while-line.ensures.closure c.take_while-line.ensures.done (λ x b q k. search (rules, tests))))
+    c.filter.ensures.closure (λ x b q k. search (rules, tests)))
     in
     column_counted c.args.s.now c.args.at _ _ c.min.ensures (e ∙ length-filter starts line ∙ sym (count_is starts line))

@@ -1,13 +1,10 @@
 -- From the place reached, what is left of the tokens leads to where all of them lead from the first place.
-use mathlib.Core.Path.{◌≡◌, sym, ap, ◌∙◌}
+use mathlib.Core.Path.{◌≡◌, ap, ◌∙◌}
 use native.Mathlib.Omega.{arith}
 use Prim.Native.Nat.{ℕ, ◌+◌, ◌-◌}
 use Rattle.tokens.specs.Views.{place_after}
-use Rattle.tokens.proofs.ViewLaws.{after_none, after_more, after_same}
+use Rattle.tokens.proofs.ViewLaws.{after_more}
 use Rattle.tokens.proofs.views.place_after.Goals as goal
-
-pub returns-then-next-i : goal.returns-then-next-i
-returns-then-next-i c = after_same c.args.s.now c.loop.i (c.args.tokens - c.loop.counter) (sym c.behind-next.ensures ∙ c.if-next-i.true) ∙ c.loop.invariant
 
 pub loop-preserved : goal.loop-preserved
 loop-preserved c =
@@ -15,6 +12,3 @@ loop-preserved c =
     let l = c.loop in
     let e : c.args.tokens - (l.counter + 1) ≡ c.args.tokens - l.counter - 1 = omega arith in
     ap (λ (k : ℕ). place_after s c.behind-next.result k) e ∙ after_more s l.i _ (c.args.tokens - l.counter) c.behind-next.ensures (omega arith) ∙ l.invariant
-
-pub returns : goal.returns
-returns c = after_none c.args.s.now c.loop.i _ (omega arith) ∙ c.loop.invariant
