@@ -1,7 +1,7 @@
 -- Statements of one expression, and the head of a loop: what each step of the code comes to in the definition.
 use Rattle.std.specs.Prelude.{if◌then◌else◌}
 use mathlib.Core.Path.{◌≡◌, refl, sym, ap, ◌∙◌}
-use mathlib.Core.Bool.{Bool, true, false, ◌&&◌, not, true≢false}
+use mathlib.Core.Bool.{Bool, true, false, ◌&&◌, not}
 use mathlib.Core.List.{List, []}
 use mathlib.Core.Option.{Option}
 use Prim.Native.Nat.{ℕ, zero, suc, ◌+◌, ◌-◌, ◌≤◌}
@@ -28,7 +28,7 @@ use Rattle.reading.specs.declared.answers.Fault.{Fault}
 use Rattle.reading.specs.declared.answers.Read.{Read}
 use Rattle.reading.specs.declared.language.Language.{Language as Lent}
 use Rattle.grammar.proofs.SizeLaws.{Sized, EachSized, ended_size, paid_size}
-use Rattle.reading.proofs.HoldLaws.{start_in, end_in, second_is, ask_yes, ask_no, the_then, the_next, the_then_not, read_then, read_next}
+use Rattle.reading.proofs.HoldLaws.{start_in, end_in, second_is, ask_yes, ask_no, the_then, the_next, read_then, read_next}
 use Rattle.reading.proofs.RowLaws.{size_leaf, size_two, after_leaf, after_two, put_rows_same}
 use Rattle.reading.proofs.ChainLaws.{reads_within, binary_plain}
 use Rattle.reading.proofs.AtomLaws.{named_not}

@@ -28,7 +28,7 @@ use Rattle.grammar.proofs.Laws.{loop_eq}
 use Rattle.grammar.proofs.GrammarLaws.{Moves, move_then, stay_next, the_moves, the_stays, give_stays, named_law, block_turn_law}
 use Rattle.grammar.proofs.StatementLaws.{near_tail, statement_tail}
 use Rattle.grammar.proofs.SizeLaws.{Sized, expression_size, primary_size, block_size, statement_size, moves_less}
-use Rattle.reading.proofs.HoldLaws.{first_kind, start_in, end_in, ask_yes, ask_no, peek_is, read_then, read_next, the_next, the_next_not}
+use Rattle.reading.proofs.HoldLaws.{first_kind, start_in, end_in, ask_yes, ask_no, peek_is, read_then, read_next, the_next}
 use Rattle.grammar.proofs.TreeLaws.{sizes_join, parts_snoc, parts_join}
 use Rattle.reading.proofs.RowLaws.{size_node, size_some, sizes_front, parts_few, put_rows_same, put_front, put_join, before_none, before_more, before_node}
 use Rattle.reading.proofs.ChainLaws.{reads_within}

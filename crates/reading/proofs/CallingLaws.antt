@@ -22,7 +22,6 @@ use Rattle.reading.specs.Calls.{right_count, optional_by}
 use Rattle.reading.specs.Meets.{words_in, language_in, toks_at, token_at, Holds, Follows, string_at, Quoted, Reads, MeetsLeaf, Before}
 use Rattle.reading.specs.Turns.{item_end, Shown, content_at, cvg_fault, call_fault}
 use Rattle.reading.specs.declared.answers.Texts.{Texts}
-use Rattle.reading.specs.declared.records.Node.{Node}
 use Rattle.reading.specs.declared.answers.Leaf.{Leaf}
 use Rattle.reading.proofs.HoldLaws.{peek_is, fail_is, the_next}
 use Rattle.reading.proofs.RowLaws.{before_node, size_node}

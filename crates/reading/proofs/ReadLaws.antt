@@ -18,7 +18,10 @@ use Rattle.grammar.specs.Words.{words_of, row_of, row_words, directory_of, lates
 use Rattle.reading.specs.Rows.{rows, put_rows, put_entries}
 use Rattle.reading.specs.Meets.{edition_by, toks_at}
 use Rattle.reading.specs.Few.{Few}
-use Rattle.reading.specs.Scripts.{Clean, rows_in, entries_in, ReadsAll}
+use Rattle.std.specs.Prelude.{Result, Ok, Err}
+use Rattle.tokens.specs.declared.refusals.Refusal.{Refusal}
+use Rattle.reading.specs.Scripts.{Clean, rows_in, entries_in, ReadsAll, MeetsAll}
+use Rattle.reading.specs.declared.answers.All.{All}
 use Rattle.reading.specs.declared.judging.Counts.{Counts}
 use Rattle.reading.specs.declared.reading.Answer.{Answer}
 use Rattle.reading.specs.Judging.{good, rejected, judged_of, last_end, judgement}
@@ -85,6 +88,11 @@ room_most most n = go (ltb most n) refl
     go false e = ltb-false most n e
 
 -- ---- what the reader of all statements wrote, where they can be read
+
+-- the latest date that it answers
+abbrev pub latest_read : Result All Refusal → ℕ
+latest_read (Ok a) = a.latest
+latest_read (Err b) = 0
 
 all_wrote : {R : Outcome} (o d : List ℕ) {k n x : ℕ} {o' d' : List ℕ} (es : List Entry) → R ≡ accepted es → record_width * nodes es ≤ length o → ReadsAll R o d k n x o' d'
     → (o' ≡ put_rows o 0 (rows_in es)) × (d' ≡ put_entries d 0 (entries_in es)) × (x ≡ latest_of (map row_of es))
@@ -184,10 +192,11 @@ module _ (E : Edition) (l : Lists) (bs : List ℕ) where
           let full : ltb (statement_room (length d)) (length G.entries) ≡ true = lt-ltb (statement_room (length d)) (length G.entries) (omega (arith, q, g, G.statements_are)) in
           leaves_refused (into ∙ rw (fits, full))
 
-      -- accepted
+      -- accepted: the reader of all statements cannot refuse any more
       pub leaves_read : {r : Answer} {m n x : ℕ} → r ≡ accepted_with (number_of E) c x → m ≡ record_room (length o) → c.records ≤ m → n ≡ statement_room (length d) → c.statements ≤ n
-          → {k i : ℕ} {o' d' : List ℕ} → ReadsAll (statements (language E l) (toks_at (take c.bytes bs) 0)) o d k i x o' d' → LeavesIn E l bs o d r o' d'
-      leaves_read e p h q g M =
+          → (a : Result All Refusal) {o' d' : List ℕ} → x ≡ latest_read a → MeetsAll (statements (language E l) (toks_at (take c.bytes bs) 0)) o d a o' d' → LeavesIn E l bs o d r o' d'
+      leaves_read e p h q g (Err b) y M = absurd (never_refused G M)
+      leaves_read e p h q g (Ok a) y M =
           let fits : ltb (record_room (length o)) (nodes G.entries) ≡ false = le-ltb (record_room (length o)) (nodes G.entries) (omega (arith, p, h, G.records_are)) in
           let few : ltb (statement_room (length d)) (length G.entries) ≡ false = le-ltb (statement_room (length d)) (length G.entries) (omega (arith, q, g, G.statements_are)) in
           let is : reading_in E l (record_room (length o)) (statement_room (length d)) bs ≡ accepted G.entries = into ∙ rw (fits, few) in
@@ -196,7 +205,7 @@ module _ (E : Edition) (l : Lists) (bs : List ℕ) where
           let entry_fits : entry_width * length G.entries ≤ length d = omega (arith, room_in most_statements (length d / entry_width), q, g, G.statements_are) in
           record {
             answer =
-                e ∙ ap (accepted_with (number_of E) c) W.2 ∙ ap (answer_of (number_of E) bs (latest_of (map row_of G.entries))) G.counts_are
+                e ∙ ap (accepted_with (number_of E) c) (y ∙ W.2) ∙ ap (answer_of (number_of E) bs (latest_of (map row_of G.entries))) G.counts_are
                 ∙ sym (ap (answer_to (number_of E) bs) is);
             records = W.0 ∙ put_records o G.entries record_fits ∙ sym (ap (left_by words_of o) is);
             directory = W.1 ∙ put_directory d G.entries entry_fits ∙ sym (ap (left_by directory_of d) is);

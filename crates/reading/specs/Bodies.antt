@@ -4,7 +4,7 @@ use Rattle.std.proofs.Math.Option.{Option, none, some}
 use Rattle.tokens.specs.Tokens.{Token}
 use Rattle.tokens.specs.declared.cursor.Cursor.{Cursor}
 use Rattle.grammar.specs.Trees.{Tree, Trees, size, sizes, parts}
-use Rattle.grammar.specs.Readers.{Out, ok, refused, Reader, ◌>>=◌, ◌>>◌, give, the}
+use Rattle.grammar.specs.Readers.{Out, ok, Reader, ◌>>=◌, ◌>>◌, give, the}
 use Rattle.grammar.specs.Grammar.{Language, Inner, deeper, if_over, ended, named, for_over, paid, assign, compound, assign_paid, next_kind, name_first, primary, statement}
 use Rattle.reading.specs.Rows.{rows, rows_of, put_rows}
 use Rattle.reading.specs.Meets.{toks_at, token_at, Holds}

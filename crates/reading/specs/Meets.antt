@@ -7,7 +7,7 @@ use Rattle.tokens.specs.Tokens.{Token, Lexed, lexed, refused as faulty, scan, fi
 use Rattle.tokens.specs.Lexing.{mark_at}
 use Rattle.tokens.specs.declared.cursor.Cursor.{Cursor}
 use Rattle.grammar.specs.Trees.{Tree, Trees, node, nil, fields, size, sizes}
-use Rattle.grammar.specs.Readers.{Out, ok, refused, Reader, ◌>>=◌, ◌>>◌, next, fail, peek, read}
+use Rattle.grammar.specs.Readers.{Out, ok, Reader, ◌>>=◌, ◌>>◌, next, fail, peek, read}
 use Rattle.grammar.specs.Grammar.{Edition, one, two, Language, lone}
 use Rattle.reading.specs.Rows.{rows, rows_of, put_rows}
 use Rattle.reading.specs.Faults.{refused_by}

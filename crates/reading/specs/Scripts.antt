@@ -1,5 +1,5 @@
 -- What the reader of a whole script answers, in terms of the definition.
-use Rattle.std.specs.Prelude.{◌≡◌, false, Result, Ok, Err, List, [], ◌∷◌, ◌++◌, map, ℕ, ◌+◌, ◌-◌, ◌*◌, ◌≤◌, length}
+use Rattle.std.specs.Prelude.{◌≡◌, false, Result, Ok, Err, List, [], ◌∷◌, ◌++◌, map, ℕ, ◌-◌, ◌*◌, ◌≤◌, length}
 use Rattle.tokens.specs.Limits.{most_bytes}
 use Rattle.tokens.specs.Tokens.{Token, lexed, scan}
 use Rattle.tokens.specs.Refusals.{number_of}

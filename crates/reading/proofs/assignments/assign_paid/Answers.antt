@@ -4,7 +4,7 @@ use native.Mathlib.Omega.{arith}
 use Rattle.reading.specs.Meets.{language_of}
 use Rattle.reading.specs.Turns.{inner}
 use Rattle.reading.proofs.StepLaws.{put_fields, inner_sized}
-use Rattle.reading.proofs.AssignLaws.{meets_err, assign_paid_unnamed, assign_paid_ready, assign_paid_wrong, assign_paid_numbers, assign_paid_reads}
+use Rattle.reading.proofs.AssignLaws.{meets_err, assign_paid_unnamed, assign_paid_wrong, assign_paid_numbers, assign_paid_reads}
 use Rattle.reading.proofs.assignments.assign_paid.Goals.{In_ok-r}
 use Rattle.reading.proofs.assignments.assign_paid.Goals as goal
 

@@ -1,11 +1,7 @@
 -- The sign behind the name decides; in the first edition none does behind a line break.
-use mathlib.Core.Path.{◌∙◌}
 use native.Mathlib.Omega.{arith}
-use Rattle.grammar.specs.Grammar.{primary}
-use Rattle.reading.specs.Meets.{language_of}
-use Rattle.reading.specs.Turns.{inner}
 use Rattle.reading.proofs.StepLaws.{meets_as}
-use Rattle.reading.proofs.AssignLaws.{sign_at, first_assign, first_compound, first_paid, first_ended}
+use Rattle.reading.proofs.AssignLaws.{first_assign, first_compound, first_paid, first_ended}
 use Rattle.reading.proofs.assignments.begun.Goals.{in_default-via-then-this-lt28, in_default-via-else-this-lt28+else-this-lt32}
 use Rattle.reading.proofs.assignments.begun.Goals as goal
 

@@ -5,7 +5,7 @@ use Rattle.grammar.specs.Grammar.{primary}
 use Rattle.reading.specs.Meets.{language_of}
 use Rattle.grammar.proofs.SizeLaws.{primary_size}
 use Rattle.reading.proofs.StepLaws.{put_fields}
-use Rattle.reading.proofs.AssignLaws.{meets_err, compound_unnamed, compound_ready, compound_wrong, compound_numbers, compound_reads}
+use Rattle.reading.proofs.AssignLaws.{meets_err, compound_unnamed, compound_wrong, compound_numbers, compound_reads}
 use Rattle.reading.proofs.assignments.compound.Goals.{In_ok-r}
 use Rattle.reading.proofs.assignments.compound.Goals as goal
 

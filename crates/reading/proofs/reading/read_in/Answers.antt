@@ -1,6 +1,7 @@
 -- Whole scripts: judged, then read, then what is left in memory.
-use mathlib.Core.Path.{sym}
+use mathlib.Core.Path.{refl, sym}
 use lib.Seq.{length-take-le}
+use Rattle.std.specs.Prelude.{Ok}
 use Rattle.std.proofs.lemmas.Result.{err_from_is_err_and}
 use Rattle.tokens.specs.LentLists.{lists_of}
 use Rattle.reading.specs.Meets.{edition_by}
@@ -43,4 +44,4 @@ returns-in_err-r c =
 
 pub returns : goal.returns
 returns c =
-    leaves_read (edition_by c.args.two) (lists_of c.args.lists.now) c.args.script.now _ _ (judged_so (goal.at.returns c).In_ok-c) c.acceptance.ensures c.record_room.ensures c.if-c-record_room.false c.statement_room.ensures c.if-c-statement_room.false c.in_ok-r.ensures
+    leaves_read (edition_by c.args.two) (lists_of c.args.lists.now) c.args.script.now _ _ (judged_so (goal.at.returns c).In_ok-c) c.acceptance.ensures c.record_room.ensures c.if-c-record_room.false c.statement_room.ensures c.if-c-statement_room.false (Ok c.in_ok-r.r) refl c.in_ok-r.ensures

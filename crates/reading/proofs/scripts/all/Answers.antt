@@ -1,5 +1,4 @@
 -- The loop over the statements of a script.
-use native.Mathlib.Omega.{arith}
 use mathlib.Core.Path.{refl, ◌∙◌}
 use mathlib.Core.List.{[]}
 use Rattle.std.specs.Prelude.{Ok, Err}

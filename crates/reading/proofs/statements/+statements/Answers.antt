@@ -8,7 +8,7 @@ use Rattle.grammar.proofs.SizeLaws.{statement_size}
 use Rattle.reading.proofs.HoldLaws.{start_in}
 use Rattle.reading.proofs.StepLaws.{meets_as, put_fields}
 use Rattle.reading.proofs.AssignLaws.{meets_err}
-use Rattle.reading.proofs.BodyLaws.{block_err, statement_law, stat_name, stat_if, stat_for, stat_pays, stat_ended, block_unopened, block_opened, block_start, block_ready, block_exit, block_wrong, block_numbers, block_less, block_next, if_0, if_ready, if_refused, if_body_ready, if_body_refused, if_numbers, if_done, else_ready, else_refused, else_numbers, else_done, for_0, for_head_refused, for_ready, for_refused, for_body_ready, for_body_refused, for_numbers, for_done}
+use Rattle.reading.proofs.BodyLaws.{block_err, statement_law, stat_name, stat_if, stat_for, stat_pays, stat_ended, block_unopened, block_opened, block_start, block_exit, block_wrong, block_numbers, block_less, block_next, if_0, if_refused, if_body_ready, if_body_refused, if_numbers, if_done, else_ready, else_refused, else_numbers, else_done, for_0, for_head_refused, for_ready, for_refused, for_body_ready, for_body_refused, for_numbers, for_done}
 use Rattle.reading.proofs.statements.+statements.Goals.{conditional-In_ok-body, conditional-In_ok-other, repetition-In_ok-body}
 use Rattle.reading.proofs.statements.+statements.Goals as goal
 
