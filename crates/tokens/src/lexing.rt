@@ -113,7 +113,10 @@ fn number_at(s: &[u8], at: usize) -> Result<Mark, Refusal>
             end,
             code: NUMBER,
         }),
-        Err(ground) => Err(Refusal { cause: ground, byte: at }),
+        Err(ground) => Err(Refusal {
+            cause: ground,
+            byte: at,
+        }),
     }
 }
 
