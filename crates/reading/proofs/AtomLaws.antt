@@ -10,7 +10,7 @@ use native.Mathlib.Omega.{arith}
 use lib.Dec.{eqb, ltb}
 use lib.ListN.{length, take, drop, get_or, length-append, length-take, length-drop}
 use lib.Seq.{take-take}
-use borrow.Author.Tests.{ltb-true, eqb-true, eqb-false, ne_eqb, eq-eqb, le-leb}
+use borrow.Author.Tests.{ltb-true, eqb-true, ne_eqb, eq-eqb, le-leb}
 use Rattle.tokens.specs.Text.{bytes, same, begins, every, leading, letter, digit, name_byte, number_byte, blank, other}
 use Rattle.tokens.specs.Numbers.{number_fault, value, value_of, signed, bits_of}
 use Rattle.tokens.specs.Names.{place, index_of}

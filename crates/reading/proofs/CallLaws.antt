@@ -25,7 +25,7 @@ use Rattle.reading.specs.Calls.{call_kind, call_by, method_kind, optional_by, en
 use Rattle.reading.specs.Meets.{toks_at, token_at, Holds, Follows, the_by, Takes, MeetsNumber, MeetsLeaf, Leads}
 use Rattle.reading.specs.Few.{Few}
 use Rattle.reading.specs.declared.records.Node.{Node}
-use Rattle.reading.specs.Faults.{refused_by, fault_at}
+use Rattle.reading.specs.Faults.{refused_by}
 use Rattle.reading.specs.declared.answers.Fault.{Fault}
 use Rattle.reading.specs.declared.answers.Leaf.{Leaf}
 use Rattle.reading.specs.declared.answers.Number.{Number}

@@ -5,7 +5,7 @@ use Prim.Native.Nat.{ℕ, zero, suc, ◌≤◌}
 use native.Mathlib.Omega.{arith}
 use lib.Dec.{eqb}
 use borrow.Author.Tests.{ne_eqb}
-use Rattle.std.specs.Prelude.{Option, Some, None}
+use Rattle.std.specs.Prelude.{Some}
 use Rattle.reading.specs.Rows.{kind_number, kind_at}
 use Rattle.reading.specs.declared.records.Kind.{Kind}
 use Rattle.reading.specs.declared.records.Kind.TheVariants as kind

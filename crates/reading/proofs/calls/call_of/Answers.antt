@@ -1,6 +1,5 @@
 -- A name is told by its key, or by all of its bytes.
 use mathlib.Core.Path.{sym, ap, ◌∙◌}
-use mathlib.Core.Bool.{true, false}
 use Rattle.tokens.specs.Text.{bytes}
 use Rattle.reading.specs.Calls.{call_by}
 use Rattle.reading.proofs.CallLaws.{call_long, call_other}

@@ -1,5 +1,4 @@
 -- A method is told by its key and its count.
-use mathlib.Core.Bool.{and-false}
 use borrow.Author.Tests.{ne_eqb}
 use Rattle.tokens.specs.Text.{bytes}
 use Rattle.tokens.specs.Keys.{pack}

@@ -1,5 +1,4 @@
 -- A pair of currencies: the second, and a date where there is one.
-use native.Mathlib.Omega.{arith}
 use mathlib.Core.List.{[]}
 use Rattle.std.proofs.lemmas.Result.{err_from_is_err_and}
 use Rattle.reading.specs.Meets.{words_in}
