@@ -6,7 +6,7 @@ use mathlib.Core.List.{List, []}
 use Prim.Native.Nat.{ℕ, ◌+◌, ◌-◌, ◌≤◌}
 use native.Mathlib.Omega.{arith}
 use lib.Dec.{eqb, leb}
-use lib.ListN.{length, take, drop, length-drop}
+use lib.ListN.{length, drop, length-drop}
 use borrow.Author.Tests.{eqb-true, ne_eqb, eq-eqb, le-leb}
 use Rattle.tokens.specs.Text.{leading, other}
 use Rattle.tokens.specs.Names.{place, index_of}
@@ -16,10 +16,10 @@ use Rattle.tokens.specs.declared.cursor.Cursor.{Cursor}
 use Rattle.tokens.proofs.Shapes.{leading_le}
 use Rattle.grammar.specs.Trees.{Tree, Trees, node, nil, ◌▹◌, fields, parts, row}
 use Rattle.grammar.specs.Readers.{Out, ok, refused, Reader, bind, ◌>>=◌, ◌>>◌, Turn, again, is, give, fail, the}
-use Rattle.grammar.specs.Grammar.{Language, is_string, text_of, optional, a_date, a_currency, named, payday}
+use Rattle.grammar.specs.Grammar.{Language, is_string, text_of, optional, a_date, a_currency, payday}
 use Rattle.reading.specs.Rows.{node_row, put_row}
 use Rattle.reading.specs.Calls.{right_count, optional_by}
-use Rattle.reading.specs.Meets.{words_in, language_in, toks_at, token_at, Holds, Follows, string_at, Quoted, Reads, MeetsLeaf, Before}
+use Rattle.reading.specs.Meets.{toks_at, token_at, Holds, Follows, string_at, Quoted, Reads, MeetsLeaf, Before}
 use Rattle.reading.specs.Turns.{item_end, Shown, content_at, cvg_fault, call_fault}
 use Rattle.reading.specs.declared.answers.Texts.{Texts}
 use Rattle.reading.specs.declared.answers.Leaf.{Leaf}

@@ -5,9 +5,9 @@ use mathlib.Core.List.{List, [], ◌∷◌}
 use Prim.Native.Nat.{ℕ, zero, suc, ◌+◌, ◌-◌, ◌*◌, ◌≤◌, ◌<◌}
 use native.Mathlib.Omega.{arith}
 use lib.Dec.{eqb, leb, ltb}
-use lib.ListN.{length, get_or, take, drop, length-append, length-drop}
-use lib.Seq.{length-take-le, take_all, take-append_seam, drop-append-add}
-use borrow.Author.Tests.{eqb-true, leb-true, ltb-true, ne_eqb, le-leb, lt-leb, lt-ltb, le-ltb}
+use lib.ListN.{length, get_or, take, drop, length-append}
+use lib.Seq.{take_all, take-append_seam, drop-append-add}
+use borrow.Author.Tests.{eqb-true, leb-true, ltb-true, ne_eqb, lt-ltb, le-ltb}
 use denote.Ref.{Bor}
 use Rattle.tokens.specs.Text.{same, every, capital}
 use Rattle.tokens.specs.Names.{push, names, ended, place, good_name, good_names, good_list, usd_first, distinct}
