@@ -1,4 +1,4 @@
--- Where two memories differ first, one word at a time, and that they differ at all; and when a part is the stored one.
+-- That two slices are the same, where two differ first, one word at a time, and when a part is the stored one.
 use mathlib.Core.Path.{◌≡◌, refl, ap, ◌∙◌}
 use mathlib.Core.Bool.{Bool, true, false}
 use mathlib.Core.List.{List, [], ◌∷◌}

@@ -1,6 +1,7 @@
 // Fields of a text: where they end, and the numbers that they spell.
 ghost use Rattle.std.specs.Prelude.{◌≤◌};
 
+use crate::trouble::Trouble;
 use std::str;
 
 // What stands before the first byte `b`, and what behind it.
@@ -15,7 +16,7 @@ pub fn first_field(s: &[u8]) -> (&[u8], &[u8]) {
 }
 
 // The number of a word that a field spells, in digits of this radix.
-pub fn number(field: &[u8], radix: u32) -> Option<u32>
+pub fn number(field: &[u8], radix: u32) -> Result<u32, Trouble>
     requires { (2 ≤ radix) × (radix ≤ 36) }
 {
     // The library reads a sign and capitals too, which the format does not have.
@@ -23,21 +24,22 @@ pub fn number(field: &[u8], radix: u32) -> Option<u32>
         .iter()
         .all(|b| matches!(*b, b'0'..=b'9' | b'a'..=b'f'))
     {
-        return None;
+        return Err(Trouble::Malformed);
     }
-    u32::from_str_radix(str::from_utf8(field).ok()?, radix).ok()
+    let digits = str::from_utf8(field).map_err(|_| Trouble::Malformed)?;
+    u32::from_str_radix(digits, radix).map_err(|_| Trouble::Malformed)
 }
 
 // The numbers that `N` fields spell, which may have a space behind them.
-pub fn numbers<const N: usize>(s: &[u8]) -> Option<[u32; N]> {
+pub fn numbers<const N: usize>(s: &[u8]) -> Result<[u32; N], Trouble> {
     let s = s.strip_suffix(b" ").unwrap_or(s);
     let mut fields = s.split(|b| *b == b' ');
     let mut all = [0; N];
     for n in &mut all {
-        *n = number(fields.next()?, 10)?;
+        *n = number(fields.next().ok_or(Trouble::Malformed)?, 10)?;
     }
     match fields.next() {
-        None => Some(all),
-        Some(_) => None,
+        None => Ok(all),
+        Some(_) => Err(Trouble::Malformed),
     }
 }

@@ -43,8 +43,8 @@ fn is_part(given: &[u8], source: &[u8], stored: Place) -> bool
 // Which name a field asks for: the first, or a Spot's second.
 fn is_second(field: &[u8]) -> Result<bool, Trouble> {
     match number(field, 10) {
-        Some(1) => Ok(false),
-        Some(2) => Ok(true),
+        Ok(1) => Ok(false),
+        Ok(2) => Ok(true),
         _ => Err(Trouble::Malformed),
     }
 }
@@ -109,13 +109,13 @@ pub fn take_part(case: &Case, fields: &[u8]) -> Result<(), Trouble> {
     if record.load_words(words).is_err() || record.lent().len() != RECORD_WIDTH {
         return Err(Trouble::Malformed);
     }
-    let [from, size] = numbers::<2>(fields).ok_or(Trouble::Malformed)?;
+    let [from, size] = numbers::<2>(fields)?;
     let asked = Asked {
         out: case.out,
         script: front(case.slices.script.lent(), case.held.bytes),
         currencies: case.names.currencies.lent(),
         record: record.lent(),
-        start: number(start, 10).ok_or(Trouble::Malformed)?,
+        start: number(start, 10)?,
         second: is_second(which)?,
     };
     let stored = Place {

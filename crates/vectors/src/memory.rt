@@ -69,17 +69,17 @@ impl<T: Copy> Memory<T> {
 }
 
 // What a run repeats, and how often: once, or the number behind its star.
-fn repeated(run: &[u8]) -> Option<(&[u8], u32)> {
+fn repeated(run: &[u8]) -> Result<(&[u8], u32), Trouble> {
     match split_once(run, b'*') {
-        Some((item, times)) => Some((item, number(times, 10)?)),
-        None => Some((run, 1)),
+        Some((item, times)) => Ok((item, number(times, 10)?)),
+        None => Ok((run, 1)),
     }
 }
 
 // The byte that two hex digits spell.
 fn byte(pair: &[u8]) -> Option<u8> {
     if pair.len() == 2 {
-        u8::try_from(number(pair, 16)?).ok()
+        u8::try_from(number(pair, 16).ok()?).ok()
     } else {
         None
     }
@@ -110,7 +110,7 @@ impl Memory<u8> {
 
     fn append_run(&mut self, run: &[u8]) {
         match repeated(run) {
-            Some((digits, times)) if !digits.is_empty() => {
+            Ok((digits, times)) if !digits.is_empty() => {
                 for _ in 0..times {
                     self.append_once(digits);
                     if self.size.is_err() {
@@ -141,8 +141,8 @@ impl Memory<u8> {
 
 impl Memory<u32> {
     fn append_run(&mut self, run: &[u8]) -> Result<(), Trouble> {
-        let (digits, times) = repeated(run).ok_or(Trouble::Malformed)?;
-        let word = number(digits, 16).ok_or(Trouble::Malformed)?;
+        let (digits, times) = repeated(run)?;
+        let word = number(digits, 16)?;
         for _ in 0..times {
             self.push(word);
             self.taken()?;

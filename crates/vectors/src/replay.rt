@@ -23,9 +23,7 @@ impl<'a> Case<'a> {
     }
 
     fn take_counts(&mut self, fields: &[u8]) -> Result<(), Trouble> {
-        let [bytes, statements, records, tokens, latest, edition] = numbers::<6>(fields).ok_or(
-            Trouble::Malformed,
-        )?;
+        let [bytes, statements, records, tokens, latest, edition] = numbers::<6>(fields)?;
         self.held = Held {
             bytes: bytes as usize,
             statements: statements as usize,
@@ -41,7 +39,7 @@ impl<'a> Case<'a> {
     fn take_edition(&mut self, field: &[u8]) -> Result<(), Trouble> {
         let named = number(field, 10);
         self.edition = named.unwrap_or(0);
-        named.map(|_| ()).ok_or(Trouble::Malformed)
+        named.map(|_| ())
     }
 
     // Takes a line that says what the first call is lent.
@@ -72,7 +70,7 @@ impl<'a> Case<'a> {
         given: Answer,
         tally: &mut Tally,
     ) -> Result<(), Trouble> {
-        let stored = numbers(stored).ok_or(Trouble::Malformed)?;
+        let stored = numbers(stored)?;
         let answered = tally
             .grounds
             .get_mut(stored[0] as usize)
@@ -95,7 +93,7 @@ impl<'a> Case<'a> {
         let mut lent = Memory::new(0);
         let loaded = lent.load_bytes(self.file, text);
         let given = self.amend(statement.map_or(usize::MAX, |n| n as usize), lent.lent());
-        statement.ok_or(Trouble::Malformed)?;
+        statement?;
         loaded?;
         self.compare_answer(answer, given, tally)
     }
