@@ -13,7 +13,8 @@ enum Name {
     Currency(u32),
 }
 
-// Where a part stands: in the list of currencies or in the script, from which byte, and how many.
+// Where a part stands: in the list of currencies or in the script, from which byte, and how many. The three words of the
+// C interface, `in_list` among them.
 #[derive(Clone, Copy)]
 pub struct Place {
     pub in_list: bool,

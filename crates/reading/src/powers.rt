@@ -86,7 +86,7 @@ fn raised(out: &mut [u32], count: u32, n: u32, fits: u32, m: u32, p: u16) -> Joi
 }
 
 // What a turn of the chain leaves: how many records there are then, where those end that waiting operands fill, and where the
-// string of the last one stands.
+// string of the last one stands. With a `Joined` inside it, its uses would only be longer: `k.joined.records`.
 #[derive(Clone, Copy)]
 pub struct Stepped {
     pub records: u32,

@@ -156,7 +156,8 @@ pub struct Joined {
 }
 
 // Joins an operand to those before it, whose records are those from n, by the record of the sign between them, at the
-// place where the first of them begins. The first operand has no sign before it, 0, and stays as it is.
+// place where the first of them begins. The first operand has no sign before it, 0, and stays as it is. The sign is a token's
+// code, and 0 stands for none, as in the clause `Joins`, by which the readers of chains are told.
 pub fn join(out: &mut [u32], sign: u8, n: u32, m: u32, p: u16, place: u16) -> Joined
     requires { (n ≤ m) × (m ≤ 50000) }
     ensures { Joins out.old sign n m p place result out.new }
