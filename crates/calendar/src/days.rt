@@ -80,8 +80,8 @@ fn days_of_months(y: u32, n: u32) -> u32
     if is_leap(y) { plain + 1 } else { plain }
 }
 
-// The count of the day d of the month m of the year y, 0 where there is no such day. The three are handed over as they are,
-// since a `Day` goes through memory.
+// The count of the day d of the month m of the year y, 0 where there is no such day, as C has it and since it cannot fail,
+// which may not change. The three are handed over as they are, since a `Day` goes through memory.
 #[tactic(auto, unfolding(crate::specs::Calendar::count_of))]
 pub fn count_of(y: u32, m: u32, d: u32) -> u32
     ensures { result ≡ count_of (dated y m d) }
@@ -120,7 +120,8 @@ fn month_of(y: u32, n: u32) -> u32
     }
 }
 
-// The day that has the count n; year, month and day are 0 where none has it, and so the archive's exports hand them on.
+// The day that has the count n; year, month and day are 0 where none has it, as C has it and since it cannot fail, which may
+// not change.
 pub fn day_of(n: u32) -> Day
     ensures { result ≡ day_of n }
 {

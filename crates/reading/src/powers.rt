@@ -33,6 +33,7 @@ fn raise(out: &mut [u32], n: u32, fits: u32, m: u32)
 {
     let mut e = fits;
     let mut j = m;
+    // Each root says how far back the next one is, so no range gives the places.
     while n < e {
         let i = e as usize - 1;
         if out.len() / Node::WIDTH <= i {

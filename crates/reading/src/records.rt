@@ -135,7 +135,8 @@ fn put_at<const W: usize>(out: &mut [u32], n: u32, words: [u32; W])
     }
 }
 
-// Writes the record n, where it fits whole.
+// Writes the record n, where it fits whole. Readers are handed the words and a count apart: where a struct lends words by
+// `&mut`, each contract has to say that they are the same slice, and the earlier counts, which tell a node's size, stay beside it.
 pub fn put(out: &mut [u32], n: u32, node: Node)
     ensures { out.new ≡ put_row out.old n (node_row node) }
 {

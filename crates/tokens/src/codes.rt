@@ -1,6 +1,6 @@
 // The number of each kind of token. Where a token alone makes a record, or joins two, it is the record's kind; `+=`, `-=`,
 // `*=` and `/=` are 20 more than the sign that they put to use. No other number says anything of records.
-// They stay numbers: `Cursor.code` and the records keep them.
+// They stay numbers: `Cursor::next` is promised of a cursor with any number, which may not change, and records keep them.
 
 pub const EOF: u8 = 0;
 

@@ -5,7 +5,8 @@ ghost use Rattle.tokens.specs.Dates.{pair, is_shape, date, unless_0};
 use crate::text::is_digit;
 use calendar::days::count_of;
 
-// The number that two digits write; where they are not both digits 100, which `Dates.pair` has there.
+// The number that two digits write; where they are not both digits 100, as `Dates.pair` has it. No year's half, month or day
+// has that number, so an Option would be a branch more at each place and no plainer.
 fn pair_at(s: &[u8], i: usize) -> u32
     requires { i + 1 < length s.now }
     ensures { (result ≡ pair s.now i) × (result ≤ 2805) }

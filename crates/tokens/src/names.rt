@@ -17,6 +17,7 @@ fn walked(list: &[u8], name: &[u8]) -> Option<usize>
 {
     let mut at: usize = 0;
     let mut k: usize = 0;
+    // Each name says where the next begins, so no range gives the places.
     while at < list.len() {
         let e = find(list, at, 10);
         if equal(&list[at..e], name) {
