@@ -105,6 +105,8 @@ pub fn calendar_day(count: u32, day: &mut [u32; 3])
     *day = [d.year, d.month, d.day];
 }
 
+// Words and structs are turned by functions: the structs are of other crates, so no `From` of theirs can stand here.
+
 #[tactic(auto, unfolding(crate::specs::Exports::held_in))]
 fn held_in(words: &[u32; 10]) -> Held
     ensures { result ≡ held_in words.now }

@@ -14,6 +14,10 @@ use tokens::names::place_in;
 use tokens::numbers::bits_of;
 use tokens::refusals::Ground;
 
+// That a cursor holds a token of the text (`Holds`), with room for what can be read (`Ready`), each reader asks for itself: these
+// are facts of the text, the cursor and the count, of which every step changes two, so a type for all three would be made anew at
+// each step, and is no plainer.
+
 // The cursor behind the token that stands at c; the end stays.
 pub fn next(s: &[u8], c: Cursor) -> Cursor
     requires { Holds s.now c }

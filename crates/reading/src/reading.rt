@@ -13,7 +13,8 @@ use tokens::lists::Lists;
 use tokens::places::place_of;
 use tokens::refusals::{Ground, Refusal};
 
-// What a call answers: the number of its refusal, or 0; where; and what the memory holds then.
+// What a call answers: the number of its refusal, or 0; where; and what the memory holds then. A struct of numbers and no Result,
+// since these are the ten words that C gets, the counts of a refusal among them.
 #[derive(Clone, Copy)]
 pub struct Answer {
     pub number: u32,

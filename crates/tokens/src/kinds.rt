@@ -62,7 +62,7 @@ pub enum Kind {
     Eof,
 }
 
-// The kind that a code stands for, but for that of a number.
+// The kind that a code stands for, but for that of a number. A function and no `From`: callers name it, which may not change.
 #[tactic(auto, unfolding(crate::specs::Computing::computing))]
 pub fn kind_of(code: u8) -> Kind
     ensures { result ≡ kind_by code }

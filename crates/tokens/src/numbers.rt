@@ -119,7 +119,7 @@ fn ten_to(n: usize) -> u64
     TENS[n]
 }
 
-// The value of a literal, by one division; 0 where its bytes are refused (5, 6).
+// The value of a literal, by one division; 0 where its bytes are refused (5, 6), since it cannot fail, which may not change.
 #[tactic(auto, using(crate::proofs::NumberLaws::fault_none, crate::proofs::NumberLaws::value_said, crate::proofs::NumberLaws::value_none, crate::proofs::FloatLaws::zero_is, crate::proofs::RefusalLaws::number_in))]
 pub fn value_of(w: &[u8]) -> f64
     ensures { result ≡ value_of w.now }

@@ -12,7 +12,8 @@ use crate::codes::{
 // A part longer than this has no key.
 const LONGEST_KEY: usize = 6;
 
-// The bytes of a short part as one number, the first lowest, with a one above the last. 0 where the part is longer.
+// The bytes of a short part as one number, the first lowest, with a one above the last. 0 where the part is longer, since it
+// cannot fail, which may not change, and no name has that key.
 #[tactic(auto, unfolding(crate::specs::Keys::key_of), using(crate::proofs::KeyLaws::onto_all, crate::proofs::KeyLaws::onto_turn, crate::proofs::KeyLaws::onto_none, crate::proofs::KeyLaws::onto_room))]
 pub fn key_of(w: &[u8]) -> u64
     ensures { result ≡ key_of w.now }
