@@ -6,6 +6,7 @@ use Prim.Native.Nat.{ℕ, zero, suc, ◌+◌, ◌-◌, ◌*◌, ◌≤◌, ◌<�
 use native.Mathlib.Omega.{arith}
 use borrow.Author.Tests.{ne_eqb}
 use lib.ListN.{length}
+use Rattle.std.specs.Prelude.{Some}
 use Rattle.tokens.specs.Tokens.{Token, code}
 use Rattle.tokens.specs.declared.cursor.Cursor.{Cursor}
 use Rattle.grammar.specs.Trees.{Tree, none as unused, size, row}
@@ -13,7 +14,7 @@ use Rattle.grammar.specs.Readers.{Out, ok, refused, Reader, bind, ◌>>=◌, aga
 use Rattle.grammar.specs.Grammar.{Language, binary, group_turn, grouped, sum, comparison, expression, primary}
 use Rattle.reading.specs.Rows.{rows, put_row, put_rows}
 use Rattle.reading.specs.Meets.{language_in, toks_at, token_at, Holds, Room, Ready, Follows, string_at, Quoted, Reads}
-use Rattle.reading.specs.Joins.{Joins}
+use Rattle.reading.specs.Joins.{Joins, sign_or_0}
 use Rattle.reading.specs.Turns.{power_at, product_or, sum_or, comparison_or, expression_or}
 use Rattle.reading.specs.declared.records.Joined.{Joined}
 use Rattle.reading.specs.Signs.{tighter_sign, looser_sign, sum_sign, product_sign, power_sign}
@@ -40,6 +41,10 @@ pub record Level (test : Token → Bool) (op : ℕ → Bool) (p : Reader Tree) :
   pub not_string : op 5 ≡ false
   pub moves : Moves p
   pub short : Sized p
+
+-- a sign of a level is no 0
+pub sign_not_0 : {test : Token → Bool} {op : ℕ → Bool} {p : Reader Tree} → Level test op p → {k : ℕ} → op k ≡ true → Some k ≡ Some 0 → ⊥
+sign_not_0 {op = op} L h e = true≢false (sym h ∙ (ap op (ap sign_or_0 e) ∙ L.not_end))
 
 -- the tree so far, in a chain that begins at y, and that the loop from here gives the whole reading R
 pub record Chain (test : Token → Bool) (p : Reader Tree) (t : List ℕ) (y : ℕ) (R : Out Tree) (n : ℕ) (o : List ℕ) (c : Cursor) (m q : ℕ) (o' : List ℕ) : Type 0 where

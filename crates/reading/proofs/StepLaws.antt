@@ -21,14 +21,14 @@ use Rattle.grammar.specs.Trees.{Tree, Trees, node, nil, ◌▹◌, fields, none 
 use Rattle.grammar.specs.Readers.{Out, ok, refused, Reader, bind, ◌>>=◌, ◌>>◌, second as second_of, Turn, give, fail_at, ask, look, peek, read, the}
 use Rattle.grammar.specs.Grammar.{call_of, Language, binary, chain, deeper, comparison, expression, in_edition, lone, power, signed, minus, negative, parenthesis, pays, name, primary_over, primary}
 use Rattle.reading.specs.Rows.{put_row, node_row}
-use Rattle.reading.specs.Joins.{Joins}
+use Rattle.reading.specs.Joins.{Joins, sign_or_0}
 use Rattle.reading.specs.declared.records.Node.{Node}
 use Rattle.reading.specs.declared.records.Joined.{Joined}
 use Rattle.reading.specs.Atoms.{literal, atom}
 use Rattle.reading.specs.Meets.{edition_by, language_in, toks_at, token_at, Holds, Room, Ready, Follows, Takes, Reads, Meets}
 use Rattle.reading.specs.Signs.{comparator, taken_in, raisable}
 use Rattle.reading.specs.Turns.{inner, power_at, sum_or, comparison_or, parenthesised, list_postfixed, negated_by, MeetsItems, Closed, MeetsTurns}
-use Rattle.std.specs.Prelude.{Result, Ok, Err}
+use Rattle.std.specs.Prelude.{Option, Some, None, is_some, Result, Ok, Err}
 use Rattle.reading.specs.Faults.{refused_by}
 use Rattle.reading.specs.declared.answers.Fault.{Fault}
 use Rattle.reading.specs.declared.answers.Read.{Read}
@@ -124,6 +124,15 @@ pub comparison_gates : (alone : Bool) (W : Language) (d : ℕ) → comparison_or
 unfolding comparison
 comparison_gates true W d = sym (never_asked (power_at W d) _)
 comparison_gates false W d = refl
+
+-- whether there is a sign, by its code
+pub sign_there : (s : Option ℕ) → is_some s ≡ true → (s ≡ Some 0 → ⊥) → sign_or_0 s ≡ 0 → ⊥
+sign_there None h z e = absurd (true≢false (sym h))
+sign_there (Some k) h z e = z (ap Some e)
+
+pub sign_none : (s : Option ℕ) → is_some s ≡ false → sign_or_0 s ≡ 0
+sign_none None h = refl
+sign_none (Some k) h = absurd (true≢false h)
 
 -- what is to be read of it: the first operand,
 pub record First (c : Cursor) (n : ℕ) (o : List ℕ) (e : Cursor) (m : ℕ) (o' : List ℕ) : Type 0 where

@@ -2,6 +2,7 @@
 // right. While the chain is read, each operand waits with the place where its text begins packed into the kind of its last record,
 // its root: memory is bounded by the records, however long the chain is.
 ghost use Rattle.std.specs.Prelude.{◌≡◌, true, ◌+◌, ◌≤◌};
+ghost use Rattle.tokens.specs.Dates.{unless_0};
 ghost use Rattle.reading.specs.Powers.{Marks, Raises, Closes, sign_of, Steps};
 
 use crate::records::{Joined, Kind, Node, join, put};
@@ -95,10 +96,10 @@ pub struct Stepped {
 }
 
 // The sign before an operand, `count` others before it.
-fn sign_of(count: u32) -> u8
-    ensures { result ≡ sign_of count }
+fn sign_of(count: u32) -> Option<u8>
+    ensures { result ≡ unless_0 (sign_of count) }
 {
-    if count == 0 { 0 } else { POWER }
+    if count == 0 { None } else { Some(POWER) }
 }
 
 // One operand, whose records end at m and whose text begins at the place, behind `count` others of a chain that begins at
