@@ -9,7 +9,7 @@ abbrev pub sign_or_0 : Option ℕ → ℕ
 sign_or_0 None = 0
 sign_or_0 (Some k) = k
 
-abbrev pub Joins : List ℕ → ℕ → ℕ → ℕ → ℕ → ℕ → Joined → List ℕ → Type 0
+abbrev pub Joins : List ℕ → ℕ → ℕ → ℕ → Option ℕ → ℕ → Joined → List ℕ → Type 0
 Joins o sign n m p b r o' =
     (sign ≡ 0 → (r.records ≡ m) × (r.string ≡ p) × (o' ≡ o))
-    × ((sign ≡ 0 → ⊥) → (r.records ≡ m + 1) × (r.string ≡ 0) × (o' ≡ put_row o m (row sign (m - n + 1) 2 unused b)))
+    × ((sign ≡ 0 → ⊥) → (r.records ≡ m + 1) × (r.string ≡ None) × (o' ≡ put_row o m (row sign (m - n + 1) 2 unused b)))

@@ -71,7 +71,7 @@ pub fn constant_at(
     Read {
         at: d,
         records: n + 1,
-        string: 0,
+        string: None,
     }
 }
 
@@ -90,7 +90,7 @@ fn string_at(s: &[u8], c: Cursor, d: Cursor, out: &mut [u32], n: u32) -> Read
     Read {
         at: d,
         records: n + 1,
-        string: content,
+        string: Some(content),
     }
 }
 
@@ -110,7 +110,7 @@ pub fn atom_at(s: &[u8], c: Cursor, d: Cursor, out: &mut [u32], n: u32) -> Resul
     Ok(Read {
         at: d,
         records: n + 1,
-        string: 0,
+        string: None,
     })
 }
 
@@ -135,7 +135,7 @@ pub fn variable_at(
     Ok(Read {
         at: d,
         records: n + 1,
-        string: 0,
+        string: None,
     })
 }
 

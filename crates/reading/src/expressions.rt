@@ -448,7 +448,7 @@ fn call(
     Ok(Read {
         at: r.at,
         records: m + 1,
-        string: 0,
+        string: None,
     })
 }
 
@@ -497,9 +497,9 @@ fn items(
     let mut m = n;
     let mut count: u32 = 0;
     let mut texts = Texts {
-        first: 0,
-        second: 0,
-        third: 0,
+        first: None,
+        second: None,
+        third: None,
     };
     while at.code != close {
         let r = expression(s, language, false, at, depth, out, m)?;
@@ -541,7 +541,7 @@ fn postfixes(
     Ok(Read {
         at,
         records: k,
-        string: 0,
+        string: None,
     })
 }
 
@@ -597,7 +597,7 @@ fn method(
     Ok(Read {
         at: r.at,
         records: k + 1,
-        string: 0,
+        string: None,
     })
 }
 
@@ -623,6 +623,6 @@ fn index(
     Ok(Read {
         at,
         records: k + 1,
-        string: 0,
+        string: None,
     })
 }

@@ -69,7 +69,7 @@ fn raise(out: &mut [u32], n: u32, fits: u32, m: u32)
 }
 
 // The end of a chain of `count` operands that wait and the last one, whose records end at m: it is the chain where none waits.
-fn raised(out: &mut [u32], count: u32, n: u32, fits: u32, m: u32, p: u16) -> Joined
+fn raised(out: &mut [u32], count: u32, n: u32, fits: u32, m: u32, p: Option<u16>) -> Joined
     requires { (fits ≤ m) × (m + count ≤ 50000) }
     ensures { Closes out.old count n fits m p result out.new }
 {
@@ -82,7 +82,7 @@ fn raised(out: &mut [u32], count: u32, n: u32, fits: u32, m: u32, p: u16) -> Joi
     raise(out, n, fits, m);
     Joined {
         records: m + count,
-        string: 0,
+        string: None,
     }
 }
 
@@ -92,7 +92,7 @@ fn raised(out: &mut [u32], count: u32, n: u32, fits: u32, m: u32, p: u16) -> Joi
 pub struct Stepped {
     pub records: u32,
     pub fits: u32,
-    pub string: u16,
+    pub string: Option<u16>,
 }
 
 // The sign before an operand, `count` others before it.
@@ -113,7 +113,7 @@ pub fn step(
     n: u32,
     fits: u32,
     m: u32,
-    p: u16,
+    p: Option<u16>,
     first: u16,
     place: u16,
 ) -> Stepped
@@ -133,7 +133,7 @@ pub fn step(
         return Stepped {
             records: m,
             fits: e,
-            string: 0,
+            string: None,
         };
     }
     let k = raised(out, count, n, fits, m, p);

@@ -152,12 +152,12 @@ pub fn put(out: &mut [u32], n: u32, node: Node)
 #[derive(Clone, Copy)]
 pub struct Joined {
     pub records: u32,
-    pub string: u16,
+    pub string: Option<u16>,
 }
 
 // Joins an operand to those before it, whose records are those from n, by the record of the sign between them, at the
 // place where the first of them begins. The first operand has no sign before it, and stays as it is.
-pub fn join(out: &mut [u32], sign: Option<u8>, n: u32, m: u32, p: u16, place: u16) -> Joined
+pub fn join(out: &mut [u32], sign: Option<u8>, n: u32, m: u32, p: Option<u16>, place: u16) -> Joined
     requires { (n ≤ m) × (m ≤ 50000) × (sign ≡ Some 0 → ⊥) }
     ensures { Joins out.old (sign_or_0 sign) n m p place result out.new }
 {
@@ -170,7 +170,7 @@ pub fn join(out: &mut [u32], sign: Option<u8>, n: u32, m: u32, p: u16, place: u1
     put(out, m, plain(sign as u32, m - n + 1, 2, place));
     Joined {
         records: m + 1,
-        string: 0,
+        string: None,
     }
 }
 
