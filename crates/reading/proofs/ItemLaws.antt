@@ -27,7 +27,7 @@ use Rattle.tokens.specs.declared.refusals.Ground.{Ground}
 use Rattle.tokens.proofs.RefusalLaws.{number_in}
 use Rattle.reading.specs.Meets.{words_in, language_in, toks_at, token_at, Holds, Room, Ready, Follows, Takes, string_at, Quoted, Reads, Meets, Before}
 use Rattle.reading.specs.Turns.{StandsIn, Inside, inner, list_postfixed, pays_stop, Closing, item_end, item_turn_by, items_by, FollowsItem, string_of, AllQuoted, Shown, shown_by, ReadsItems, call_fault, Tops}
-use Rattle.std.specs.Prelude.{Option, Some, None, Result, Ok, Err}
+use Rattle.std.specs.Prelude.{Option, None, Result, Ok, Err}
 use Rattle.reading.specs.Faults.{refused_by}
 use Rattle.reading.specs.declared.answers.Fault.{Fault}
 use Rattle.reading.specs.declared.answers.Read.{Read}
