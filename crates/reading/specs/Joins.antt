@@ -1,10 +1,10 @@
--- An operand joined to those before it by the record of the sign between them, at the place b. The first has no sign before it, 0.
+-- An operand joined to those before it by the record of the sign between them, at the place b. The first has no sign before it, which counts as 0.
 use Rattle.std.specs.Prelude.{◌≡◌, Option, Some, None, List, ℕ, ◌+◌, ◌-◌}
 use Rattle.grammar.specs.Trees.{none as unused, row}
 use Rattle.reading.specs.Rows.{put_row}
 use Rattle.reading.specs.declared.records.Joined.{Joined}
 
--- the sign by its code
+-- the code of the sign
 abbrev pub sign_or_0 : Option ℕ → ℕ
 sign_or_0 None = 0
 sign_or_0 (Some k) = k

@@ -42,21 +42,9 @@ pub fn shown(texts: Texts, count: u32, p: Option<u16>) -> Texts
     ensures { result ≡ shown_by texts count p }
 {
     match count {
-        0 => Texts {
-            first: p,
-            second: texts.second,
-            third: texts.third,
-        },
-        1 => Texts {
-            first: texts.first,
-            second: p,
-            third: texts.third,
-        },
-        2 => Texts {
-            first: texts.first,
-            second: texts.second,
-            third: p,
-        },
+        0 => Texts { first: p, ..texts },
+        1 => Texts { second: p, ..texts },
+        2 => Texts { third: p, ..texts },
         _ => texts,
     }
 }
