@@ -17,7 +17,7 @@ use Rattle.grammar.specs.Readers.{Out, ok, refused, Reader, bind, ◌>>=◌, ◌
 use Rattle.grammar.specs.Grammar.{Language, binary, variable, optional, expression, pays, ended, named, paid, target, assign, compound, assign_paid, name_first, next_kind, primary}
 use Rattle.reading.specs.Rows.{rows, put_row, put_rows, node_row}
 use Rattle.reading.specs.Meets.{words_in, language_in, language_of, toks_at, token_at, Holds, Ready, Follows, Takes, Reads, Meets}
-use Rattle.std.specs.Prelude.{Result, Ok, Err}
+use Rattle.std.specs.Prelude.{Option as Maybe, None, Result, Ok, Err}
 use Rattle.std.specs.Option.{is_some}
 use Rattle.std.specs.Result.{IsErrAnd}
 use Rattle.reading.specs.Faults.{refused_by}
@@ -86,7 +86,7 @@ module _ (W : Language) (p : Reader Tree) (t : List ℕ) (c : Cursor) (n : ℕ) 
   unfolding ended
   ended_refused k b e = bind_refused (expression W p) _ (toks_at t c.start) k b e
 
-  module _ (d : Cursor) (m q : ℕ) (o' : List ℕ) (r : Reads t (expression W p (toks_at t c.start)) n o d m q o') where
+  module _ (d : Cursor) (m : ℕ) (q : Maybe ℕ) (o' : List ℕ) (r : Reads t (expression W p (toks_at t c.start)) n o d m q o') where
     ending : ended W p (toks_at t c.start) ≡ (the ";" >> give r.tree) (toks_at t d.start)
     unfolding ended ◌>>=◌
     ending = rw r.is
@@ -115,7 +115,7 @@ module _ (W : Language) (i : Option (Reader Tree)) (t : List ℕ) (c : Cursor) (
   unfolding paid
   paid_refused k b e = bind_refused (pays W i) _ (toks_at t c.start) k b e
 
-  module _ (d : Cursor) (m q : ℕ) (o' : List ℕ) (r : Reads t (pays W i (toks_at t c.start)) n o d m q o') where
+  module _ (d : Cursor) (m : ℕ) (q : Maybe ℕ) (o' : List ℕ) (r : Reads t (pays W i (toks_at t c.start)) n o d m q o') where
     paying : paid W i (toks_at t c.start) ≡ optional ";" r.tree (give r.tree) (toks_at t d.start)
     unfolding paid ◌>>=◌
     paying = rw r.is
@@ -166,7 +166,7 @@ named_one W u ts x us e = ap size (sym (named_is W u ts x us e).0) ∙ size_leaf
 token_length : {t : List ℕ} {c : Cursor} → Holds t c → length (token_at t c).text ≡ c.end - c.start
 token_length {t} {c} h = omega (arith, length-take (c.end - c.start) (drop c.start t), length-drop c.start t, start_in h, end_in h)
 
-pub twice_reads : (W : Language) (t : List ℕ) (c d : Cursor) (n : ℕ) (o : List ℕ) → Holds t c → (e : Cursor) (m q : ℕ) (o₁ : List ℕ)
+pub twice_reads : (W : Language) (t : List ℕ) (c d : Cursor) (n : ℕ) (o : List ℕ) → Holds t c → (e : Cursor) (m : ℕ) (q : Maybe ℕ) (o₁ : List ℕ)
     → Reads t (named W (token_at t c) (toks_at t d.start)) n o e m q o₁
     → (x : Node) → x ≡ record { kind = 1; nodes = 1; parts = 0; f1 = c.start; f2 = c.end - c.start; f3 = 0; f4 = 0; place = c.start }
     → (o₂ : List ℕ) → o₂ ≡ put_row o₁ m (node_row x)
@@ -191,7 +191,7 @@ twice_reads W t c d n o h e m q o₁ r x z o₂ g =
 pub twice_assigned : (t : List ℕ) (R : Out Tree) (n : ℕ) (o : List ℕ) (k l : ℕ) (x e : Tree) (g : Cursor) (m m₂ : ℕ) (o₁ o₂ o₃ o₄ : List ℕ)
     → size x ≡ 1 → m ≡ n + 2 → o₁ ≡ put_rows (put_rows o n (rows x)) (n + 1) (rows x) → m₂ ≡ m + size e → o₂ ≡ put_rows o₁ m (rows e)
     → o₃ ≡ put_row o₂ m₂ (row k (m₂ - n) 2 unused l) → o₄ ≡ put_row o₃ (m₂ + 1) (row 37 (m₂ - n + 2) 2 unused l) → Holds t g
-    → R ≡ ok (binary 37 l x (binary k l x e)) (toks_at t g.start) → Reads t R n o g (m₂ + 2) 0 o₄
+    → R ≡ ok (binary 37 l x (binary k l x e)) (toks_at t g.start) → Reads t R n o g (m₂ + 2) None o₄
 twice_assigned t R n o k l x e g m m₂ o₁ o₂ o₃ o₄ one p q p₂ q₂ q₃ q₄ holds is =
     let s = size_two k l [] unused x e in
     let s₂ = size_two 37 l [] unused x (binary k l x e) in
@@ -254,7 +254,7 @@ module _ (lent : Lent) (t : List ℕ) (c d : Cursor) (n : ℕ) (o : List ℕ) (r
   assign_paid_unnamed i k b e = bind_refused (target W) _ (toks_at t c.start) k b (target_is ∙ e)
 
   -- `x = e;`
-  module _ (e₀ : Cursor) (m q : ℕ) (o₁ : List ℕ) (r : Reads t N n o e₀ m q o₁) (p : Reader Tree) (short : Sized p) (some_sign : d.code ≡ 0 → ⊥) (f : Cursor)
+  module _ (e₀ : Cursor) (m : ℕ) (q : Maybe ℕ) (o₁ : List ℕ) (r : Reads t N n o e₀ m q o₁) (p : Reader Tree) (short : Sized p) (some_sign : d.code ≡ 0 → ⊥) (f : Cursor)
       (v : Follows t d f) where
     one : size r.tree ≡ 1
     one = named_one L (token_at t c) (toks_at t d.start) r.tree (toks_at t e₀.start) r.is
@@ -271,11 +271,11 @@ module _ (lent : Lent) (t : List ℕ) (c d : Cursor) (n : ℕ) (o : List ℕ) (r
     pub assign_wrong : (k b : ℕ) → ended W p (toks_at t f.start) ≡ refused k b → assign W p (toks_at t c.start) ≡ refused k b
     assign_wrong k b e = assigning ∙ bind_refused (ended W p) _ (toks_at t f.start) k b e
 
-    module _ (g : Cursor) (m₂ q₂ : ℕ) (o₂ : List ℕ) (r₂ : Reads t (ended W p (toks_at t f.start)) m o₁ g m₂ q₂ o₂) where
+    module _ (g : Cursor) (m₂ : ℕ) (q₂ : Maybe ℕ) (o₂ : List ℕ) (r₂ : Reads t (ended W p (toks_at t f.start)) m o₁ g m₂ q₂ o₂) where
       pub assign_numbers : (n ≤ m₂) × (m₂ ≤ 50000)
       assign_numbers = omega (arith, reads_within t (ended W p) (ended_size W p short) f m o₁ g m₂ q₂ o₂ r₂ assign_ready.1, assign_ready.1, r.counts, r₂.counts)
 
-      pub assign_reads : (o₃ : List ℕ) → o₃ ≡ put_row o₂ m₂ (row 37 (m₂ - n + 1) 2 unused c.start) → Reads t (assign W p (toks_at t c.start)) n o g (m₂ + 1) 0 o₃
+      pub assign_reads : (o₃ : List ℕ) → o₃ ≡ put_row o₂ m₂ (row 37 (m₂ - n + 1) 2 unused c.start) → Reads t (assign W p (toks_at t c.start)) n o g (m₂ + 1) None o₃
       unfolding ◌>>=◌ give
       assign_reads o₃ z =
           let b = binary_plain t 37 c.start r.tree r₂.tree (λ y. omega arith) in
@@ -307,12 +307,12 @@ module _ (lent : Lent) (t : List ℕ) (c d : Cursor) (n : ℕ) (o : List ℕ) (r
       pub compound_wrong : (k b : ℕ) → ended W p (toks_at t f.start) ≡ refused k b → compound W p (toks_at t c.start) ≡ refused k b
       compound_wrong k b e = compounding ∙ bind_refused (ended W p) _ (toks_at t f.start) k b e
 
-      module _ (g : Cursor) (m₂ q₂ : ℕ) (o₂ : List ℕ) (r₂ : Reads t (ended W p (toks_at t f.start)) m o₁ g m₂ q₂ o₂) where
+      module _ (g : Cursor) (m₂ : ℕ) (q₂ : Maybe ℕ) (o₂ : List ℕ) (r₂ : Reads t (ended W p (toks_at t f.start)) m o₁ g m₂ q₂ o₂) where
         pub compound_numbers : (n ≤ m₂) × (m₂ ≤ 50000)
         compound_numbers = omega (arith, reads_within t (ended W p) (ended_size W p short) f m o₁ g m₂ q₂ o₂ r₂ compound_ready.1, compound_ready.1, r.counts, r₂.counts)
 
         pub compound_reads : (o₃ o₄ : List ℕ) → o₃ ≡ put_row o₂ m₂ (row (d.code - 20) (m₂ - n) 2 unused c.start) → o₄ ≡ put_row o₃ (m₂ + 1) (row 37 (m₂ - n + 2) 2 unused c.start)
-            → Reads t (compound W p (toks_at t c.start)) n o g (m₂ + 2) 0 o₄
+            → Reads t (compound W p (toks_at t c.start)) n o g (m₂ + 2) None o₄
         unfolding ◌>>=◌ give
         compound_reads o₃ o₄ y z =
             twice_assigned t (compound W p (toks_at t c.start)) n o (d.code - 20) c.start r.tree r₂.tree g m m₂ o₁ o₂ o₃ o₄ r.one r.counts r.writes r₂.counts
@@ -331,13 +331,13 @@ module _ (lent : Lent) (t : List ℕ) (c d : Cursor) (n : ℕ) (o : List ℕ) (r
       pub assign_paid_wrong : (k b : ℕ) → paid W i (toks_at t d.start) ≡ refused k b → assign_paid W i (toks_at t c.start) ≡ refused k b
       assign_paid_wrong k b e = paying_for ∙ bind_refused (paid W i) _ (toks_at t d.start) k b e
 
-      module _ (g : Cursor) (m₂ q₂ : ℕ) (o₂ : List ℕ) (r₂ : Reads t (paid W i (toks_at t d.start)) m o₁ g m₂ q₂ o₂) where
+      module _ (g : Cursor) (m₂ : ℕ) (q₂ : Maybe ℕ) (o₂ : List ℕ) (r₂ : Reads t (paid W i (toks_at t d.start)) m o₁ g m₂ q₂ o₂) where
         pub assign_paid_numbers : (n ≤ m₂) × (m₂ ≤ 50000)
         assign_paid_numbers =
             omega (arith, reads_within t (paid W i) (paid_size W i short) d m o₁ g m₂ q₂ o₂ r₂ assign_paid_ready.1, assign_paid_ready.1, r.counts, r₂.counts)
 
         pub assign_paid_reads : (o₃ o₄ : List ℕ) → o₃ ≡ put_row o₂ m₂ (row 8 (m₂ - n) 2 unused c.start) → o₄ ≡ put_row o₃ (m₂ + 1) (row 37 (m₂ - n + 2) 2 unused c.start)
-            → Reads t (assign_paid W i (toks_at t c.start)) n o g (m₂ + 2) 0 o₄
+            → Reads t (assign_paid W i (toks_at t c.start)) n o g (m₂ + 2) None o₄
         unfolding ◌>>=◌ give
         assign_paid_reads o₃ o₄ y z =
             twice_assigned t (assign_paid W i (toks_at t c.start)) n o 8 c.start r.tree r₂.tree g m m₂ o₁ o₂ o₃ o₄ r.one r.counts r.writes r₂.counts r₂.writes y z

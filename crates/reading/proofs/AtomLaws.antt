@@ -1,5 +1,5 @@
 -- The tokens that are primaries of their own: what the bytes of a number and of a string are, and what the readers make of them.
-use Rattle.std.specs.Prelude.{Option, is_some, if◌then◌else◌}
+use Rattle.std.specs.Prelude.{Option, Some, None, is_some, if◌then◌else◌}
 use mathlib.Core.Path.{◌≡◌, refl, sym, ap, ◌∙◌, subst}
 use mathlib.Core.Bool.{Bool, true, false, ◌||◌, not, true≢false}
 use mathlib.Core.List.{List, [], ◌∷◌}
@@ -32,6 +32,15 @@ use Rattle.reading.proofs.HoldLaws.{mark_in, mark_is, toks_are, start_in, end_in
 use Rattle.reading.proofs.RowLaws.{after_leaf, size_leaf}
 
 -- ---- a date and a place, as the code has them
+
+-- a place of 0 is none
+pub unless_none : (n : ℕ) → unless_0 n ≡ None → n ≡ 0
+unless_none zero e = refl
+unless_none (suc n) e = absurd (cc)
+
+pub unless_some : (n x : ℕ) → unless_0 n ≡ Some x → (n ≡ x) × (n ≡ 0 → ⊥)
+unless_some zero x e = absurd (cc)
+unless_some (suc n) x e = (cc, λ z. omega (arith, z))
 
 pub date_none : (n : ℕ) → is_some (unless_0 n) ≡ false → n ≡ 0
 date_none zero e = refl
@@ -188,7 +197,7 @@ module _ {t : List ℕ} {c : Cursor} (h : Holds t c) where
 
 -- no String node
 pub leaf_reads : {t : List ℕ} {R : Out Tree} {n : ℕ} {o o' : List ℕ} {e : Cursor} (k y : ℕ) (x : List ℕ) (f : Fields) → (k ≡ 5 → ⊥) → Holds t e
-    → R ≡ ok (node k y x f nil) (toks_at t e.start) → o' ≡ put_row o n (row k 1 0 f y) → Reads t R n o e (n + 1) 0 o'
+    → R ≡ ok (node k y x f nil) (toks_at t e.start) → o' ≡ put_row o n (row k 1 0 f y) → Reads t R n o e (n + 1) None o'
 leaf_reads {n = n} {o = o} k y x (fields a b c d) z h r w = record {
   tree = node k y x (fields a b c d) nil;
   is = r;
@@ -212,7 +221,7 @@ module _ {t : List ℕ} {c d : Cursor} (h : Holds t c) (w : Follows t c d) where
   -- a number and its record
   pub constant_reads : (y : ℕ) (minus : Bool) → c.code ≡ 2 → (x : Bits) → x ≡ bits_of (signed minus (value_of (token_at t c).text)) → {n : ℕ} {o o' : List ℕ}
       → o' ≡ put_row o n (row 2 1 0 (fields x.high x.low c.start (c.end - c.start)) y)
-      → Reads t (literal y minus (toks_at t c.start)) n o d (n + 1) 0 o'
+      → Reads t (literal y minus (toks_at t c.start)) n o d (n + 1) None o'
   unfolding constant
   constant_reads y minus k x e q =
       let b : x ≡ bits_of (signed minus (value (token_at t c).text)) = e ∙ ap (λ v. bits_of (signed minus v)) (number_value h k) in
@@ -260,26 +269,26 @@ module _ {t : List ℕ} {c d : Cursor} (h : Holds t c) (w : Follows t c d) where
 
   -- a string and its record
   pub string_reads : c.code ≡ 5 → {n : ℕ} {o o' : List ℕ} → o' ≡ put_row o n (row 5 1 0 (fields (c.start + 1) (c.end - c.start - 2) 0 0) c.start)
-      → Reads t (atom (toks_at t c.start)) n o d (n + 1) (c.start + 1) o'
+      → Reads t (atom (toks_at t c.start)) n o d (n + 1) (Some (c.start + 1)) o'
   string_reads k {n} {o} {o'} q = record {
     tree = string (token_at t c);
     is = atom_string k;
     counts = omega (arith, size_leaf 5 c.start (content (token_at t c)) (fields (suc c.start) (length (content (token_at t c))) 0 0));
     writes = after_leaf o n 5 c.start (content (token_at t c)) (fields (suc c.start) (length (content (token_at t c))) 0 0) (rw (content_length h k, ← add-one c.start) q);
     holds = w.holds;
-    string = add-one c.start;
+    string = ap Some (add-one c.start);
     quoted = string_quoted h k;
   }
 
   -- a truth value and its record
-  pub true_reads : c.code ≡ 3 → {n : ℕ} {o o' : List ℕ} → o' ≡ put_row o n (row 3 1 0 none c.start) → Reads t (atom (toks_at t c.start)) n o d (n + 1) 0 o'
+  pub true_reads : c.code ≡ 3 → {n : ℕ} {o o' : List ℕ} → o' ≡ put_row o n (row 3 1 0 none c.start) → Reads t (atom (toks_at t c.start)) n o d (n + 1) None o'
   unfolding code entry give
   true_reads k q =
       leaf_reads 3 c.start [] none (λ z. omega arith) w.holds
       (atom_peek h
       ∙ (rw (ne_eqb 2 c.code (λ e. omega arith), eq-eqb 3 c.code (sym k)) (the_next h w (λ z. omega arith) "true" (sym k) (give (leaf 3 c.start none))))) q
 
-  pub false_reads : c.code ≡ 4 → {n : ℕ} {o o' : List ℕ} → o' ≡ put_row o n (row 4 1 0 none c.start) → Reads t (atom (toks_at t c.start)) n o d (n + 1) 0 o'
+  pub false_reads : c.code ≡ 4 → {n : ℕ} {o o' : List ℕ} → o' ≡ put_row o n (row 4 1 0 none c.start) → Reads t (atom (toks_at t c.start)) n o d (n + 1) None o'
   unfolding code entry give
   false_reads k q =
       leaf_reads 4 c.start [] none (λ z. omega arith) w.holds
@@ -296,7 +305,7 @@ module _ (W : Language) {t : List ℕ} {c : Cursor} (h : Holds t c) where
 
   -- a variable and its record
   pub variable_reads : {d : Cursor} → Follows t c d → {r : Option ℕ} → r ≡ index_of (place W.reserved (token_at t c).text) → is_some r ≡ false → {n : ℕ} {o o' : List ℕ}
-      → o' ≡ put_row o n (row 1 1 0 (fields c.start (c.end - c.start) 0 0) c.start) → Reads t (named W (token_at t c) (toks_at t d.start)) n o d (n + 1) 0 o'
+      → o' ≡ put_row o n (row 1 1 0 (fields c.start (c.end - c.start) 0 0) c.start) → Reads t (named W (token_at t c) (toks_at t d.start)) n o d (n + 1) None o'
   unfolding named give
   variable_reads w e z q =
       leaf_reads 1 c.start (token_at t c).text (fields c.start (c.end - c.start) 0 0) (λ e. omega arith) w.holds

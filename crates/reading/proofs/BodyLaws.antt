@@ -15,7 +15,7 @@ use Rattle.grammar.specs.Trees.{Tree, Trees, node, nil, ◌▹◌, fields, none 
 use Rattle.grammar.specs.Readers.{Out, ok, refused, Reader, bind, ◌>>=◌, ◌>>◌, again, follow, loop, is, give, fail_at, ask, read, the}
 use Rattle.grammar.specs.Grammar.{Language, Inner, deep, deeper, expression, primary, next_kind, named, name_first, plain, paid, ended, statement_over, statement, block, block_turn, if_over, for_over}
 use Rattle.reading.specs.Rows.{rows, rows_of, put_row, put_rows}
-use Rattle.std.specs.Prelude.{Result, Ok, Err}
+use Rattle.std.specs.Prelude.{Option as Maybe, None, Result, Ok, Err}
 use Rattle.std.specs.Result.{IsErrAnd}
 use Rattle.reading.specs.Meets.{words_in, language_of, toks_at, token_at, Holds, Room, Ready, Follows, Takes, Reads, Before}
 use Rattle.reading.specs.Turns.{inner}
@@ -199,7 +199,7 @@ module _ (p : Reader Tree) (moves : Moves p) (short : Sized p) (t : List ℕ) wh
       unfolding ◌>>=◌
       block_wrong j b B q e = let g : R ≡ refused j b = turn ∙ (rw (turn_is, e)) in q ∙ ap (bind ends) g
 
-      module _ (d : Cursor) (m₁ q : ℕ) (o₁ : List ℕ) (r : Reads t (p (toks_at t c.start)) m o' d m₁ q o₁) where
+      module _ (d : Cursor) (m₁ : ℕ) (q : Maybe ℕ) (o₁ : List ℕ) (r : Reads t (p (toks_at t c.start)) m o' d m₁ q o₁) where
         within : m₁ + 3 * length (toks_at t d.start) ≤ m + 3 * length (toks_at t c.start)
         within = reads_within t p short c m o' d m₁ q o₁ r ch.room
 
@@ -262,7 +262,7 @@ module _ (W : Language) (depth : ℕ) (t : List ℕ) (c d : Cursor) (w : Follows
     pub if_refused : (k b : ℕ) → expression W P (toks_at t d.start) ≡ refused k b → C ≡ refused k b
     if_refused k b q = inside ∙ bind_refused (expression W P) _ (toks_at t d.start) k b q
 
-    module _ (n : ℕ) (room : Room t c n) (o : List ℕ) (f : Cursor) (m q : ℕ) (o₁ : List ℕ) (r : Reads t (expression W P (toks_at t d.start)) n o f m q o₁) where
+    module _ (n : ℕ) (room : Room t c n) (o : List ℕ) (f : Cursor) (m : ℕ) (q : Maybe ℕ) (o₁ : List ℕ) (r : Reads t (expression W P (toks_at t d.start)) n o f m q o₁) where
       expression_within : m + 3 * length (toks_at t f.start) ≤ n + 3 * length (toks_at t d.start)
       expression_within = reads_within t (expression W P) (expression_size W P (primary_size W (depth - 1))) d n o f m q o₁ r (if_ready n room).1
 
@@ -292,7 +292,7 @@ module _ (W : Language) (depth : ℕ) (t : List ℕ) (c d : Cursor) (w : Follows
         both = before_front r.tree s.items r.counts r.writes s.counts s.writes
 
         -- no `else`
-        pub if_done : (g.code ≡ 49 → ⊥) → (o₃ : List ℕ) → o₃ ≡ put_row o₂ k (row 38 (k - n + 1) (count + 1) unused c.start) → Reads t C n o g (k + 1) 0 o₃
+        pub if_done : (g.code ≡ 49 → ⊥) → (o₃ : List ℕ) → o₃ ≡ put_row o₂ k (row 38 (k - n + 1) (count + 1) unused c.start) → Reads t C n o g (k + 1) None o₃
         unfolding give code
         if_done z o₃ v =
             record {
@@ -329,7 +329,7 @@ module _ (W : Language) (depth : ℕ) (t : List ℕ) (c d : Cursor) (w : Follows
             all : Before n o (r.tree ▹ join s.items s₂.items) j o₃
             all = before_join s₂.items both s₂.counts s₂.writes
 
-            pub else_done : (o₄ : List ℕ) → o₄ ≡ put_row o₃ j (row 38 (j - n + 1) (count + more + 1) (fields (count + 1) 0 0 0) c.start) → Reads t C n o l (j + 1) 0 o₄
+            pub else_done : (o₄ : List ℕ) → o₄ ≡ put_row o₃ j (row 38 (j - n + 1) (count + more + 1) (fields (count + 1) 0 0 0) c.start) → Reads t C n o l (j + 1) None o₄
             unfolding give ◌>>=◌
             else_done o₄ v =
                 let x : count + 1 ≡ suc (parts s.items) = omega (arith, s.parts_are) in
@@ -432,7 +432,7 @@ module _ (lent : Lent) (depth : ℕ) (t : List ℕ) (c d : Cursor) (w : Follows 
       pub for_refused : (k j : ℕ) → expression W Pr (toks_at t f.start) ≡ refused k j → L ≡ refused k j
       for_refused k j q = behind ∙ bind_refused (expression W Pr) _ (toks_at t f.start) k j q
 
-      module _ (n : ℕ) (room : Room t c n) (o : List ℕ) (g : Cursor) (m q : ℕ) (o₁ : List ℕ) (r : Reads t (expression W Pr (toks_at t f.start)) n o g m q o₁) where
+      module _ (n : ℕ) (room : Room t c n) (o : List ℕ) (g : Cursor) (m : ℕ) (q : Maybe ℕ) (o₁ : List ℕ) (r : Reads t (expression W Pr (toks_at t f.start)) n o g m q o₁) where
         source_within : m + 3 * length (toks_at t g.start) ≤ n + 3 * length (toks_at t f.start)
         source_within = reads_within t (expression W Pr) (expression_size W Pr (primary_size W (depth - 1))) f n o g m q o₁ r (for_ready n room).1
 
@@ -457,7 +457,7 @@ module _ (lent : Lent) (depth : ℕ) (t : List ℕ) (c d : Cursor) (w : Follows 
           looped : Before n o (r.tree ▹ s.items) k o₂
           looped = before_front r.tree s.items r.counts r.writes s.counts s.writes
 
-          pub for_done : (o₃ : List ℕ) → o₃ ≡ put_row o₂ k (row 39 (k - n + 1) (count + 1) (fields d.start (d.end - d.start) 0 0) c.start) → Reads t L n o u (k + 1) 0 o₃
+          pub for_done : (o₃ : List ℕ) → o₃ ≡ put_row o₂ k (row 39 (k - n + 1) (count + 1) (fields d.start (d.end - d.start) 0 0) c.start) → Reads t L n o u (k + 1) None o₃
           unfolding give ◌>>=◌
           for_done o₃ v =
               let x : d.end - d.start ≡ length (take (d.end - d.start) (drop d.start t))

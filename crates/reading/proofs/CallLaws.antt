@@ -30,7 +30,7 @@ use Rattle.reading.specs.declared.answers.Fault.{Fault}
 use Rattle.reading.specs.declared.answers.Leaf.{Leaf}
 use Rattle.reading.specs.declared.answers.Number.{Number}
 use Rattle.reading.proofs.HoldLaws.{end_in, ask_yes, ask_no, by_yes, by_no}
-use Rattle.reading.proofs.AtomLaws.{string_wide, content_is, content_length}
+use Rattle.reading.proofs.AtomLaws.{unless_none, unless_some, string_wide, content_is, content_length}
 use Rattle.reading.proofs.StepLaws.{bind_refused}
 
 -- ---- one reader, then another
@@ -82,14 +82,6 @@ date_not ts e = bind_refused (the_by 5) date_of ts _ _ e
 pub currency_not : (W : Language) (ts : List Token) {k b : ℕ} → the_by 5 ts ≡ refused k b → a_currency W ts ≡ refused k b
 unfolding a_currency the code
 currency_not W ts e = bind_refused (the_by 5) (currency_of W) ts _ _ e
-
-unless_none : (n : ℕ) → unless_0 n ≡ None → n ≡ 0
-unless_none zero e = refl
-unless_none (suc n) e = absurd (cc)
-
-unless_some : (n x : ℕ) → unless_0 n ≡ Some x → (n ≡ x) × (n ≡ 0 → ⊥)
-unless_some zero x e = absurd (cc)
-unless_some (suc n) x e = (cc, λ z. omega (arith, z))
 
 -- the date in a token
 module _ (u : Token) (ts : List Token) where

@@ -1,5 +1,5 @@
 -- What stands round the parts of a call, a list and a pays: the strings of a cvg, leaves, and what follows a part.
-use Rattle.std.specs.Prelude.{Ok, Option, is_some, if◌then◌else◌}
+use Rattle.std.specs.Prelude.{Ok, Option, Some, None, is_some, if◌then◌else◌}
 use mathlib.Core.Path.{◌≡◌, refl, sym, ap, ◌∙◌}
 use mathlib.Core.Bool.{Bool, true, false, ◌||◌}
 use mathlib.Core.List.{List, []}
@@ -25,7 +25,7 @@ use Rattle.reading.specs.declared.answers.Texts.{Texts}
 use Rattle.reading.specs.declared.answers.Leaf.{Leaf}
 use Rattle.reading.proofs.HoldLaws.{peek_is, fail_is, the_next}
 use Rattle.reading.proofs.RowLaws.{before_node, size_node}
-use Rattle.reading.proofs.AtomLaws.{leaf_reads, date_none, date_some, place_none, place_some}
+use Rattle.reading.proofs.AtomLaws.{leaf_reads, unless_none, unless_some, date_none, date_some, place_none, place_some}
 
 -- ---- what follows a part
 
@@ -54,20 +54,20 @@ module _ {t : List ℕ} {c : Cursor} (h : Holds t c) (k : ℕ) (es : Trees) wher
 -- ---- the strings of a cvg
 
 -- a node whose string stands nowhere is no String node
-string_not : (t : List ℕ) (e : Tree) → Quoted t e → string_at e ≡ 0 → is_string e ≡ false
-string_not t (node k l s (fields a b c d) ts) q z = go (eqb k 5) refl z
+string_not : (t : List ℕ) (e : Tree) → Quoted t e → unless_0 (string_at e) ≡ None → is_string e ≡ false
+string_not t (node k l s (fields a b c d) ts) q z = go (eqb k 5) refl (unless_none _ z)
   where
     go : (x : Bool) → eqb k 5 ≡ x → ◌≡◌ {A = ℕ} (if x then a else 0) 0 → x ≡ false
     go true e w = absurd (omega (arith, w, (q (eqb-true k 5 e)).0))
     go false e w = refl
 
 -- one whose string stands somewhere is a String node, and has its bytes
-string_yes : (t : List ℕ) (e : Tree) → Quoted t e → (string_at e ≡ 0 → ⊥) → (is_string e ≡ true) × (text_of e ≡ content_at t (string_at e))
-string_yes t (node k l s (fields a b c d) ts) q z = go (eqb k 5) refl z
+string_yes : (t : List ℕ) (e : Tree) {p : ℕ} → Quoted t e → unless_0 (string_at e) ≡ Some p → (is_string e ≡ true) × (text_of e ≡ content_at t p)
+string_yes t (node k l s (fields a b c d) ts) {p} q z = go (eqb k 5) refl (unless_some _ p z)
   where
-    go : (x : Bool) → eqb k 5 ≡ x → (◌≡◌ {A = ℕ} (if x then a else 0) 0 → ⊥) → (x ≡ true) × (s ≡ content_at t (if x then a else 0))
-    go true e w = (refl, (q (eqb-true k 5 e)).1)
-    go false e w = absurd (w refl)
+    go : (x : Bool) → eqb k 5 ≡ x → (◌≡◌ {A = ℕ} (if x then a else 0) p) × (◌≡◌ {A = ℕ} (if x then a else 0) 0 → ⊥) → (x ≡ true) × (s ≡ content_at t p)
+    go true e w = (refl, (q (eqb-true k 5 e)).1 ∙ ap (content_at t) w.0)
+    go false e w = absurd (w.1 refl)
 
 abbrev fault_by : ℕ → ℕ → ℕ → ℕ
 fault_by d e p = if eqb d 0 || eqb e 0 then 11 else if leb 1 p then 0 else 13
@@ -75,7 +75,7 @@ fault_by d e p = if eqb d 0 || eqb e 0 then 11 else if leb 1 p then 0 else 13
 module _ (t : List ℕ) (x : Texts) (C : List (List ℕ)) where
   -- with three parts whose strings are shown
   pub data Three : Trees → Type 0 where
-    three : (a b c : Tree) → x.first ≡ string_at a → x.second ≡ string_at b → x.third ≡ string_at c → Quoted t a → Quoted t b → Quoted t c → Three (a ▹ b ▹ c ▹ nil)
+    three : (a b c : Tree) → x.first ≡ unless_0 (string_at a) → x.second ≡ unless_0 (string_at b) → x.third ≡ unless_0 (string_at c) → Quoted t a → Quoted t b → Quoted t c → Three (a ▹ b ▹ c ▹ nil)
 
   three_of : (es : Trees) → Shown t es x → parts es ≡ 3 → Three es
   three_of nil S p = absurd (omega arith)
@@ -86,45 +86,45 @@ module _ (t : List ℕ) (x : Texts) (C : List (List ℕ)) where
 
   module _ (es : Trees) (S : Shown t es x) (p : parts es ≡ 3) where
     -- one is no string
-    pub cvg_first : x.first ≡ 0 → 14 ≡ cvg_fault C es
+    pub cvg_first : x.first ≡ None → 14 ≡ cvg_fault C es
     cvg_first z = go (three_of es S p)
       where
         go : {us : Trees} → Three us → 14 ≡ cvg_fault C us
         go (three a b c e₁ e₂ e₃ q₁ q₂ q₃) = rw (string_not t a q₁ (sym e₁ ∙ z))
 
-    pub cvg_second : (x.first ≡ 0 → ⊥) → x.second ≡ 0 → 14 ≡ cvg_fault C es
+    pub cvg_second : {f : ℕ} → x.first ≡ Some f → x.second ≡ None → 14 ≡ cvg_fault C es
     cvg_second n₁ z = go (three_of es S p)
       where
         go : {us : Trees} → Three us → 14 ≡ cvg_fault C us
-        go (three a b c e₁ e₂ e₃ q₁ q₂ q₃) = rw ((string_yes t a q₁ (λ w. n₁ (e₁ ∙ w))).0, string_not t b q₂ (sym e₂ ∙ z))
+        go (three a b c e₁ e₂ e₃ q₁ q₂ q₃) = rw ((string_yes t a q₁ (sym e₁ ∙ n₁)).0, string_not t b q₂ (sym e₂ ∙ z))
 
-    pub cvg_third : (x.first ≡ 0 → ⊥) → (x.second ≡ 0 → ⊥) → x.third ≡ 0 → 14 ≡ cvg_fault C es
+    pub cvg_third : {f g : ℕ} → x.first ≡ Some f → x.second ≡ Some g → x.third ≡ None → 14 ≡ cvg_fault C es
     cvg_third n₁ n₂ z = go (three_of es S p)
       where
         go : {us : Trees} → Three us → 14 ≡ cvg_fault C us
         go (three a b c e₁ e₂ e₃ q₁ q₂ q₃) =
-            rw ((string_yes t a q₁ (λ w. n₁ (e₁ ∙ w))).0, (string_yes t b q₂ (λ w. n₂ (e₂ ∙ w))).0, string_not t c q₃ (sym e₃ ∙ z))
+            rw ((string_yes t a q₁ (sym e₁ ∙ n₁)).0, (string_yes t b q₂ (sym e₂ ∙ n₂)).0, string_not t c q₃ (sym e₃ ∙ z))
 
     -- all are strings
-    module _ (n₁ : x.first ≡ 0 → ⊥) (n₂ : x.second ≡ 0 → ⊥) (n₃ : x.third ≡ 0 → ⊥) where
-      cvg_all : fault_by (date (content_at t x.first)) (date (content_at t x.second)) (place C (content_at t x.third)) ≡ cvg_fault C es
+    module _ {f g h : ℕ} (n₁ : x.first ≡ Some f) (n₂ : x.second ≡ Some g) (n₃ : x.third ≡ Some h) where
+      cvg_all : fault_by (date (content_at t f)) (date (content_at t g)) (place C (content_at t h)) ≡ cvg_fault C es
       cvg_all = go (three_of es S p)
         where
-          go : {us : Trees} → Three us → fault_by (date (content_at t x.first)) (date (content_at t x.second)) (place C (content_at t x.third)) ≡ cvg_fault C us
+          go : {us : Trees} → Three us → fault_by (date (content_at t f)) (date (content_at t g)) (place C (content_at t h)) ≡ cvg_fault C us
           go (three a b c e₁ e₂ e₃ q₁ q₂ q₃) =
-              let A = string_yes t a q₁ (λ w. n₁ (e₁ ∙ w)) in
-              let B = string_yes t b q₂ (λ w. n₂ (e₂ ∙ w)) in
-              let D = string_yes t c q₃ (λ w. n₃ (e₃ ∙ w)) in
-              rw (A.0, B.0, D.0, A.1, B.1, D.1, e₁, e₂, e₃)
+              let A = string_yes t a q₁ (sym e₁ ∙ n₁) in
+              let B = string_yes t b q₂ (sym e₂ ∙ n₂) in
+              let D = string_yes t c q₃ (sym e₃ ∙ n₃) in
+              rw (A.0, B.0, D.0, A.1, B.1, D.1)
 
       abbrev day₁ : ℕ
-      day₁ = date (content_at t x.first)
+      day₁ = date (content_at t f)
 
       abbrev day₂ : ℕ
-      day₂ = date (content_at t x.second)
+      day₂ = date (content_at t g)
 
       abbrev counter : ℕ
-      counter = place C (content_at t x.third)
+      counter = place C (content_at t h)
 
       module _ {d : Option ℕ} (D : d ≡ unless_0 day₁) where
         -- the first date is none
@@ -170,7 +170,7 @@ module _ (C : List (List ℕ)) (k n : ℕ) (es : Trees) (e : n ≡ parts es) whe
 
 -- a leaf that is written
 pub leaf_written : {t : List ℕ} {R : Out Tree} {n : ℕ} {o o' : List ℕ} (l : Leaf) → MeetsLeaf t R (Ok l) → o' ≡ put_row o n (node_row l.node)
-    → Reads t R n o l.at (n + 1) 0 o'
+    → Reads t R n o l.at (n + 1) None o'
 leaf_written l h w =
     let x = l.node in
     leaf_reads x.kind x.place h.4.0 (fields x.f1 x.f2 x.f3 x.f4) h.3 h.0 h.4.1 (w ∙ (rw (h.1, h.2)))
@@ -201,7 +201,7 @@ module _ (t : List ℕ) (W : Language) (l : ℕ) (es : Trees) (p : ℕ) where
     -- the record of a pays, behind its parts
     pub pays_reads : (f : Cursor) (y : ℕ) → Holds t f → optional_by 51 0 (a_currency W) (toks_at t q) ≡ ok y (toks_at t f.start)
         → {n m v : ℕ} {o o₁ o₂ : List ℕ} → Before n o es m o₁ → v ≡ parts es → o₂ ≡ put_row o₁ m (row 36 (m - n + 1) v (fields x y 0 0) l)
-        → Reads t Pays n o f (m + 1) 0 o₂
+        → Reads t Pays n o f (m + 1) None o₂
     unfolding give
     pays_reads f y h r b v w = record {
       tree = paid x y;

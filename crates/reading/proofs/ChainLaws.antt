@@ -6,6 +6,8 @@ use Prim.Native.Nat.{ℕ, zero, suc, ◌+◌, ◌-◌, ◌*◌, ◌≤◌, ◌<�
 use native.Mathlib.Omega.{arith}
 use borrow.Author.Tests.{ne_eqb}
 use lib.ListN.{length}
+use Rattle.std.specs.Prelude.{Option, Some, None}
+use Rattle.tokens.specs.Dates.{unless_0}
 use Rattle.tokens.specs.Tokens.{Token, code}
 use Rattle.tokens.specs.declared.cursor.Cursor.{Cursor}
 use Rattle.grammar.specs.Trees.{Tree, none as unused, size, row}
@@ -13,7 +15,7 @@ use Rattle.grammar.specs.Readers.{Out, ok, refused, Reader, bind, ◌>>=◌, aga
 use Rattle.grammar.specs.Grammar.{Language, binary, group_turn, grouped, sum, comparison, expression, primary}
 use Rattle.reading.specs.Rows.{rows, put_row, put_rows}
 use Rattle.reading.specs.Meets.{language_in, toks_at, token_at, Holds, Room, Ready, Follows, string_at, Quoted, Reads}
-use Rattle.reading.specs.Joins.{Joins}
+use Rattle.reading.specs.Joins.{Joins, sign_or_0}
 use Rattle.reading.specs.Turns.{power_at, product_or, sum_or, comparison_or, expression_or}
 use Rattle.reading.specs.declared.records.Joined.{Joined}
 use Rattle.reading.specs.Signs.{tighter_sign, looser_sign, sum_sign, product_sign, power_sign}
@@ -24,13 +26,13 @@ use Rattle.reading.proofs.HoldLaws.{peek_is, ask_yes, ask_no, read_then}
 use Rattle.reading.proofs.RowLaws.{size_some, size_two, after_two}
 
 -- what was read, with what is left, is no more than there was
-pub reads_within : (t : List ℕ) (p : Reader Tree) → Sized p → (c : Cursor) (n : ℕ) (o : List ℕ) (d : Cursor) (m q : ℕ) (o' : List ℕ)
+pub reads_within : (t : List ℕ) (p : Reader Tree) → Sized p → (c : Cursor) (n : ℕ) (o : List ℕ) (d : Cursor) (m : ℕ) (q : Option ℕ) (o' : List ℕ)
     → Reads t (p (toks_at t c.start)) n o d m q o' → Room t c n → m + 3 * length (toks_at t d.start) ≤ n + 3 * length (toks_at t c.start)
 reads_within t p h c n o d m q o' r room =
     omega (arith, h (toks_at t c.start) r.tree (toks_at t d.start) r.is, r.counts)
 
 -- a tree of two parts is no String node
-pub binary_plain : (t : List ℕ) (k y : ℕ) (a b : Tree) → (k ≡ 5 → ⊥) → (0 ≡ string_at (binary k y a b)) × Quoted t (binary k y a b)
+pub binary_plain : (t : List ℕ) (k y : ℕ) (a b : Tree) → (k ≡ 5 → ⊥) → (None ≡ unless_0 (string_at (binary k y a b))) × Quoted t (binary k y a b)
 binary_plain t k y a b h = (rw (ne_eqb k 5 h), λ e. absurd (h e))
 
 -- a level of operators: its test by the kind's number, which neither End nor a string passes, and its operands
@@ -41,20 +43,24 @@ pub record Level (test : Token → Bool) (op : ℕ → Bool) (p : Reader Tree) :
   pub moves : Moves p
   pub short : Sized p
 
+-- a sign of a level is no 0
+pub sign_not_0 : {test : Token → Bool} {op : ℕ → Bool} {p : Reader Tree} → Level test op p → {k : ℕ} → op k ≡ true → Some k ≡ Some 0 → ⊥
+sign_not_0 {op = op} L h e = true≢false (sym h ∙ (ap op (ap sign_or_0 e) ∙ L.not_end))
+
 -- the tree so far, in a chain that begins at y, and that the loop from here gives the whole reading R
-pub record Chain (test : Token → Bool) (p : Reader Tree) (t : List ℕ) (y : ℕ) (R : Out Tree) (n : ℕ) (o : List ℕ) (c : Cursor) (m q : ℕ) (o' : List ℕ) : Type 0 where
+pub record Chain (test : Token → Bool) (p : Reader Tree) (t : List ℕ) (y : ℕ) (R : Out Tree) (n : ℕ) (o : List ℕ) (c : Cursor) (m : ℕ) (q : Option ℕ) (o' : List ℕ) : Type 0 where
   pub tree : Tree
   pub is : R ≡ loop (group_turn test p y) tree (toks_at t c.start)
   pub counts : m ≡ n + size tree
   pub writes : o' ≡ put_rows o n (rows tree)
   pub room : Room t c m
   pub holds : Holds t c
-  pub string : q ≡ string_at tree
+  pub string : q ≡ unless_0 (string_at tree)
   pub quoted : Quoted t tree
 
 module _ {test : Token → Bool} {op : ℕ → Bool} {p : Reader Tree} (L : Level test op p) (t : List ℕ) where
   -- where the loop begins
-  chain_enter : (c : Cursor) (n : ℕ) (o : List ℕ) (d : Cursor) (m q : ℕ) (o' : List ℕ) → Holds t c → Room t c n → Reads t (p (toks_at t c.start)) n o d m q o'
+  chain_enter : (c : Cursor) (n : ℕ) (o : List ℕ) (d : Cursor) (m : ℕ) (q : Option ℕ) (o' : List ℕ) → Holds t c → Room t c n → Reads t (p (toks_at t c.start)) n o d m q o'
       → Chain test p t c.start (grouped test p (toks_at t c.start)) n o d m q o'
   unfolding grouped ◌>>=◌
   chain_enter c n o d m q o' h room r =
@@ -73,7 +79,7 @@ module _ {test : Token → Bool} {op : ℕ → Bool} {p : Reader Tree} (L : Leve
   unfolding grouped ◌>>=◌
   chain_refused c h k b e = peek_is h _ ∙ (rw e)
 
-  module _ {y : ℕ} {R : Out Tree} {n : ℕ} {o : List ℕ} {c : Cursor} {m q : ℕ} {o' : List ℕ} (ch : Chain test p t y R n o c m q o') where
+  module _ {y : ℕ} {R : Out Tree} {n : ℕ} {o : List ℕ} {c : Cursor} {m : ℕ} {q : Option ℕ} {o' : List ℕ} (ch : Chain test p t y R n o c m q o') where
     turn : R ≡ follow (loop (group_turn test p y)) (group_turn test p y ch.tree (toks_at t c.start))
     turn = ch.is ∙ loop_eq (group_turn_law test p L.moves y) ch.tree (toks_at t c.start)
 
@@ -107,7 +113,7 @@ module _ {test : Token → Bool} {op : ℕ → Bool} {p : Reader Tree} (L : Leve
       unfolding ◌>>=◌
       sign_refused k b e = turn ∙ (rw (turn_is, e))
 
-      module _ {c₂ : Cursor} {m₂ q₂ : ℕ} {o₂ : List ℕ} (r : Reads t (p (toks_at t d.start)) m o' c₂ m₂ q₂ o₂) where
+      module _ {c₂ : Cursor} {m₂ : ℕ} {q₂ : Option ℕ} {o₂ : List ℕ} (r : Reads t (p (toks_at t d.start)) m o' c₂ m₂ q₂ o₂) where
         within : m₂ + 3 * length (toks_at t c₂.start) ≤ m + 3 * length (toks_at t d.start)
         within = reads_within t p L.short d m o' c₂ m₂ q₂ o₂ r sign_ready.1
 
@@ -115,7 +121,7 @@ module _ {test : Token → Bool} {op : ℕ → Bool} {p : Reader Tree} (L : Leve
         sign_numbers : (n ≤ m) × (m ≤ m₂) × (m₂ < 50000) × (1 ≤ m₂ - n)
         sign_numbers = omega (arith, within, w.fewer some, ch.room, ch.counts, r.counts, size_some ch.tree)
 
-        sign_more : (o₃ : List ℕ) → o₃ ≡ put_row o₂ m₂ (row c.code (m₂ - n + 1) 2 unused y) → Chain test p t y R n o c₂ (m₂ + 1) 0 o₃
+        sign_more : (o₃ : List ℕ) → o₃ ≡ put_row o₂ m₂ (row c.code (m₂ - n + 1) 2 unused y) → Chain test p t y R n o c₂ (m₂ + 1) None o₃
         unfolding ◌>>=◌ give
         sign_more o₃ e =
             let five : c.code ≡ 5 → ⊥ = λ f. true≢false (sym z ∙ (ap op f ∙ L.not_string)) in
@@ -149,7 +155,7 @@ pub record Fresh (test : Token → Bool) (p : Reader Tree) (t : List ℕ) (y : �
 -- one behind a sign
 pub record Behind (test : Token → Bool) (op : ℕ → Bool) (p : Reader Tree) (t : List ℕ) (y : ℕ) (R : Out Tree) (n : ℕ) (o : List ℕ) (k : ℕ) (c : Cursor) (m : ℕ) (o' : List ℕ) : Type 0 where
   pub sign : Cursor
-  pub q : ℕ
+  pub q : Option ℕ
   pub chain : Chain test p t y R n o sign m q o'
   pub sign_is : sign.code ≡ k
   pub yes : op sign.code ≡ true
@@ -162,7 +168,7 @@ module _ {test : Token → Bool} {op : ℕ → Bool} {p : Reader Tree} (L : Leve
   pub pend_first : (c : Cursor) (n : ℕ) (o : List ℕ) → Ready t c n → Pending test op p t c.start (grouped test p (toks_at t c.start)) n o 0 c n o
   pend_first c n o h = (λ z. record { y_is = refl; is = refl; m_is = refl; o_is = refl; ready = h }, λ z. absurd (z refl))
 
-  pub pend_next : {y : ℕ} {R : Out Tree} {n : ℕ} {o : List ℕ} {c : Cursor} {m q : ℕ} {o' : List ℕ} → Chain test p t y R n o c m q o' → op c.code ≡ true → (d : Cursor) → Follows t c d
+  pub pend_next : {y : ℕ} {R : Out Tree} {n : ℕ} {o : List ℕ} {c : Cursor} {m : ℕ} {q : Option ℕ} {o' : List ℕ} → Chain test p t y R n o c m q o' → op c.code ≡ true → (d : Cursor) → Follows t c d
       → Pending test op p t y R n o c.code d m o'
   pend_next {c = c} {q = q} ch h d f =
       (λ z. absurd (true≢false (sym h ∙ (ap op z ∙ L.not_end))), λ z. record { sign = c; q = q; chain = ch; sign_is = refl; yes = h; follows = f })
@@ -177,7 +183,7 @@ module _ {test : Token → Bool} {op : ℕ → Bool} {p : Reader Tree} (L : Leve
         by_sign k (λ z. (w.0 z).is ∙ chain_refused L t c (w.0 z).ready.0 f b e)
         (λ z. sign_refused L t (w.1 z).chain (w.1 z).yes c (w.1 z).follows f b e)
 
-    module _ {c₂ : Cursor} {m₂ q₂ : ℕ} {o₂ : List ℕ} (r : Reads t (p (toks_at t c.start)) m o' c₂ m₂ q₂ o₂) where
+    module _ {c₂ : Cursor} {m₂ : ℕ} {q₂ : Option ℕ} {o₂ : List ℕ} (r : Reads t (p (toks_at t c.start)) m o' c₂ m₂ q₂ o₂) where
       pend_within : m₂ + 3 * length (toks_at t c₂.start) ≤ m + 3 * length (toks_at t c.start)
       pend_within = reads_within t p L.short c m o' c₂ m₂ q₂ o₂ r pend_ready.1
 
@@ -239,7 +245,7 @@ module _ {loose tight : Token → Bool} {lop top : ℕ → Bool} {p : Reader Tre
     pub nest_refused : (x z : ℕ) → p (toks_at t c.start) ≡ refused x z → R ≡ refused x z
     nest_refused x z e = pend_refused O t N.outer x z (pend_refused I t N.inner x z e)
 
-    module _ {c₂ : Cursor} {m₂ q₂ : ℕ} {o₂ : List ℕ} (r : Reads t (p (toks_at t c.start)) m o' c₂ m₂ q₂ o₂) where
+    module _ {c₂ : Cursor} {m₂ : ℕ} {q₂ : Option ℕ} {o₂ : List ℕ} (r : Reads t (p (toks_at t c.start)) m o' c₂ m₂ q₂ o₂) where
       pub nest_numbers : (f ≤ m₂) × (m₂ ≤ 50000)
       nest_numbers = pend_numbers I t N.inner r
 

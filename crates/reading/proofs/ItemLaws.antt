@@ -11,7 +11,7 @@ use borrow.Author.Tests.{eq-eqb, ne_eqb, eqb-true, eqb-false, le-leb, leb-true}
 use lib.ListN.{length}
 use Rattle.tokens.specs.Text.{bytes, same, within}
 use Rattle.tokens.specs.Names.{member}
-use Rattle.tokens.specs.Dates.{date}
+use Rattle.tokens.specs.Dates.{unless_0, date}
 use Rattle.tokens.specs.Tokens.{Token, code, entry, final}
 use Rattle.tokens.specs.declared.cursor.Cursor.{Cursor}
 use Rattle.grammar.specs.Trees.{Tree, Trees, node, nil, ◌▹◌, fields, none as unused, snoc, parts, row}
@@ -26,8 +26,8 @@ use Rattle.tokens.specs.Refusals.{number_of}
 use Rattle.tokens.specs.declared.refusals.Ground.{Ground}
 use Rattle.tokens.proofs.RefusalLaws.{number_in}
 use Rattle.reading.specs.Meets.{words_in, language_in, toks_at, token_at, Holds, Room, Ready, Follows, Takes, string_at, Quoted, Reads, Meets, Before}
-use Rattle.reading.specs.Turns.{inner, list_postfixed, pays_stop, Closing, item_end, item_turn_by, items_by, FollowsItem, string_of, AllQuoted, Shown, shown_by, ReadsItems, call_fault, Tops}
-use Rattle.std.specs.Prelude.{Result, Ok, Err}
+use Rattle.reading.specs.Turns.{StandsIn, Inside, inner, list_postfixed, pays_stop, Closing, item_end, item_turn_by, items_by, FollowsItem, string_of, AllQuoted, Shown, shown_by, ReadsItems, call_fault, Tops}
+use Rattle.std.specs.Prelude.{Option, None, Result, Ok, Err}
 use Rattle.reading.specs.Faults.{refused_by}
 use Rattle.reading.specs.declared.answers.Fault.{Fault}
 use Rattle.reading.specs.declared.answers.Read.{Read}
@@ -94,22 +94,23 @@ string_old nil e (suc i) z = refl
 string_old (u ▹ us) e zero z = refl
 string_old (u ▹ us) e (suc i) z = string_old us e i (λ q. z (ap suc q))
 
-string_snoc : (es : Trees) (e : Tree) (n i p x : ℕ) → n ≡ parts es → p ≡ string_at e → x ≡ string_of es i → (if eqb n i then p else x) ≡ string_of (snoc es e) i
+string_snoc : (es : Trees) (e : Tree) (n i : ℕ) (p x : Option ℕ) → n ≡ parts es → p ≡ unless_0 (string_at e) → x ≡ unless_0 (string_of es i)
+    → (if eqb n i then p else x) ≡ unless_0 (string_of (snoc es e) i)
 string_snoc es e n i p x q s w = go (eqb n i) refl
   where
-    go : (b : Bool) → eqb n i ≡ b → (if b then p else x) ≡ string_of (snoc es e) i
-    go true f = s ∙ sym (string_new es e i (sym q ∙ eqb-true n i f))
-    go false f = w ∙ sym (string_old es e i (λ z. eqb-false n i f (q ∙ z)))
+    go : (b : Bool) → eqb n i ≡ b → (if b then p else x) ≡ unless_0 (string_of (snoc es e) i)
+    go true f = s ∙ ap unless_0 (sym (string_new es e i (sym q ∙ eqb-true n i f)))
+    go false f = w ∙ ap unless_0 (sym (string_old es e i (λ z. eqb-false n i f (q ∙ z))))
 
 quoted_snoc : (t : List ℕ) (es : Trees) (e : Tree) → AllQuoted t es → Quoted t e → AllQuoted t (snoc es e)
 quoted_snoc t nil e a q = (q, tt)
 quoted_snoc t (u ▹ us) e a q = (a.0, quoted_snoc t us e a.1 q)
 
-pub shown_none : (t : List ℕ) → Shown t nil (record { first = 0; second = 0; third = 0 })
+pub shown_none : (t : List ℕ) → Shown t nil (record { first = None; second = None; third = None })
 shown_none t = record { first = refl; second = refl; third = refl; quoted = tt }
 
 -- one more part
-pub shown_more : (t : List ℕ) (es : Trees) (x : Texts) (n p : ℕ) (e : Tree) → Shown t es x → n ≡ parts es → p ≡ string_at e → Quoted t e → Shown t (snoc es e) (shown_by x n p)
+pub shown_more : (t : List ℕ) (es : Trees) (x : Texts) (n : ℕ) (p : Option ℕ) (e : Tree) → Shown t es x → n ≡ parts es → p ≡ unless_0 (string_at e) → Quoted t e → Shown t (snoc es e) (shown_by x n p)
 shown_more t es x n p e s q w h =
     record {
       first = string_snoc es e n 0 p x.first q w s.first;
@@ -130,11 +131,15 @@ strings_inside t nil i a = omega arith
 strings_inside t (u ▹ us) zero a = string_inside t u a.0
 strings_inside t (u ▹ us) (suc i) a = strings_inside t us i a.1
 
-pub shown_inside : (t : List ℕ) (es : Trees) (x : Texts) → Shown t es x → (x.first ≤ length t) × (x.second ≤ length t) × (x.third ≤ length t)
+stands_in : (t : List ℕ) (n : ℕ) → n ≤ length t → StandsIn t (unless_0 n)
+stands_in t zero l = tt
+stands_in t (suc n) l = l
+
+pub shown_inside : (t : List ℕ) (es : Trees) (x : Texts) → Shown t es x → Inside t x
 shown_inside t es x s = (
-  omega (arith, s.first, strings_inside t es 0 s.quoted),
-  omega (arith, s.second, strings_inside t es 1 s.quoted),
-  omega (arith, s.third, strings_inside t es 2 s.quoted),
+  rw s.first (stands_in t _ (strings_inside t es 0 s.quoted)),
+  rw s.second (stands_in t _ (strings_inside t es 1 s.quoted)),
+  rw s.third (stands_in t _ (strings_inside t es 2 s.quoted)),
 )
 
 -- ---- the loop of `items`
@@ -152,7 +157,7 @@ pub record ItemChain (W : Language) (k : ℕ) (p : Reader Tree) (t : List ℕ) (
   pub short : Sized p
 
 pub items_start : (W : Language) (k : ℕ) (p : Reader Tree) → Moves p → Sized p → (t : List ℕ) (n : ℕ) (o : List ℕ) (c : Cursor) → Ready t c n
-    → ItemChain W k p t (items_by W k p (toks_at t c.start)) n o c n 0 (record { first = 0; second = 0; third = 0 }) o
+    → ItemChain W k p t (items_by W k p (toks_at t c.start)) n o c n 0 (record { first = None; second = None; third = None }) o
 unfolding items_by
 items_start W k p moves short t n o c ready =
     record {
@@ -193,7 +198,7 @@ module _ {W : Language} {k : ℕ} {p : Reader Tree} {t : List ℕ} {R : Out Tree
     unfolding ◌>>=◌
     items_refused e = turn ∙ (rw (turn_is, e))
 
-    module _ {c₁ : Cursor} {m₁ q : ℕ} {o₁ : List ℕ} (r : Reads t (expression W p (toks_at t c.start)) m o' c₁ m₁ q o₁) where
+    module _ {c₁ : Cursor} {m₁ : ℕ} {q : Option ℕ} {o₁ : List ℕ} (r : Reads t (expression W p (toks_at t c.start)) m o' c₁ m₁ q o₁) where
       read_within : m₁ + 3 * length (toks_at t c₁.start) ≤ m + 3 * length (toks_at t c.start)
       read_within = reads_within t (expression W p) (expression_size W p ch.short) c m o' c₁ m₁ q o₁ r ch.room
 
@@ -461,7 +466,7 @@ module _ (W : Language) (depth : ℕ) (tok : Token) (κ : Kind) (e : kind_number
       call_faulty g fault = call_is (number_of g) fault ∙ (rw (ne_eqb (number_of g) 0 (λ z. omega (arith, z, number_in g))))
 
       pub call_done : ((es : Trees) → Shown t es x → cnt ≡ parts es → 0 ≡ call_fault W.counters k es) → {o₂ : List ℕ} → o₂ ≡ put_row o' m (row k (m - n + 1) cnt unused tok.from)
-          → Reads t (call W (inner W depth) tok (call_of tok.text calls) (toks_at t c.start)) n o d (m + 1) 0 o₂
+          → Reads t (call W (inner W depth) tok (call_of tok.text calls) (toks_at t c.start)) n o d (m + 1) None o₂
       call_done fault v =
           record {
             tree = node k tok.from [] unused r.items;
@@ -516,7 +521,7 @@ module _ {W : Language} {p : Reader Tree} {t : List ℕ} {R : Out Trees} {n : �
     unfolding ◌>>=◌
     pay_refused e = pay_turn_lem ∙ (rw (pay_turn_is, e))
 
-    module _ {d : Cursor} {m₁ q : ℕ} {o₁ : List ℕ} (r : Reads t (expression W p (toks_at t c.start)) m o' d m₁ q o₁) where
+    module _ {d : Cursor} {m₁ : ℕ} {q : Option ℕ} {o₁ : List ℕ} (r : Reads t (expression W p (toks_at t c.start)) m o' d m₁ q o₁) where
       pay_within : m₁ + 3 * length (toks_at t d.start) ≤ m + 3 * length (toks_at t c.start)
       pay_within = reads_within t (expression W p) (expression_size W p ch.short) c m o' d m₁ q o₁ r ch.room
 

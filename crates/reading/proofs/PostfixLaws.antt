@@ -12,6 +12,7 @@ use borrow.Author.Tests.{eq-eqb, ne_eqb, eqb-true, leb-true}
 use lib.ListN.{length}
 use Rattle.tokens.specs.Text.{bytes, same}
 use Rattle.tokens.specs.Names.{member}
+use Rattle.tokens.specs.Dates.{unless_0}
 use Rattle.tokens.specs.Tokens.{Token, code}
 use Rattle.tokens.specs.declared.cursor.Cursor.{Cursor}
 use Rattle.grammar.specs.Trees.{Tree, Trees, node, nil, ◌▹◌, fields, none as unused, parts, row}
@@ -24,7 +25,7 @@ use Rattle.reading.proofs.KindLaws.{kind_back}
 use Rattle.reading.specs.Calls.{call_kind, method_kind}
 use Rattle.reading.specs.Meets.{words_in, language_in, toks_at, token_at, Holds, Room, Ready, Follows, Takes, string_at, Quoted, Reads, Meets, Before}
 use Rattle.reading.specs.Signs.{postfix_sign}
-use Rattle.std.specs.Prelude.{Result, Ok, Err, Some}
+use Rattle.std.specs.Prelude.{Option as Maybe, None, Result, Ok, Err, Some}
 use Rattle.reading.specs.Faults.{refused_by}
 use Rattle.reading.specs.Turns.{inner, ReadsItems, special_of, Unquoted, Tops, ReadsTurn, MeetsTurns}
 use Rattle.reading.specs.declared.answers.Fault.{Fault}
@@ -68,7 +69,7 @@ module _ (W : Language) (depth l : ℕ) (t : List ℕ) (c : Cursor) where
   unfolding ◌>>=◌
   index_refuses e h x = rw h
 
-  module _ {m : ℕ} {o : List ℕ} {d : Cursor} {k q : ℕ} {o₁ : List ℕ} (r : Reads t (expression W (primary W depth) (toks_at t c.start)) m o d k q o₁) where
+  module _ {m : ℕ} {o : List ℕ} {d : Cursor} {k : ℕ} {q : Maybe ℕ} {o₁ : List ℕ} (r : Reads t (expression W (primary W depth) (toks_at t c.start)) m o d k q o₁) where
     index_at : (x : Tree) → index_of W (primary W depth) l x (toks_at t c.start) ≡ (the "]" >> give (again (binary 28 l x r.tree))) (toks_at t d.start)
     unfolding ◌>>=◌
     index_at x = rw r.is
@@ -90,7 +91,7 @@ module _ (W : Language) (depth l : ℕ) (t : List ℕ) (c : Cursor) where
           omega (arith, within, f, v, room, low, r.counts)
 
       pub index_reads : {o₂ : List ℕ} → o₂ ≡ put_row o₁ k (row 28 (k - n + 1) 2 unused l)
-          → MeetsTurns t (λ x. index_of W (primary W depth) l x (toks_at t c.start)) n m o c (Ok (record { at = e; records = k + 1; string = 0 })) o₂
+          → MeetsTurns t (λ x. index_of W (primary W depth) l x (toks_at t c.start)) n m o c (Ok (record { at = e; records = k + 1; string = None })) o₂
       unfolding code give
       index_reads u = (
         λ x z h.
@@ -175,7 +176,7 @@ module _ (W : Language) (depth l : ℕ) (t : List ℕ) (c : Cursor) (h : Holds t
             omega (arith, spare, named_then.0.fewer some_name, room, low, j.counts, j.parts_are, parts_few j.items)
 
         pub method_reads : {κ : ℕ} → κ ≡ method_kind (token_at t c).text count → (κ ≡ 0 → ⊥) → {o₂ : List ℕ} → o₂ ≡ put_row o₁ k (row κ (k - n + 1) (count + 1) unused l)
-            → MeetsTurns t (λ x. method_of W (inner W depth) l x (toks_at t c.start)) n m o c (Ok (record { at = e; records = k + 1; string = 0 })) o₂
+            → MeetsTurns t (λ x. method_of W (inner W depth) l x (toks_at t c.start)) n m o c (Ok (record { at = e; records = k + 1; string = None })) o₂
         unfolding ◌>>=◌ give
         method_reads {κ} q z {o₂} u =
             (λ x s g. turn x s g, ((j.holds, method_numbers.2), omega (arith, method_numbers), method_numbers.3))
@@ -246,7 +247,7 @@ pub record PostChain (W : Language) (I : Option (Reader Tree)) (l : ℕ) (t : Li
   pub each : Each I
 
 -- what is no String node
-plain_string : (t : List ℕ) (y : Tree) → Unquoted y → (0 ≡ string_at y) × Quoted t y
+plain_string : (t : List ℕ) (y : Tree) → Unquoted y → (None ≡ unless_0 (string_at y)) × Quoted t y
 plain_string t (node k l x (fields a b c d) ts) h = (rw (ne_eqb k 5 h), λ e. absurd (h e))
 
 -- where the loop begins
@@ -260,7 +261,7 @@ module _ {W : Language} {I : Option (Reader Tree)} {l : ℕ} {t : List ℕ} {R :
   turn_of = ch.is ∙ loop_eq (postfix_turn_law W I ch.each l) ch.tree (toks_at t c.start)
 
   -- no sign: the loop ends
-  pub post_exit : Holds t c → postfix_sign c.code ≡ false → Reads t R n o c m 0 o'
+  pub post_exit : Holds t c → postfix_sign c.code ≡ false → Reads t R n o c m None o'
   unfolding postfix_turn code give
   post_exit h z =
       let s = plain_string t ch.tree ch.tops.unquoted in
@@ -370,7 +371,7 @@ module _ (s₂ : Bool) (res cur cou : List ℕ) (I : Option (Reader Tree)) (t : 
       let g : named (language_in s₂ res cur cou) (token_at t c) (toks_at t d.start) ≡ refused_by e = ap (λ (R : Reader Tree). R (toks_at t d.start)) (sym named_same) ∙ h in
       Facts.0 (sym ki ∙ z) ∙ (rw g)
 
-  module _ {f : Cursor} {m q : ℕ} {o₁ : List ℕ} (r : Reads t (named (words_in res [] []) (token_at t c) (toks_at t d.start)) n o f m q o₁) where
+  module _ {f : Cursor} {m : ℕ} {q : Maybe ℕ} {o₁ : List ℕ} (r : Reads t (named (words_in res [] []) (token_at t c) (toks_at t d.start)) n o f m q o₁) where
     pub name_numbers : Room t c n → Follows t c d → c.code ≡ 1 → Ready t f m × (n < m)
     name_numbers room w e =
         let l = named_size (words_in res [] []) (token_at t c) (toks_at t d.start) r.tree (toks_at t f.start) r.is in

@@ -8,6 +8,8 @@ use native.Mathlib.Omega.{arith}
 use lib.Dec.{ltb}
 use lib.ListN.{length}
 use borrow.Author.Tests.{ne_eqb, eqb-true, ltb-true, ltb-false}
+use Rattle.std.specs.Prelude.{Option, None}
+use Rattle.tokens.specs.Dates.{unless_0}
 use Rattle.tokens.specs.Tokens.{code}
 use Rattle.tokens.specs.declared.cursor.Cursor.{Cursor}
 use Rattle.grammar.specs.Sizes.{record_width}
@@ -62,7 +64,7 @@ fits_below (fit d h) = omega (arith, d)
 fits_below (past {l} {ls} h F) = omega (arith, fits_below F, held_size_lem l ls)
 
 -- a chain of two operands and more is no String node
-onto_plain : (t : List ℕ) (r : Tree) (l : ℕ × Tree) (ls : List (ℕ × Tree)) → (0 ≡ string_at (onto r (l ∷ ls))) × Quoted t (onto r (l ∷ ls))
+onto_plain : (t : List ℕ) (r : Tree) (l : ℕ × Tree) (ls : List (ℕ × Tree)) → (None ≡ unless_0 (string_at (onto r (l ∷ ls)))) × Quoted t (onto r (l ∷ ls))
 onto_plain t r l [] = binary_plain t 12 l.0 l.1 r (λ e. omega (arith, e))
 onto_plain t r l (l' ∷ ls) = onto_plain t (binary 12 l.0 l.1 r) l' ls
 
@@ -90,7 +92,7 @@ module _ {p : Reader Tree} (moves : Moves p) (short : Sized p) (low : Gives Low 
     unfolding ◌>>=◌
     wait_refused f b x = w.is ∙ (peek_is w.holds _ ∙ (rw x))
 
-    module _ (c₂ : Cursor) (m₂ q₂ : ℕ) (o₂ : List ℕ) (r : Reads t (p (toks_at t c.start)) m o' c₂ m₂ q₂ o₂) where
+    module _ (c₂ : Cursor) (m₂ : ℕ) (q₂ : Option ℕ) (o₂ : List ℕ) (r : Reads t (p (toks_at t c.start)) m o' c₂ m₂ q₂ o₂) where
       less : m₂ + 3 * length (toks_at t c₂.start) ≤ m + 3 * length (toks_at t c.start)
       less = reads_within t p short c m o' c₂ m₂ q₂ o₂ r wait_ready.1
 
@@ -229,7 +231,7 @@ sign_more : (k : ℕ) → 12 ≡ sign_of (k + 1)
 sign_more k = rw (ne_eqb (k + 1) 0 (λ e. omega (arith, e)))
 
 -- an operand is joined by one record at most
-join_most : (o : List ℕ) (s n m p b : ℕ) (j : Joined) (o' : List ℕ) → Joins o s n m p b j o' → j.records ≤ m + 1
+join_most : (o : List ℕ) (s n m : ℕ) (p : Option ℕ) (b : ℕ) (j : Joined) (o' : List ℕ) → Joins o s n m p b j o' → j.records ≤ m + 1
 join_most o s n m p b j o' J = by_sign s (λ z. omega (arith, (J.0 z).0)) (λ z. omega (arith, (J.1 z).0))
 
 -- an operand is to be read at c, behind k others: behind a sign of a chain that groups left, or behind those that wait
@@ -257,7 +259,7 @@ module _ {p : Reader Tree} (L : Level (is "**") power_sign p) (low : Gives Low p
     powers_refused f b z =
         by_edition second (λ x. pend_refused L t (w.left x) f b z) (λ x. wait_refused L.moves L.short low t R n o k e c m o' (w.right x) f b z)
 
-    module _ (c₂ : Cursor) (m₂ q₂ : ℕ) (o₂ : List ℕ) (r : Reads t (p (toks_at t c.start)) m o' c₂ m₂ q₂ o₂) where
+    module _ (c₂ : Cursor) (m₂ : ℕ) (q₂ : Option ℕ) (o₂ : List ℕ) (r : Reads t (p (toks_at t c.start)) m o' c₂ m₂ q₂ o₂) where
       read_less : m₂ + 3 * length (toks_at t c₂.start) ≤ m + 3 * length (toks_at t c.start)
       read_less = reads_within t p L.short c m o' c₂ m₂ q₂ o₂ r powers_ready.1
 

@@ -21,14 +21,14 @@ use Rattle.grammar.specs.Trees.{Tree, Trees, node, nil, ◌▹◌, fields, none 
 use Rattle.grammar.specs.Readers.{Out, ok, refused, Reader, bind, ◌>>=◌, ◌>>◌, second as second_of, Turn, give, fail_at, ask, look, peek, read, the}
 use Rattle.grammar.specs.Grammar.{call_of, Language, binary, chain, deeper, comparison, expression, in_edition, lone, power, signed, minus, negative, parenthesis, pays, name, primary_over, primary}
 use Rattle.reading.specs.Rows.{put_row, node_row}
-use Rattle.reading.specs.Joins.{Joins}
+use Rattle.reading.specs.Joins.{Joins, sign_or_0}
 use Rattle.reading.specs.declared.records.Node.{Node}
 use Rattle.reading.specs.declared.records.Joined.{Joined}
 use Rattle.reading.specs.Atoms.{literal, atom}
 use Rattle.reading.specs.Meets.{edition_by, language_in, toks_at, token_at, Holds, Room, Ready, Follows, Takes, Reads, Meets}
 use Rattle.reading.specs.Signs.{comparator, taken_in, raisable}
 use Rattle.reading.specs.Turns.{inner, power_at, sum_or, comparison_or, parenthesised, list_postfixed, negated_by, MeetsItems, Closed, MeetsTurns}
-use Rattle.std.specs.Prelude.{Result, Ok, Err}
+use Rattle.std.specs.Prelude.{Option, Some, None, is_some, Result, Ok, Err}
 use Rattle.reading.specs.Faults.{refused_by}
 use Rattle.reading.specs.declared.answers.Fault.{Fault}
 use Rattle.reading.specs.declared.answers.Read.{Read}
@@ -47,7 +47,7 @@ use Rattle.reading.proofs.ChainLaws.{reads_within, binary_plain, by_sign}
 pub meets_as : (t : List ℕ) (R R' : Out Tree) (n : ℕ) (o : List ℕ) (r : Result Read Fault) (o' : List ℕ) → R ≡ R' → Meets t R' n o r o' → Meets t R n o r o'
 meets_as t R R' n o r o' e h = rw e h
 
-pub reads_as : (t : List ℕ) (R R' : Out Tree) (n : ℕ) (o : List ℕ) (c : Cursor) (m q : ℕ) (o' : List ℕ) → R ≡ R' → Reads t R' n o c m q o' → Reads t R n o c m q o'
+pub reads_as : (t : List ℕ) (R R' : Out Tree) (n : ℕ) (o : List ℕ) (c : Cursor) (m : ℕ) (q : Option ℕ) (o' : List ℕ) → R ≡ R' → Reads t R' n o c m q o' → Reads t R n o c m q o'
 reads_as t R R' n o c m q o' e h = rw e h
 
 -- what `?` hands on
@@ -125,6 +125,15 @@ unfolding comparison
 comparison_gates true W d = sym (never_asked (power_at W d) _)
 comparison_gates false W d = refl
 
+-- whether there is a sign, by its code
+pub sign_there : (s : Option ℕ) → is_some s ≡ true → (s ≡ Some 0 → ⊥) → sign_or_0 s ≡ 0 → ⊥
+sign_there None h z e = absurd (true≢false (sym h))
+sign_there (Some k) h z e = z (ap Some e)
+
+pub sign_none : (s : Option ℕ) → is_some s ≡ false → sign_or_0 s ≡ 0
+sign_none None h = refl
+sign_none (Some k) h = absurd (true≢false h)
+
 -- what is to be read of it: the first operand,
 pub record First (c : Cursor) (n : ℕ) (o : List ℕ) (e : Cursor) (m : ℕ) (o' : List ℕ) : Type 0 where
   pub e_is : e ≡ c
@@ -134,7 +143,7 @@ pub record First (c : Cursor) (n : ℕ) (o : List ℕ) (e : Cursor) (m : ℕ) (o
 -- or the one behind its comparator
 pub record Second (alone : Bool) (p : Reader Tree) (t : List ℕ) (c : Cursor) (n : ℕ) (o : List ℕ) (k : ℕ) (e : Cursor) (m : ℕ) (o' : List ℕ) : Type 0 where
   pub sign : Cursor
-  pub q : ℕ
+  pub q : Option ℕ
   pub left : Reads t (p (toks_at t c.start)) n o sign m q o'
   pub sign_is : sign.code ≡ k
   pub yes : comparator alone sign.code ≡ true
@@ -147,7 +156,7 @@ module _ (alone : Bool) (p : Reader Tree) (short : Sized p) (t : List ℕ) (c : 
   comparison_refused : (k b : ℕ) → p (toks_at t c.start) ≡ refused k b → comparison_by alone p (toks_at t c.start) ≡ refused k b
   comparison_refused k b e = peek_is ready.0 _ ∙ bind_refused p _ (toks_at t c.start) k b e
 
-  module _ (d : Cursor) (m q : ℕ) (o' : List ℕ) (r : Reads t (p (toks_at t c.start)) n o d m q o') where
+  module _ (d : Cursor) (m : ℕ) (q : Option ℕ) (o' : List ℕ) (r : Reads t (p (toks_at t c.start)) n o d m q o') where
     behind : comparison_by alone p (toks_at t c.start)
         ≡ ask (λ u. not alone && within 13 18 u.kind) (do u ← read; x ← p; give (binary u.kind c.start r.tree x)) (give r.tree) (toks_at t d.start)
     unfolding ◌>>=◌
@@ -181,12 +190,12 @@ module _ (alone : Bool) (p : Reader Tree) (short : Sized p) (t : List ℕ) (c : 
       comparison_second : (k b : ℕ) → p (toks_at t e.start) ≡ refused k b → comparison_by alone p (toks_at t c.start) ≡ refused k b
       comparison_second k b f = second ∙ bind_refused p _ (toks_at t e.start) k b f
 
-      module _ (f : Cursor) (m₂ q₂ : ℕ) (o₂ : List ℕ) (r₂ : Reads t (p (toks_at t e.start)) m o' f m₂ q₂ o₂) where
+      module _ (f : Cursor) (m₂ : ℕ) (q₂ : Option ℕ) (o₂ : List ℕ) (r₂ : Reads t (p (toks_at t e.start)) m o' f m₂ q₂ o₂) where
         comparison_numbers : (n ≤ m₂) × (m₂ < 50000)
         comparison_numbers =
             omega (arith, reads_within t p short c n o d m q o' r ready.1, reads_within t p short e m o' f m₂ q₂ o₂ r₂ comparison_ready.1, ready.1, w.fewer some_sign, r.counts, r₂.counts)
 
-        comparison_one : (o₃ : List ℕ) → o₃ ≡ put_row o₂ m₂ (row d.code (m₂ - n + 1) 2 unused c.start) → Reads t (comparison_by alone p (toks_at t c.start)) n o f (m₂ + 1) 0 o₃
+        comparison_one : (o₃ : List ℕ) → o₃ ≡ put_row o₂ m₂ (row d.code (m₂ - n + 1) 2 unused c.start) → Reads t (comparison_by alone p (toks_at t c.start)) n o f (m₂ + 1) None o₃
         unfolding ◌>>=◌ give
         comparison_one o₃ g =
             let five : d.code ≡ 5 → ⊥ = λ h. true≢false (sym z ∙ (ap (comparator alone) h ∙ comparator_no alone 5 refl)) in
@@ -213,7 +222,7 @@ module _ (alone : Bool) (p : Reader Tree) (short : Sized p) (t : List ℕ) (c : 
         by_sign k (λ z. comparison_refused f b (rw (w.0 z).e_is at g))
         (λ z. comparison_second (w.1 z).sign m (w.1 z).q o' (w.1 z).left (w.1 z).yes e (w.1 z).follows f b g)
 
-    module _ {d : Cursor} {m₂ q₂ : ℕ} {o₂ : List ℕ} (r : Reads t (p (toks_at t e.start)) m o' d m₂ q₂ o₂) where
+    module _ {d : Cursor} {m₂ : ℕ} {q₂ : Option ℕ} {o₂ : List ℕ} (r : Reads t (p (toks_at t e.start)) m o' d m₂ q₂ o₂) where
       first_read : k ≡ 0 → Reads t (p (toks_at t c.start)) n o d m₂ q₂ o₂
       first_read z = let F = w.0 z in rw (F.e_is, F.m_is, F.o_is) at r
 
@@ -255,7 +264,7 @@ module _ (W : Language) (t : List ℕ) (c d : Cursor) (n : ℕ) (o : List ℕ) (
         → parenthesised W depth (token_at t c) (toks_at t c.start) ≡ refused k b
     parenthesis_refused k b e = inside ∙ bind_refused (expression W (primary W (depth - 1))) _ (toks_at t d.start) k b e
 
-    module _ {e : Cursor} {m q : ℕ} {o' : List ℕ} (r : Reads t (expression W (primary W (depth - 1)) (toks_at t d.start)) n o e m q o') where
+    module _ {e : Cursor} {m : ℕ} {q : Option ℕ} {o' : List ℕ} (r : Reads t (expression W (primary W (depth - 1)) (toks_at t d.start)) n o e m q o') where
       closing : parenthesised W depth (token_at t c) (toks_at t c.start) ≡ (the ")" >> give r.tree) (toks_at t e.start)
       unfolding ◌>>=◌
       closing = inside ∙ (rw r.is)
@@ -428,7 +437,7 @@ unfolding code
 lone_not W t c h z = rw (first_kind h, ne_eqb 2 c.code (λ e. z (sym e)))
 
 -- behind what a sign takes in there is room for its record
-pub behind_read : (t : List ℕ) (p : Reader Tree) → Sized p → (c : Cursor) (n : ℕ) (o : List ℕ) (d : Cursor) (m q : ℕ) (o' : List ℕ) → Room t c (n + 3) → Reads t (p (toks_at t c.start)) n o d m q o'
+pub behind_read : (t : List ℕ) (p : Reader Tree) → Sized p → (c : Cursor) (n : ℕ) (o : List ℕ) (d : Cursor) (m : ℕ) (q : Option ℕ) (o' : List ℕ) → Room t c (n + 3) → Reads t (p (toks_at t c.start)) n o d m q o'
     → (n ≤ m) × (m < 50000)
 behind_read t p h c n o d m q o' room r = omega (arith, reads_within t p h c n o d m q o' r (omega (arith, room)), room, r.counts)
 
@@ -459,8 +468,8 @@ module _ (W : Language) (t : List ℕ) (c d : Cursor) (depth : ℕ) where
     minus_refused z e h = minus_deep z ∙ ap (negated_by c.start) h
 
 -- a negation: what was read, and the record behind it
-pub negate_reads : (y : ℕ) (t : List ℕ) (R : Out Tree) (n : ℕ) (o : List ℕ) (e : Cursor) (m q : ℕ) (o₁ o₂ : List ℕ) → Reads t R n o e m q o₁
-    → o₂ ≡ put_row o₁ m (row 7 (m - n + 1) 1 unused y) → Reads t (negated_by y R) n o e (m + 1) 0 o₂
+pub negate_reads : (y : ℕ) (t : List ℕ) (R : Out Tree) (n : ℕ) (o : List ℕ) (e : Cursor) (m : ℕ) (q : Option ℕ) (o₁ o₂ : List ℕ) → Reads t R n o e m q o₁
+    → o₂ ≡ put_row o₁ m (row 7 (m - n + 1) 1 unused y) → Reads t (negated_by y R) n o e (m + 1) None o₂
 negate_reads y t R n o e m q o₁ o₂ r w =
     record {
       tree = node 7 y [] unused (r.tree ▹ nil);

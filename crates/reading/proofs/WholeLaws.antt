@@ -24,7 +24,7 @@ use Rattle.grammar.specs.Words.{row_of, row_words, latest_of}
 use Rattle.reading.specs.Rows.{rows, put_all, put_rows, put_entry, put_entries, latest_between}
 use Rattle.reading.specs.Meets.{listed, toks_at, Holds, Room, Ready, Reads, Meets}
 use Rattle.reading.specs.Scripts.{Clean, rebase, rows_in, entries_in, ReadsAll}
-use Rattle.std.specs.Prelude.{Result}
+use Rattle.std.specs.Prelude.{Option, Result}
 use Rattle.reading.specs.declared.answers.Fault.{Fault}
 use Rattle.reading.specs.declared.answers.Read.{Read}
 use Rattle.grammar.proofs.Laws.{skip_clear}
@@ -175,7 +175,7 @@ module _ (W : Language) (t o d : List ℕ) where
     chain_refused z {j} {p} e =
         onward_is z ∙ ap (λ (x : Out Tree). prepend C.entries (onward (from W) (b + c.start) (toks_at P 0) x)) e ∙ prepend_refused C.entries j (b + c.start + p)
 
-    module _ (z : c.code ≡ 0 → ⊥) {e : Cursor} {m p : ℕ} {o₂ : List ℕ} (R : Reads P (statement W most_depth (toks_at P 0)) n o₁ e m p o₂) where
+    module _ (z : c.code ≡ 0 → ⊥) {e : Cursor} {m : ℕ} {p : Option ℕ} {o₂ : List ℕ} (R : Reads P (statement W most_depth (toks_at P 0)) n o₁ e m p o₂) where
       -- the tokens that the statement has
       used : take (length (toks_at P 0) - length (toks_at P e.start)) (toks_at P 0) ≡ R.holds.past
       unfolding toks_at

@@ -3,6 +3,7 @@ use Rattle.std.specs.Prelude.{◌≡◌, Bool, true, false, Option, Some, None, 
 use Rattle.tokens.specs.Limits.{most_bytes}
 use Rattle.tokens.specs.Text.{leading, other, count}
 use Rattle.tokens.specs.Names.{names}
+use Rattle.tokens.specs.Dates.{unless_0}
 use Rattle.tokens.specs.Tokens.{Token, Lexed, lexed, refused as faulty, scan, final, counts, end_of}
 use Rattle.tokens.specs.Lexing.{mark_at}
 use Rattle.tokens.specs.declared.cursor.Cursor.{Cursor}
@@ -104,13 +105,13 @@ Quoted t (node k l x (fields a b c d) ts) = k ≡ 5 → (1 ≤ a) × (x ≡ take
 
 -- The reading R of the text t, with n records before it and the memory o: a tree, the cursor c behind it, m records then, where its
 -- string stands, and the memory o'
-pub record Reads (t : List ℕ) (R : Out Tree) (n : ℕ) (o : List ℕ) (c : Cursor) (m p : ℕ) (o' : List ℕ) : Type 0 where
+pub record Reads (t : List ℕ) (R : Out Tree) (n : ℕ) (o : List ℕ) (c : Cursor) (m : ℕ) (p : Option ℕ) (o' : List ℕ) : Type 0 where
   pub tree : Tree
   pub is : R ≡ ok tree (toks_at t c.start)
   pub counts : m ≡ n + size tree
   pub writes : o' ≡ put_rows o n (rows tree)
   pub holds : Holds t c
-  pub string : p ≡ string_at tree
+  pub string : p ≡ unless_0 (string_at tree)
   pub quoted : Quoted t tree
 
 abbrev pub Meets : List ℕ → Out Tree → ℕ → List ℕ → Result Read Fault → List ℕ → Type 0

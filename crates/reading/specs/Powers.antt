@@ -1,5 +1,5 @@
 -- A chain of `**` that groups right, in lent memory: while it is read, the root of each operand but the last holds where the operand's text begins.
-use Rattle.std.specs.Prelude.{◌≡◌, Bool, true, false, ◌⊎◌, List, [], ◌∷◌, ◌++◌, ℕ, ◌+◌, ◌-◌, ◌*◌, ◌%◌, ◌≤◌, ◌<◌, eqb, ltb, set, get_or, if◌then◌else◌}
+use Rattle.std.specs.Prelude.{◌≡◌, Bool, true, false, Option, None, ◌⊎◌, List, [], ◌∷◌, ◌++◌, ℕ, ◌+◌, ◌-◌, ◌*◌, ◌%◌, ◌≤◌, ◌<◌, eqb, ltb, set, get_or, if◌then◌else◌}
 use Rattle.grammar.specs.Sizes.{record_width}
 use Rattle.grammar.specs.Trees.{Tree, Trees, node, nil, kind_of, snoc, size, sizes}
 use Rattle.grammar.specs.Grammar.{onto}
@@ -59,10 +59,10 @@ abbrev pub Raises : List ℕ → ℕ → ℕ → ℕ → List ℕ → Type 0
 Raises q n e j q' = (goal : Tree) (o : List ℕ) → (n < e → e ≤ room o) → Raising goal o n e j q → q' ≡ put_rows o n (rows goal)
 
 -- k operands wait before the last one, whose records end at m and whose string stands at p
-abbrev pub Closes : List ℕ → ℕ → ℕ → ℕ → ℕ → ℕ → Joined → List ℕ → Type 0
+abbrev pub Closes : List ℕ → ℕ → ℕ → ℕ → ℕ → Option ℕ → Joined → List ℕ → Type 0
 Closes q k n e m p r q' =
     (k ≡ 0 → (r.records ≡ m) × (r.string ≡ p) × (q' ≡ q))
-    × ((k ≡ 0 → ⊥) → (r.records ≡ m + k) × (r.string ≡ 0) × Raises q n e m q')
+    × ((k ≡ 0 → ⊥) → (r.records ≡ m + k) × (r.string ≡ None) × Raises q n e m q')
 
 -- the sign before an operand, k others before it: none before the first
 abbrev pub sign_of : ℕ → ℕ
@@ -72,7 +72,7 @@ abbrev pub joined_by : Stepped → Joined
 joined_by r = record { records = r.records; string = r.string }
 
 -- an operand whose records end at m: joined to those before it, or, in the second edition, it waits where more follows, and else is the last
-abbrev pub Steps : Bool → Bool → List ℕ → ℕ → ℕ → ℕ → ℕ → ℕ → ℕ → ℕ → Stepped → List ℕ → Type 0
+abbrev pub Steps : Bool → Bool → List ℕ → ℕ → ℕ → ℕ → ℕ → Option ℕ → ℕ → ℕ → Stepped → List ℕ → Type 0
 Steps second more o k n e m p y b r o' =
     (second ≡ false → Joins o (sign_of k) n m p y (joined_by r) o')
     × (second ≡ true → more ≡ true → (r.records ≡ m) × Marks o e m b r.fits o')

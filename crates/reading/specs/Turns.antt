@@ -1,9 +1,9 @@
 -- The readers of the code inside an expression: what is one deeper, parts of a list, postfixes.
-use Rattle.std.specs.Prelude.{◌≡◌, Bool, ◌||◌, not, Result, Ok, Err, List, [], ◌⊎◌, ℕ, zero, suc, ◌+◌, ◌≤◌, ◌<◌, eqb, length, take, drop, if◌then◌else◌}
+use Rattle.std.specs.Prelude.{◌≡◌, Bool, ◌||◌, not, Option as Maybe, Some, None, Result, Ok, Err, List, [], ◌⊎◌, ℕ, zero, suc, ◌+◌, ◌≤◌, ◌<◌, eqb, length, take, drop, if◌then◌else◌}
 use Rattle.std.proofs.Math.Option.{Option, none, some}
 use Rattle.tokens.specs.Text.{leading, other}
 use Rattle.tokens.specs.Names.{member}
-use Rattle.tokens.specs.Dates.{date}
+use Rattle.tokens.specs.Dates.{date, unless_0}
 use Rattle.tokens.specs.Tokens.{Token}
 use Rattle.tokens.specs.Refusals.{number_of}
 use Rattle.tokens.specs.declared.cursor.Cursor.{Cursor}
@@ -135,21 +135,26 @@ AllQuoted t (x ▹ xs) = Quoted t x × AllQuoted t xs
 
 -- the strings of the first three parts
 pub record Shown (t : List ℕ) (es : Trees) (x : Texts) : Type 0 where
-  pub first : x.first ≡ string_of es 0
-  pub second : x.second ≡ string_of es 1
-  pub third : x.third ≡ string_of es 2
+  pub first : x.first ≡ unless_0 (string_of es 0)
+  pub second : x.second ≡ unless_0 (string_of es 1)
+  pub third : x.third ≡ unless_0 (string_of es 2)
   pub quoted : AllQuoted t es
+
+-- a string stands inside the text, if there is one
+abbrev pub StandsIn : List ℕ → Maybe ℕ → Type 0
+StandsIn t None = Unit {0}
+StandsIn t (Some p) = p ≤ length t
 
 -- they stand inside the text
 abbrev pub Inside : List ℕ → Texts → Type 0
-Inside t x = (x.first ≤ length t) × (x.second ≤ length t) × (x.third ≤ length t)
+Inside t x = StandsIn t x.first × StandsIn t x.second × StandsIn t x.third
 
 -- the bytes of the text from a place on, up to the next quote
 abbrev pub content_at : List ℕ → ℕ → List ℕ
 content_at t p = take (leading (other 34) (drop p t)) (drop p t)
 
 -- one more part, whose string stands at p, behind n others
-abbrev pub shown_by : Texts → ℕ → ℕ → Texts
+abbrev pub shown_by : Texts → ℕ → Maybe ℕ → Texts
 shown_by x n p =
     record {
       first = if eqb n 0 then p else x.first;

@@ -36,13 +36,12 @@ impl Fault {
     }
 }
 
-// A tree was read: the cursor behind it, how many records there are then, and where the content of a String node stands
-// (0 for any other node).
+// A tree was read: the cursor behind it, how many records there are then, and where the content of a String node stands.
 #[derive(Clone, Copy)]
 pub struct Read {
     pub at: Cursor,
     pub records: u32,
-    pub string: u16,
+    pub string: Option<u16>,
 }
 
 // A date or a currency was read, as its number.
@@ -59,12 +58,12 @@ pub struct Leaf {
     pub node: Node,
 }
 
-// Where the contents of the first three parts stand, where they are String nodes; 0 where they are not.
+// Where the contents of the first three parts stand, where they are String nodes.
 #[derive(Clone, Copy)]
 pub struct Texts {
-    pub first: u16,
-    pub second: u16,
-    pub third: u16,
+    pub first: Option<u16>,
+    pub second: Option<u16>,
+    pub third: Option<u16>,
 }
 
 // Parts were read: the cursor behind them, how many records there are then, how many parts, and where their strings stand.

@@ -81,7 +81,7 @@ fn assign(
     Ok(Read {
         at: r.at,
         records: k + 1,
-        string: 0,
+        string: None,
     })
 }
 
@@ -104,7 +104,7 @@ fn doubled(
     Ok(Read {
         at: v.at,
         records: m + 1,
-        string: 0,
+        string: None,
     })
 }
 
@@ -133,7 +133,7 @@ fn compound(
     Ok(Read {
         at: r.at,
         records: k + 2,
-        string: 0,
+        string: None,
     })
 }
 
@@ -162,7 +162,7 @@ fn assign_paid(
     Ok(Read {
         at: r.at,
         records: k + 2,
-        string: 0,
+        string: None,
     })
 }
 

@@ -75,7 +75,7 @@ pub fn constant_at(
     Read {
         at: d,
         records: n + 1,
-        string: 0,
+        string: None,
     }
 }
 
@@ -94,7 +94,7 @@ fn string_at(s: &[u8], c: Cursor, d: Cursor, out: &mut [u32], n: u32) -> Read
     Read {
         at: d,
         records: n + 1,
-        string: content,
+        string: Some(content),
     }
 }
 
@@ -114,7 +114,7 @@ pub fn atom_at(s: &[u8], c: Cursor, d: Cursor, out: &mut [u32], n: u32) -> Resul
     Ok(Read {
         at: d,
         records: n + 1,
-        string: 0,
+        string: None,
     })
 }
 
@@ -139,7 +139,7 @@ pub fn variable_at(
     Ok(Read {
         at: d,
         records: n + 1,
-        string: 0,
+        string: None,
     })
 }
 

@@ -38,25 +38,13 @@ pub fn follow(s: &[u8], c: Cursor, close: u8) -> Result<Cursor, Fault>
 }
 
 // One more part, behind `count` others, whose string stands at p.
-pub fn shown(texts: Texts, count: u32, p: u16) -> Texts
+pub fn shown(texts: Texts, count: u32, p: Option<u16>) -> Texts
     ensures { result ≡ shown_by texts count p }
 {
     match count {
-        0 => Texts {
-            first: p,
-            second: texts.second,
-            third: texts.third,
-        },
-        1 => Texts {
-            first: texts.first,
-            second: p,
-            third: texts.third,
-        },
-        2 => Texts {
-            first: texts.first,
-            second: texts.second,
-            third: p,
-        },
+        0 => Texts { first: p, ..texts },
+        1 => Texts { second: p, ..texts },
+        2 => Texts { third: p, ..texts },
         _ => texts,
     }
 }
@@ -86,13 +74,13 @@ fn cvg_fault(s: &[u8], counters: &[u8], texts: Texts) -> Result<(), Ground>
     requires { Inside s.now texts }
     ensures { (es : Trees) → Shown s.now es texts → parts es ≡ 3 → ground_or_0 result ≡ cvg_fault (names counters.now) es }
 {
-    if texts.first == 0 || texts.second == 0 || texts.third == 0 {
+    let (Some(first), Some(second), Some(third)) = (texts.first, texts.second, texts.third) else {
         return Err(Ground::NoString);
-    }
-    if date_at(s, texts.first).is_none() || date_at(s, texts.second).is_none() {
+    };
+    if date_at(s, first).is_none() || date_at(s, second).is_none() {
         return Err(Ground::Date);
     }
-    if counter_at(s, counters, texts.third).is_none() {
+    if counter_at(s, counters, third).is_none() {
         return Err(Ground::DayCounter);
     }
     Ok(())
@@ -127,7 +115,7 @@ fn written(leaf: Leaf, out: &mut [u32], n: u32) -> Read
     Read {
         at: leaf.at,
         records: n + 1,
-        string: 0,
+        string: None,
     }
 }
 
@@ -141,7 +129,7 @@ pub fn negative(r: Read, place: u16, out: &mut [u32], n: u32) -> Read
     Read {
         at: r.at,
         records: r.records + 1,
-        string: 0,
+        string: None,
     }
 }
 
@@ -200,7 +188,7 @@ pub fn payday_at(
     Ok(Read {
         at: money.at,
         records: m + 1,
-        string: 0,
+        string: None,
     })
 }
 

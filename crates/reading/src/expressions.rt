@@ -43,8 +43,8 @@ pub fn expression(
 {
     let mut at = c;
     let mut m = n;
-    let mut sign: u8 = 0;
-    let mut tight: u8 = 0;
+    let mut sign = None;
+    let mut tight = None;
     let mut from = n;
     let mut place = c.start;
     loop {
@@ -54,7 +54,7 @@ pub fn expression(
         if is_tighter(language.two, alone, code) {
             at = next(s, r.at);
             m = i.records;
-            tight = code;
+            tight = Some(code);
             continue;
         }
         let j = join(out, sign, n, i.records, i.string, c.start);
@@ -67,8 +67,8 @@ pub fn expression(
         }
         at = next(s, r.at);
         m = j.records;
-        sign = code;
-        tight = 0;
+        sign = Some(code);
+        tight = None;
         from = m;
         place = at.start;
     }
@@ -90,11 +90,11 @@ fn comparison(
 {
     let mut at = c;
     let mut m = n;
-    let mut sign: u8 = 0;
+    let mut sign = None;
     loop {
         let r = sum(s, language, alone, at, depth, out, m)?;
         let j = join(out, sign, n, r.records, r.string, c.start);
-        if sign != 0 {
+        if sign.is_some() {
             return Ok(Read {
                 at: r.at,
                 records: j.records,
@@ -111,7 +111,7 @@ fn comparison(
         }
         at = next(s, r.at);
         m = j.records;
-        sign = code;
+        sign = Some(code);
     }
 }
 
@@ -131,7 +131,7 @@ fn sum(
 {
     let mut at = c;
     let mut m = n;
-    let mut sign: u8 = 0;
+    let mut sign = None;
     loop {
         let r = product(s, language, alone, at, depth, out, m)?;
         let j = join(out, sign, n, r.records, r.string, c.start);
@@ -145,7 +145,7 @@ fn sum(
         }
         at = next(s, r.at);
         m = j.records;
-        sign = code;
+        sign = Some(code);
     }
 }
 
@@ -165,7 +165,7 @@ fn product(
 {
     let mut at = c;
     let mut m = n;
-    let mut sign: u8 = 0;
+    let mut sign = None;
     loop {
         let r = power(s, language, at, depth, out, m)?;
         let j = join(out, sign, n, r.records, r.string, c.start);
@@ -179,7 +179,7 @@ fn product(
         }
         at = next(s, r.at);
         m = j.records;
-        sign = code;
+        sign = Some(code);
     }
 }
 
@@ -448,7 +448,7 @@ fn call(
     Ok(Read {
         at: r.at,
         records: m + 1,
-        string: 0,
+        string: None,
     })
 }
 
@@ -497,9 +497,9 @@ fn items(
     let mut m = n;
     let mut count: u32 = 0;
     let mut texts = Texts {
-        first: 0,
-        second: 0,
-        third: 0,
+        first: None,
+        second: None,
+        third: None,
     };
     while at.code != close {
         let r = expression(s, language, false, at, depth, out, m)?;
@@ -541,7 +541,7 @@ fn postfixes(
     Ok(Read {
         at,
         records: k,
-        string: 0,
+        string: None,
     })
 }
 
@@ -597,7 +597,7 @@ fn method(
     Ok(Read {
         at: r.at,
         records: k + 1,
-        string: 0,
+        string: None,
     })
 }
 
@@ -623,6 +623,6 @@ fn index(
     Ok(Read {
         at,
         records: k + 1,
-        string: 0,
+        string: None,
     })
 }

@@ -2,6 +2,7 @@
 // right. While the chain is read, each operand waits with the place where its text begins packed into the kind of its last record,
 // its root: memory is bounded by the records, however long the chain is.
 ghost use Rattle.std.specs.Prelude.{◌≡◌, true, ◌+◌, ◌≤◌};
+ghost use Rattle.tokens.specs.Dates.{unless_0};
 ghost use Rattle.reading.specs.Powers.{Marks, Raises, Closes, sign_of, Steps};
 
 use crate::records::{Joined, Kind, Node, join, put};
@@ -69,7 +70,7 @@ fn raise(out: &mut [u32], n: u32, fits: u32, m: u32)
 }
 
 // The end of a chain of `count` operands that wait and the last one, whose records end at m: it is the chain where none waits.
-fn raised(out: &mut [u32], count: u32, n: u32, fits: u32, m: u32, p: u16) -> Joined
+fn raised(out: &mut [u32], count: u32, n: u32, fits: u32, m: u32, p: Option<u16>) -> Joined
     requires { (fits ≤ m) × (m + count ≤ 50000) }
     ensures { Closes out.old count n fits m p result out.new }
 {
@@ -82,7 +83,7 @@ fn raised(out: &mut [u32], count: u32, n: u32, fits: u32, m: u32, p: u16) -> Joi
     raise(out, n, fits, m);
     Joined {
         records: m + count,
-        string: 0,
+        string: None,
     }
 }
 
@@ -92,14 +93,14 @@ fn raised(out: &mut [u32], count: u32, n: u32, fits: u32, m: u32, p: u16) -> Joi
 pub struct Stepped {
     pub records: u32,
     pub fits: u32,
-    pub string: u16,
+    pub string: Option<u16>,
 }
 
 // The sign before an operand, `count` others before it.
-fn sign_of(count: u32) -> u8
-    ensures { result ≡ sign_of count }
+fn sign_of(count: u32) -> Option<u8>
+    ensures { result ≡ unless_0 (sign_of count) }
 {
-    if count == 0 { 0 } else { POWER }
+    if count == 0 { None } else { Some(POWER) }
 }
 
 // One operand, whose records end at m and whose text begins at the place, behind `count` others of a chain that begins at
@@ -113,7 +114,7 @@ pub fn step(
     n: u32,
     fits: u32,
     m: u32,
-    p: u16,
+    p: Option<u16>,
     first: u16,
     place: u16,
 ) -> Stepped
@@ -133,7 +134,7 @@ pub fn step(
         return Stepped {
             records: m,
             fits: e,
-            string: 0,
+            string: None,
         };
     }
     let k = raised(out, count, n, fits, m, p);

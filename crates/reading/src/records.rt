@@ -1,7 +1,7 @@
 // Records in lent memory.
-ghost use Rattle.std.specs.Prelude.{◌≡◌, ◌≤◌};
+ghost use Rattle.std.specs.Prelude.{◌≡◌, ◌≤◌, Some};
 ghost use Rattle.reading.specs.Rows.{kind_number, node_row, put_at, put_row, entry_row, put_entry};
-ghost use Rattle.reading.specs.Joins.{Joins};
+ghost use Rattle.reading.specs.Joins.{Joins, sign_or_0};
 
 // The kinds of records, each with its number. Where a sign joins two records, its kind's number is its token's.
 #[derive(Clone, Copy)]
@@ -153,26 +153,25 @@ pub fn put(out: &mut [u32], n: u32, node: Node)
 #[derive(Clone, Copy)]
 pub struct Joined {
     pub records: u32,
-    pub string: u16,
+    pub string: Option<u16>,
 }
 
 // Joins an operand to those before it, whose records are those from n, by the record of the sign between them, at the
-// place where the first of them begins. The first operand has no sign before it, 0, and stays as it is. The sign is a token's
-// code, and 0 stands for none, as in the clause `Joins`, by which the readers of chains are told.
-pub fn join(out: &mut [u32], sign: u8, n: u32, m: u32, p: u16, place: u16) -> Joined
-    requires { (n ≤ m) × (m ≤ 50000) }
-    ensures { Joins out.old sign n m p place result out.new }
+// place where the first of them begins. The first operand has no sign before it, and stays as it is.
+pub fn join(out: &mut [u32], sign: Option<u8>, n: u32, m: u32, p: Option<u16>, place: u16) -> Joined
+    requires { (n ≤ m) × (m ≤ 50000) × (sign ≡ Some 0 → ⊥) }
+    ensures { Joins out.old (sign_or_0 sign) n m p place result out.new }
 {
-    if sign == 0 {
+    let Some(sign) = sign else {
         return Joined {
             records: m,
             string: p,
         };
-    }
+    };
     put(out, m, plain(sign as u32, m - n + 1, 2, place));
     Joined {
         records: m + 1,
-        string: 0,
+        string: None,
     }
 }
 

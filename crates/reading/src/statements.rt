@@ -62,7 +62,7 @@ fn conditional(
         return Ok(Read {
             at: body.at,
             records: k + 1,
-            string: 0,
+            string: None,
         });
     }
     let other = block(s, language, next(s, body.at), depth - 1, out, k)?;
@@ -72,7 +72,7 @@ fn conditional(
     Ok(Read {
         at: other.at,
         records: j + 1,
-        string: 0,
+        string: None,
     })
 }
 
@@ -105,7 +105,7 @@ fn repetition(
     Ok(Read {
         at: body.at,
         records: k + 1,
-        string: 0,
+        string: None,
     })
 }
 

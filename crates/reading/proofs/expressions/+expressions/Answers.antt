@@ -15,9 +15,9 @@ use Rattle.reading.specs.Meets.{language_of, toks_at}
 use Rattle.reading.specs.Turns.{inner, postfix_turn_at, method_at, index_at}
 use Rattle.reading.proofs.HoldLaws.{start_in, end_in}
 use Rattle.reading.proofs.KindLaws.{kind_some}
-use Rattle.reading.proofs.ChainLaws.{power_level, product_level, sum_level, product_gates, sum_gates, sum_short, tighter_level, looser_level, tighter_some, looser_some, nests_as, nest_refused, nest_numbers, nest_less, nest_tighter, nest_whole_numbers, nest_exit, nest_looser, chain_exit, pend_as, pend_next, pend_refused, pend_numbers, pend_chain, pend_less}
+use Rattle.reading.proofs.ChainLaws.{sign_not_0, power_level, product_level, sum_level, product_gates, sum_gates, sum_short, tighter_level, looser_level, tighter_some, looser_some, nests_as, nest_refused, nest_numbers, nest_less, nest_tighter, nest_whole_numbers, nest_exit, nest_looser, chain_exit, pend_as, pend_next, pend_refused, pend_numbers, pend_chain, pend_less}
 use Rattle.reading.proofs.PowerLaws.{signed_right, powers_first, powers_refused, powers_numbers, powers_exit, powers_less, powers_next}
-use Rattle.reading.proofs.StepLaws.{meets_err, closed_err, turns_err, meets_as, follow_ready, put_fields, behind_read, raisable_two, minus_lone, minus_deep, reads_as, comparison_gates, compare_ready, compare_refused, compare_numbers, compare_last, compare_none, parenthesis_deep, parenthesis_open, parenthesis_closed}
+use Rattle.reading.proofs.StepLaws.{sign_there, sign_none, meets_err, closed_err, turns_err, meets_as, follow_ready, put_fields, behind_read, raisable_two, minus_lone, minus_deep, reads_as, comparison_gates, compare_ready, compare_refused, compare_numbers, compare_last, compare_none, parenthesis_deep, parenthesis_open, parenthesis_closed}
 use Rattle.reading.proofs.ItemLaws.{items_start, items_exit, items_refused, items_numbers, items_wrong, items_less, items_next, shown_inside, arguments_done, arguments_within, call_faulty, call_done, list_0, list_numbers, list_after, list_done, list_tops, pay_start, pay_refused, pay_numbers, pay_less, pay_next, pays_0, pays_ready, pays_refused, pays_done}
 use Rattle.reading.proofs.PostfixLaws.{turns_as, ready_behind, each_inner, index_refuses, index_open, index_numbers, index_reads, method_unnamed, method_refuses, method_none, method_numbers, method_reads, postfix_dot, postfix_low, postfix_index, postfix_fewer, post_enter, post_exit, post_refused, post_more, call_kind_low, name_numbers, name_call}
 use Rattle.reading.proofs.expressions.+expressions.Goals as goal
@@ -47,31 +47,37 @@ pub comparison-returns-in_err-r : goal.comparison-returns-in_err-r
 comparison-returns-in_err-r t c = meets_err _ _ _ _ _ _ _ c.from_residual.ensures.1 (ap (λ (q : Reader Tree). q (toks_at c.args.s.now c.args.c.start)) (comparison_gates _ _ _) ∙ compare_refused _ _ (sum_short _ _ _) _ _ _ _ c.requires _ _ _ _ c.loop-r.invariant.1 _ _ c.in_err-r.ensures)
 
 pub comparison-join-j-requires : goal.comparison-join-j-requires
-comparison-join-j-requires t c = compare_numbers _ _ (sum_short _ _ _) _ _ _ _ c.requires _ _ _ _ c.loop-r.invariant.1 c.in_ok-r.ensures
+comparison-join-j-requires t c =
+    let h = compare_numbers _ _ (sum_short _ _ _) _ _ _ _ c.requires _ _ _ _ c.loop-r.invariant.1 c.in_ok-r.ensures in
+    (h.0, h.1, c.loop-r.invariant.2)
 
-pub comparison-returns-then-sign-ne0 : goal.comparison-returns-then-sign-ne0
-comparison-returns-then-sign-ne0 t c = reads_as _ _ _ _ _ _ _ _ _ (ap (λ (q : Reader Tree). q (toks_at c.args.s.now c.args.c.start)) (comparison_gates _ _ _)) (compare_last _ _ (sum_short _ _ _) _ _ _ _ c.requires _ _ _ _ c.loop-r.invariant.1 c.in_ok-r.ensures _ _ c.join-j.ensures c.if-sign-ne0.true)
+pub comparison-returns-then-is_some : goal.comparison-returns-then-is_some
+comparison-returns-then-is_some t c = reads_as _ _ _ _ _ _ _ _ _ (ap (λ (q : Reader Tree). q (toks_at c.args.s.now c.args.c.start)) (comparison_gates _ _ _)) (compare_last _ _ (sum_short _ _ _) _ _ _ _ c.requires _ _ _ _ c.loop-r.invariant.1 c.in_ok-r.ensures _ _ c.join-j.ensures (sign_there _ (sym c.if-is_some.ensures) c.loop-r.invariant.2))
 
 pub comparison-returns-then-not-is_comparator : goal.comparison-returns-then-not-is_comparator
-comparison-returns-then-not-is_comparator t c = reads_as _ _ _ _ _ _ _ _ _ (ap (λ (q : Reader Tree). q (toks_at c.args.s.now c.args.c.start)) (comparison_gates _ _ _)) (compare_none _ _ (sum_short _ _ _) _ _ _ _ c.requires _ _ _ _ c.loop-r.invariant.1 c.in_ok-r.ensures _ _ c.join-j.ensures c.if-sign-ne0.false (sym c.is_comparator.ensures ∙ c.if-not-is_comparator.true))
+comparison-returns-then-not-is_comparator t c = reads_as _ _ _ _ _ _ _ _ _ (ap (λ (q : Reader Tree). q (toks_at c.args.s.now c.args.c.start)) (comparison_gates _ _ _)) (compare_none _ _ (sum_short _ _ _) _ _ _ _ c.requires _ _ _ _ c.loop-r.invariant.1 c.in_ok-r.ensures _ _ c.join-j.ensures (sign_none _ (sym c.if-is_some.ensures)) (sym c.is_comparator.ensures ∙ c.if-not-is_comparator.true))
 
 pub expression-loop-r-init : goal.expression-loop-r-init
-expression-loop-r-init t c = (refl, nests_as _ _ _ _ _ _ _ _ _ _ c.requires)
+expression-loop-r-init t c = (refl, nests_as _ _ _ _ _ _ _ _ _ _ c.requires, λ z. cc, λ z. cc)
 
 pub expression-returns-in_err-r : goal.expression-returns-in_err-r
 expression-returns-in_err-r t c = meets_err _ _ _ _ _ _ _ c.from_residual.ensures.1 (nest_refused (looser_level _ _ _ _) (tighter_level _ _ _ _) _ c.loop-r.invariant.1 _ _ c.in_err-r.ensures)
 
 pub expression-join-i-requires : goal.expression-join-i-requires
-expression-join-i-requires t c = nest_numbers (looser_level _ _ _ _) (tighter_level _ _ _ _) _ c.loop-r.invariant.1 c.in_ok-r.ensures
+expression-join-i-requires t c =
+    let h = nest_numbers (looser_level _ _ _ _) (tighter_level _ _ _ _) _ c.loop-r.invariant.1 c.in_ok-r.ensures in
+    (h.0, h.1, c.loop-r.invariant.3)
 
 pub expression-loop-r-smaller-then-is_tighter : goal.expression-loop-r-smaller-then-is_tighter
 expression-loop-r-smaller-then-is_tighter t c = nest_less (looser_level (language_of c.args.language.now) c.args.depth _ _) (tighter_level (language_of c.args.language.now) c.args.depth _ _) _ c.loop-r.invariant.1 c.in_ok-r.ensures (tighter_some (language_of c.args.language.now) c.args.depth _ _ _ (sym c.is_tighter.ensures ∙ c.if-is_tighter.true)) c.next-at.result c.next-at.ensures
 
 pub expression-loop-r-preserved-then-is_tighter : goal.expression-loop-r-preserved-then-is_tighter
-expression-loop-r-preserved-then-is_tighter t c = (c.join-i.auto.out ∙ (c.comparison.auto.out ∙ c.loop-r.invariant.0), nest_tighter (looser_level _ _ _ _) (tighter_level _ _ _ _) _ c.loop-r.invariant.1 c.in_ok-r.ensures _ _ c.join-i.ensures (sym c.is_tighter.ensures ∙ c.if-is_tighter.true) _ c.next-at.ensures)
+expression-loop-r-preserved-then-is_tighter t c = (c.join-i.auto.out ∙ (c.comparison.auto.out ∙ c.loop-r.invariant.0), nest_tighter (looser_level _ _ _ _) (tighter_level _ _ _ _) _ c.loop-r.invariant.1 c.in_ok-r.ensures _ _ c.join-i.ensures (sym c.is_tighter.ensures ∙ c.if-is_tighter.true) _ c.next-at.ensures, c.loop-r.invariant.2, sign_not_0 (tighter_level (language_of c.args.language.now) c.args.depth _ _) (sym c.is_tighter.ensures ∙ c.if-is_tighter.true))
 
 pub expression-join-j-requires : goal.expression-join-j-requires
-expression-join-j-requires t c = nest_whole_numbers (looser_level _ _ _ _) (tighter_level _ _ _ _) _ c.loop-r.invariant.1 c.in_ok-r.ensures _ _ c.join-i.ensures (sym c.is_tighter.ensures ∙ c.if-is_tighter.false)
+expression-join-j-requires t c =
+    let h = nest_whole_numbers (looser_level _ _ _ _) (tighter_level _ _ _ _) _ c.loop-r.invariant.1 c.in_ok-r.ensures _ _ c.join-i.ensures (sym c.is_tighter.ensures ∙ c.if-is_tighter.false) in
+    (h.0, h.1, c.loop-r.invariant.2)
 
 pub expression-returns-then-not-is_looser : goal.expression-returns-then-not-is_looser
 expression-returns-then-not-is_looser t c = nest_exit (looser_level _ _ _ _) (tighter_level _ _ _ _) _ c.loop-r.invariant.1 c.in_ok-r.ensures _ _ c.join-i.ensures (sym c.is_tighter.ensures ∙ c.if-is_tighter.false) _ _ c.join-j.ensures (sym c.is_looser.ensures ∙ c.if-not-is_looser.true)
@@ -80,7 +86,7 @@ pub expression-loop-r-smaller : goal.expression-loop-r-smaller
 expression-loop-r-smaller t c = nest_less (looser_level (language_of c.args.language.now) c.args.depth _ _) (tighter_level (language_of c.args.language.now) c.args.depth _ _) _ c.loop-r.invariant.1 c.in_ok-r.ensures (looser_some (language_of c.args.language.now) c.args.depth _ _ _ (sym c.is_looser.ensures ∙ c.if-not-is_looser.false)) c.next-at-in-loop-r.result c.next-at-in-loop-r.ensures
 
 pub expression-loop-r-preserved : goal.expression-loop-r-preserved
-expression-loop-r-preserved t c = (c.join-j.auto.out ∙ (c.join-i.auto.out ∙ (c.comparison.auto.out ∙ c.loop-r.invariant.0)), nest_looser (looser_level _ _ _ _) (tighter_level _ _ _ _) _ c.loop-r.invariant.1 c.in_ok-r.ensures _ _ c.join-i.ensures (sym c.is_tighter.ensures ∙ c.if-is_tighter.false) _ _ c.join-j.ensures (sym c.is_looser.ensures ∙ c.if-not-is_looser.false) _ c.next-at-in-loop-r.ensures)
+expression-loop-r-preserved t c = (c.join-j.auto.out ∙ (c.join-i.auto.out ∙ (c.comparison.auto.out ∙ c.loop-r.invariant.0)), nest_looser (looser_level _ _ _ _) (tighter_level _ _ _ _) _ c.loop-r.invariant.1 c.in_ok-r.ensures _ _ c.join-i.ensures (sym c.is_tighter.ensures ∙ c.if-is_tighter.false) _ _ c.join-j.ensures (sym c.is_looser.ensures ∙ c.if-not-is_looser.false) _ c.next-at-in-loop-r.ensures, sign_not_0 (looser_level (language_of c.args.language.now) c.args.depth _ _) (sym c.is_looser.ensures ∙ c.if-not-is_looser.false), λ z. cc)
 
 pub index-returns-in_err-r : goal.index-returns-in_err-r
 index-returns-in_err-r t c = turns_err _ _ _ _ _ _ c.args.c _ _ c.from_residual.ensures.1 (index_refuses _ _ _ _ c.args.c _ c.in_err-r.ensures)
@@ -261,13 +267,15 @@ pub power-loop-r-preserved : goal.power-loop-r-preserved
 power-loop-r-preserved t c = (c.step-j.auto.out ∙ (c.primary.auto.out ∙ c.loop-r.invariant.0), powers_next (power_level _ _) (primary_low _ _) _ _ _ _ _ _ _ _ _ _ _ c.loop-r.invariant.1 _ _ _ _ c.in_ok-r.ensures _ c.is_power-more.ensures _ _ c.step-j.ensures c.if-not-more.false _ c.next-at.ensures)
 
 pub product-loop-r-init : goal.product-loop-r-init
-product-loop-r-init t c = (refl, pend_as (product_level _ _ _) _ _ (product_gates _ _ _) _ _ _ c.requires)
+product-loop-r-init t c = (refl, pend_as (product_level _ _ _) _ _ (product_gates _ _ _) _ _ _ c.requires, λ z. cc)
 
 pub product-returns-in_err-r : goal.product-returns-in_err-r
 product-returns-in_err-r t c = meets_err _ _ _ _ _ _ _ c.from_residual.ensures.1 (pend_refused (product_level _ _ _) _ c.loop-r.invariant.1 _ _ c.in_err-r.ensures)
 
 pub product-join-j-requires : goal.product-join-j-requires
-product-join-j-requires t c = pend_numbers (product_level _ _ _) _ c.loop-r.invariant.1 c.in_ok-r.ensures
+product-join-j-requires t c =
+    let h = pend_numbers (product_level _ _ _) _ c.loop-r.invariant.1 c.in_ok-r.ensures in
+    (h.0, h.1, c.loop-r.invariant.2)
 
 pub product-returns-then-not-is_product : goal.product-returns-then-not-is_product
 product-returns-then-not-is_product t c = chain_exit (product_level _ _ _) _ (pend_chain (product_level _ _ _) _ c.loop-r.invariant.1 c.in_ok-r.ensures _ _ c.join-j.ensures) (sym c.is_product.ensures ∙ c.if-not-is_product.true)
@@ -276,16 +284,18 @@ pub product-loop-r-smaller : goal.product-loop-r-smaller
 product-loop-r-smaller t c = pend_less (product_level _ _ _) _ c.loop-r.invariant.1 c.in_ok-r.ensures (sym c.is_product.ensures ∙ c.if-not-is_product.false) _ c.next-at.ensures
 
 pub product-loop-r-preserved : goal.product-loop-r-preserved
-product-loop-r-preserved t c = (c.join-j.auto.out ∙ (c.power.auto.out ∙ c.loop-r.invariant.0), pend_next (product_level _ _ _) _ (pend_chain (product_level _ _ _) _ c.loop-r.invariant.1 c.in_ok-r.ensures _ _ c.join-j.ensures) (sym c.is_product.ensures ∙ c.if-not-is_product.false) _ c.next-at.ensures)
+product-loop-r-preserved t c = (c.join-j.auto.out ∙ (c.power.auto.out ∙ c.loop-r.invariant.0), pend_next (product_level _ _ _) _ (pend_chain (product_level _ _ _) _ c.loop-r.invariant.1 c.in_ok-r.ensures _ _ c.join-j.ensures) (sym c.is_product.ensures ∙ c.if-not-is_product.false) _ c.next-at.ensures, sign_not_0 (product_level (language_of c.args.language.now) c.args.depth _) (sym c.is_product.ensures ∙ c.if-not-is_product.false))
 
 pub sum-loop-r-init : goal.sum-loop-r-init
-sum-loop-r-init t c = (refl, pend_as (sum_level _ _ _) _ _ (sum_gates _ _ _) _ _ _ c.requires)
+sum-loop-r-init t c = (refl, pend_as (sum_level _ _ _) _ _ (sum_gates _ _ _) _ _ _ c.requires, λ z. cc)
 
 pub sum-returns-in_err-r : goal.sum-returns-in_err-r
 sum-returns-in_err-r t c = meets_err _ _ _ _ _ _ _ c.from_residual.ensures.1 (pend_refused (sum_level _ _ _) _ c.loop-r.invariant.1 _ _ c.in_err-r.ensures)
 
 pub sum-join-j-requires : goal.sum-join-j-requires
-sum-join-j-requires t c = pend_numbers (sum_level _ _ _) _ c.loop-r.invariant.1 c.in_ok-r.ensures
+sum-join-j-requires t c =
+    let h = pend_numbers (sum_level _ _ _) _ c.loop-r.invariant.1 c.in_ok-r.ensures in
+    (h.0, h.1, c.loop-r.invariant.2)
 
 pub sum-returns-then-not-is_sum : goal.sum-returns-then-not-is_sum
 sum-returns-then-not-is_sum t c = chain_exit (sum_level _ _ _) _ (pend_chain (sum_level _ _ _) _ c.loop-r.invariant.1 c.in_ok-r.ensures _ _ c.join-j.ensures) (sym c.is_sum.ensures ∙ c.if-not-is_sum.true)
@@ -294,7 +304,7 @@ pub sum-loop-r-smaller : goal.sum-loop-r-smaller
 sum-loop-r-smaller t c = pend_less (sum_level _ _ _) _ c.loop-r.invariant.1 c.in_ok-r.ensures (sym c.is_sum.ensures ∙ c.if-not-is_sum.false) _ c.next-at.ensures
 
 pub sum-loop-r-preserved : goal.sum-loop-r-preserved
-sum-loop-r-preserved t c = (c.join-j.auto.out ∙ (c.product.auto.out ∙ c.loop-r.invariant.0), pend_next (sum_level _ _ _) _ (pend_chain (sum_level _ _ _) _ c.loop-r.invariant.1 c.in_ok-r.ensures _ _ c.join-j.ensures) (sym c.is_sum.ensures ∙ c.if-not-is_sum.false) _ c.next-at.ensures)
+sum-loop-r-preserved t c = (c.join-j.auto.out ∙ (c.product.auto.out ∙ c.loop-r.invariant.0), pend_next (sum_level _ _ _) _ (pend_chain (sum_level _ _ _) _ c.loop-r.invariant.1 c.in_ok-r.ensures _ _ c.join-j.ensures) (sym c.is_sum.ensures ∙ c.if-not-is_sum.false) _ c.next-at.ensures, sign_not_0 (sum_level (language_of c.args.language.now) c.args.depth _) (sym c.is_sum.ensures ∙ c.if-not-is_sum.false))
 
 pub signed-returns-then-is_raised : goal.signed-returns-then-is_raised
 signed-returns-then-is_raised t c = meets_as _ _ _ _ _ _ _ (ap (λ (q : Reader Tree). q (toks_at c.args.s.now c.args.c.start)) (signed_right _ _ _ _ _ (raisable_two _ c.args.c.code (sym c.is_raised.ensures ∙ c.if-is_raised.true)))) c.expression.ensures

@@ -4,12 +4,14 @@ use lib.ListN.{length}
 use Rattle.reading.specs.Meets.{toks_at, language_of, Ready}
 use mathlib.Core.List.{List}
 use mathlib.Core.Path.{◌≡◌}
+use Rattle.std.specs.Prelude.{Some}
 use Rattle.grammar.specs.Trees.{Tree}
 use Rattle.grammar.specs.Readers.{Out}
 use Rattle.grammar.specs.Grammar as G
 use Rattle.reading.proofs.StepLaws.{Compares}
 use Rattle.reading.proofs.PowerLaws.{Powers}
 use Rattle.reading.proofs.ChainLaws.{plus_or_minus, times_or_by, tighter, looser, Nests, Pending}
+use Rattle.reading.specs.Joins.{sign_or_0}
 use Rattle.reading.specs.Signs.{tighter_sign, looser_sign, sum_sign, product_sign}
 use Rattle.reading.specs.Turns.{power_at, product_or, sum_or, comparison_or, expression_or, items_by, inner}
 use Rattle.reading.proofs.ItemLaws.{ItemChain, PayChain}
@@ -74,13 +76,13 @@ abbrev pub decreases-sum : goal.decreases-sum
 decreases-sum l = 32 * l.depth + 8
 
 abbrev pub invariant-comparison-loop-r : goal.invariant-comparison-loop-r
-invariant-comparison-loop-r l = (length l.out ≡ length l.initial.out) × Compares l.alone (sum_or l.alone (language_of l.language) l.depth) l.s l.initial.at l.n l.initial.out l.sign l.at l.m l.out
+invariant-comparison-loop-r l = (length l.out ≡ length l.initial.out) × Compares l.alone (sum_or l.alone (language_of l.language) l.depth) l.s l.initial.at l.n l.initial.out (sign_or_0 l.sign) l.at l.m l.out × (l.sign ≡ Some 0 → ⊥)
 
 abbrev pub decreases-comparison-loop-r : goal.decreases-comparison-loop-r
-decreases-comparison-loop-r l = 1 - l.sign
+decreases-comparison-loop-r l = 1 - sign_or_0 l.sign
 
 abbrev pub invariant-expression-loop-r : goal.invariant-expression-loop-r
-invariant-expression-loop-r l = (length l.out ≡ length l.initial.out) × Nests (looser l.language.two l.alone) (tighter l.language.two l.alone) (looser_sign l.language.two l.alone) (tighter_sign l.language.two l.alone) (comparison_or l.alone (language_of l.language) l.depth) l.s l.initial.at.start (expression_or l.alone (language_of l.language) l.depth (toks_at l.s l.initial.at.start)) l.n l.initial.out l.sign l.tight l.from l.place l.at l.m l.out
+invariant-expression-loop-r l = (length l.out ≡ length l.initial.out) × Nests (looser l.language.two l.alone) (tighter l.language.two l.alone) (looser_sign l.language.two l.alone) (tighter_sign l.language.two l.alone) (comparison_or l.alone (language_of l.language) l.depth) l.s l.initial.at.start (expression_or l.alone (language_of l.language) l.depth (toks_at l.s l.initial.at.start)) l.n l.initial.out (sign_or_0 l.sign) (sign_or_0 l.tight) l.from l.place l.at l.m l.out × (l.sign ≡ Some 0 → ⊥) × (l.tight ≡ Some 0 → ⊥)
 
 abbrev pub decreases-expression-loop-r : goal.decreases-expression-loop-r
 decreases-expression-loop-r l = length (toks_at l.s l.at.start)
@@ -110,13 +112,13 @@ abbrev pub decreases-power-loop-r : goal.decreases-power-loop-r
 decreases-power-loop-r l = length (toks_at l.s l.at.start)
 
 abbrev pub invariant-product-loop-r : goal.invariant-product-loop-r
-invariant-product-loop-r l = (length l.out ≡ length l.initial.out) × Pending (times_or_by l.alone) (product_sign l.alone) (power_at (language_of l.language) l.depth) l.s l.initial.at.start (product_or l.alone (language_of l.language) l.depth (toks_at l.s l.initial.at.start)) l.n l.initial.out l.sign l.at l.m l.out
+invariant-product-loop-r l = (length l.out ≡ length l.initial.out) × Pending (times_or_by l.alone) (product_sign l.alone) (power_at (language_of l.language) l.depth) l.s l.initial.at.start (product_or l.alone (language_of l.language) l.depth (toks_at l.s l.initial.at.start)) l.n l.initial.out (sign_or_0 l.sign) l.at l.m l.out × (l.sign ≡ Some 0 → ⊥)
 
 abbrev pub decreases-product-loop-r : goal.decreases-product-loop-r
 decreases-product-loop-r l = length (toks_at l.s l.at.start)
 
 abbrev pub invariant-sum-loop-r : goal.invariant-sum-loop-r
-invariant-sum-loop-r l = (length l.out ≡ length l.initial.out) × Pending (plus_or_minus l.alone) (sum_sign l.alone) (product_or l.alone (language_of l.language) l.depth) l.s l.initial.at.start (sum_or l.alone (language_of l.language) l.depth (toks_at l.s l.initial.at.start)) l.n l.initial.out l.sign l.at l.m l.out
+invariant-sum-loop-r l = (length l.out ≡ length l.initial.out) × Pending (plus_or_minus l.alone) (sum_sign l.alone) (product_or l.alone (language_of l.language) l.depth) l.s l.initial.at.start (sum_or l.alone (language_of l.language) l.depth (toks_at l.s l.initial.at.start)) l.n l.initial.out (sign_or_0 l.sign) l.at l.m l.out × (l.sign ≡ Some 0 → ⊥)
 
 abbrev pub decreases-sum-loop-r : goal.decreases-sum-loop-r
 decreases-sum-loop-r l = length (toks_at l.s l.at.start)
