@@ -1,8 +1,8 @@
 -- `line_of` counts line feeds: so far it has the line of the place that it has come to.
 use mathlib.Core.Path.{ap, ◌∙◌}
-use Prim.Native.Nat.{ℕ, ◌+◌, ◌<◌}
+use Prim.Native.Nat.{ℕ, ◌+◌}
 use native.Mathlib.Omega.{arith}
-use lib.ListN.{length, take, length-take}
+use lib.ListN.{take, length-take}
 use borrow.Author.Rules.{rules}
 use Rattle.tokens.proofs.PlaceLaws.{line_first, line_fed, line_on, line_whole, line_within}
 use Rattle.tokens.proofs.places.line_of.Goals as goal

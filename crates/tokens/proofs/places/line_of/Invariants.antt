@@ -1,6 +1,5 @@
 -- `line_of` counts line feeds: so far it has the line of the place that it has come to.
 use mathlib.Core.Path.{◌≡◌}
-use lib.ListN.{length}
 use Rattle.tokens.specs.Places.{line as line_at}
 use Rattle.tokens.proofs.places.line_of.Given as goal
 
