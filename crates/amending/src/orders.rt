@@ -93,11 +93,12 @@ fn latest_entry(directory: &[u32], number: usize) -> usize
     requires { entry_width * number ≤ length directory.now }
     ensures { result ≡ latest_of (rows_from number directory.now) }
 {
-    let mut latest = 0;
+    // The words as they are, since the compiler takes several of 32 bits at once.
+    let mut latest: u32 = 0;
     for k in 0..number {
-        latest = Row::at(directory, k).latest.max(latest);
+        latest = directory[ENTRY_WIDTH * k + 4].max(latest);
     }
-    latest
+    latest as usize
 }
 
 // The latest date of a directory of `number` entries in which one of the date `gone` was replaced by others, whose latest is

@@ -6,11 +6,11 @@ use crate::records::Node;
 use tokens::cursor::Cursor;
 use tokens::refusals::{Ground, Refusal};
 
-// A refusal inside a statement.
+// A refusal inside a statement. Its byte has 32 bits, so that a Result of a reader moves it as one word.
 #[derive(Clone, Copy)]
 pub struct Fault {
     pub cause: Ground,
-    pub byte: u16,
+    pub byte: u32,
 }
 
 impl Fault {
@@ -20,7 +20,7 @@ impl Fault {
     {
         Fault {
             cause,
-            byte: c.start,
+            byte: c.start as u32,
         }
     }
 

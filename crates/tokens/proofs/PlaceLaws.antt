@@ -3,11 +3,13 @@ use Rattle.std.specs.Prelude.{if◌then◌else◌}
 use mathlib.Core.Path.{◌≡◌, refl, sym, ap, ◌∙◌}
 use mathlib.Core.Bool.{Bool, true, false, cond, not}
 use mathlib.Core.List.{List, [], ◌∷◌, ◌++◌, reverse}
-use Prim.Native.Nat.{ℕ, suc, ◌+◌, ◌≤◌, min}
+use Prim.Native.Nat.{ℕ, suc, ◌+◌, ◌≤◌, ◌<◌, min}
 use native.Mathlib.Nat.{min-le_left}
+use native.Mathlib.Numerals.{add-one}
 use native.Mathlib.Omega.{arith}
 use lib.Dec.{eqb}
-use lib.ListN.{length, take, length-take}
+use lib.ListN.{length, take, get_or, length-take}
+use lib.Seq.{take_all, take-suc}
 use borrow.Author.Tests.{eq-eqb, ne_eqb, eqb-true, eqb-false}
 use Rattle.tokens.specs.Text.{count, continuation}
 use Rattle.tokens.specs.Places.{line, since, column}
@@ -15,14 +17,31 @@ use Rattle.std.specs.List.{take_while}
 use Rattle.std.proofs.lemmas.List.{reverse-reverse, take_min}
 use Rattle.std.proofs.lemmas.Grind.{reverse_onto}
 use Rattle.std.proofs.lemmas.List.Sums.{take_while-cons}
-use Rattle.tokens.proofs.TextLaws.{count_few}
+use Rattle.tokens.proofs.TextLaws.{count_few, count_join}
 
 -- ---- the line
 
--- n line feeds stand before the place
-pub line_counted : (s : List ℕ) (at i n : ℕ) → i ≡ min at (length s) → n ≡ count (eqb 10) (take i s) → 1 + n ≡ line s at
+pub line_first : (s : List ℕ) → 1 ≡ line s 0
+unfolding line count
+line_first s = refl
+
+module _ (s : List ℕ) (i : ℕ) (h : i < length s) where
+  line_next : line s (i + 1) ≡ line s i + count (eqb 10) (get_or s i 0 ∷ [])
+  unfolding line
+  line_next = rw (add-one i, take-suc s i 0 h) (omega (arith, count_join (eqb 10) (take i s) (get_or s i 0 ∷ [])))
+
+  pub line_fed : get_or s i 0 ≡ 10 → line s i + 1 ≡ line s (i + 1)
+  unfolding count
+  line_fed q = sym (line_next ∙ rw (eq-eqb 10 _ (sym q)) (omega arith))
+
+  pub line_on : (get_or s i 0 ≡ 10 → ⊥) → line s i ≡ line s (i + 1)
+  unfolding count
+  line_on q = sym (line_next ∙ rw (ne_eqb 10 _ (λ p. q (sym p))) (omega arith))
+
+-- the bytes before the place are passed
+pub line_whole : (s : List ℕ) (at e i : ℕ) → e ≡ min at (length s) → length (take e s) ≤ i → line (take e s) i ≡ line s at
 unfolding line
-line_counted s at i n e h = rw (h, e, take_min at s) (omega arith)
+line_whole s at e i h l = rw (take_all i (take e s) l, h, take_min at s)
 
 -- ---- the column
 

@@ -121,7 +121,8 @@ fn is_double(list: &[u8], at: usize, e: usize, slot: u8) -> bool
 }
 
 // Not too many names, each good, none twice: in one walk, with the slots of the names passed, a table and no set, since there is
-// no heap.
+// no heap. Not inlined, since the slots would then lie in the frame of the reader, below all that it reads.
+#[inline(never)]
 fn are_good(money: bool, list: &[u8]) -> bool
     ensures { result ≡ good_names money (names list.now) }
 {

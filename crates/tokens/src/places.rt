@@ -10,11 +10,17 @@ pub struct Place {
     pub column: usize,
 }
 
-// Counting alone, so that the compiler takes many bytes at once.
+// Counting alone, so that the compiler takes many bytes at once, which it does not where a filter is counted.
 fn line_of(s: &[u8], at: usize) -> usize
     ensures { result ≡ line s.now at }
 {
-    1 + s[..at.min(s.len())].iter().filter(|&&b| b == b'\n').count()
+    let mut line = 1;
+    for &b in &s[..at.min(s.len())] {
+        if b == b'\n' {
+            line += 1;
+        }
+    }
+    line
 }
 
 // From the place back to the line feed before it, so that the lines before are not walked.

@@ -1,15 +1,29 @@
--- `line_of` counts line feeds among the bytes before the place.
-use mathlib.Core.Path.{◌≡◌, sym, ◌∙◌}
+-- `line_of` counts line feeds: so far it has the line of the place that it has come to.
+use mathlib.Core.Path.{ap, ◌∙◌}
+use Prim.Native.Nat.{ℕ, ◌+◌}
+use native.Mathlib.Omega.{arith}
+use lib.ListN.{take, length-take}
 use borrow.Author.Rules.{rules}
-use lib.Dec.{eqb}
-use lib.ListN.{take}
-use Rattle.std.specs.List.{count_by}
-use Rattle.std.proofs.iter.runs.Made.{chains}
-use Rattle.tokens.proofs.Chains.{count_is}
-use Rattle.tokens.proofs.PlaceLaws.{line_counted}
+use Rattle.tokens.proofs.PlaceLaws.{line_first, line_fed, line_on, line_whole, line_within}
 use Rattle.tokens.proofs.places.line_of.Goals as goal
+use Rattle.tokens.proofs.places.line_of.Goals.{then-b-eq10, else-b-eq10}
+
+pub loop-b-init : goal.loop-b-init
+loop-b-init c = line_first _
+
+pub overflow_add-line : goal.overflow_add-line
+overflow_add-line c = grind (arith, line_within (take c.min.result c.args.s.now) c.loop-b.b-index, length-take c.min.result c.args.s.now)
+
+pub loop-b-preserved : goal.loop-b-preserved
+loop-b-preserved c =
+    let l = c.loop-b in
+    let t = take c.min.result c.args.s.now in
+    elim c.if-b-eq10.branch [
+      | then-b-eq10 w ↦ w.line-is ∙ ap (λ (n : ℕ). n + 1) l.invariant ∙ line_fed t l.b-index c.loop-b-test.true w.if-b-eq10.true
+      | else-b-eq10 w ↦ w.line-is ∙ l.invariant ∙ line_on t l.b-index c.loop-b-test.true w.if-b-eq10.false
+    ]
 
 pub returns : goal.returns
 returns c =
-    let e : c.count.result ≡ count_by (eqb 10) (take c.min.result c.args.s.now) = search (rules, chains) in
-    line_counted c.args.s.now c.args.at _ _ c.min.ensures (e ∙ sym (count_is (eqb 10) _))
+    let l = c.loop-b in
+    l.invariant ∙ line_whole c.args.s.now c.args.at c.min.result l.b-index c.min.ensures (search rules)
