@@ -1,16 +1,16 @@
 -- Laws of words in lines: what a text put behind another makes, and what is left of a line or of the records.
-use mathlib.Core.Path.{◌≡◌, refl, sym, ap, ◌∙◌, subst}
+use mathlib.Core.Path.{◌≡◌, refl, sym, ap, ◌∙◌}
 use mathlib.Core.List.{List, [], ◌∷◌, ◌++◌, map, append_assoc, append-nil}
 use Prim.Native.Nat.{ℕ, zero, suc, ◌+◌, ◌-◌, ◌*◌, ◌/◌, ◌%◌, ◌^◌, ◌≤◌, ◌<◌}
 use native.Mathlib.Numerals.{add-one}
 use native.Mathlib.Omega.{arith}
-use lib.ListN.{length, get_or, take, drop, set, length-append, length-take, length-drop, length-set, drop_of_length-le}
-use lib.Seq.{take-suc, take-suc-set, take_all, drop-cons, get_or-set_same, get_or-drop, drop-set-lt, take-add, drop-drop, length-take-le}
+use lib.ListN.{length, get_or, take, drop, length-append, length-take, length-drop, drop_of_length-le}
+use lib.Seq.{drop-cons, length-take-le}
 use Rattle.std.specs.List.{range_with_len}
 use Rattle.std.proofs.Common.{take_at, drop_at}
 use Rattle.std.proofs.lemmas.List.FromFn.{fill_by_all}
 use Rattle.grammar.specs.Sizes.{record_width}
-use Rattle.listing.specs.Lines.{hex_digit_ascii, last_digits, word_bytes, record_bytes, word, gap_of, line, record_lines, Appended}
+use Rattle.listing.specs.Lines.{hex_digit_ascii, word_bytes, record_bytes, word, gap_of, line, record_lines, Appended}
 
 -- ---- text behind text
 
@@ -27,9 +27,6 @@ pub record Going (o : List ℕ) (n : ℕ) (whole : List ℕ) (m : ℕ) (o' rest 
   pub size : length o' ≡ length o
   pub left : m + length rest ≡ n + length whole
   pub bytes : take m o' ++ rest ≡ take n o ++ whole
-
-pub going_start : (o : List ℕ) (n : ℕ) (whole : List ℕ) → Going o n whole n o whole
-going_start o n whole = record { size = refl; left = refl; bytes = refl }
 
 pub going_on : {o o' o'' whole rest s next : List ℕ} {n m l : ℕ} → Going o n whole m o' rest → rest ≡ s ++ next → Appended o' m s l o''
     → Going o n whole l o'' next
@@ -117,22 +114,19 @@ line_more ws i h =
 
 module _ {o o' : List ℕ} {n m : ℕ} (ws : List ℕ) (i : ℕ) (g : Going o n (line ws) m o' (line (drop i ws))) where
   -- there is room for a word
-  pub line_room : {ds : List ℕ} → i < length ws → n + word_bytes * length ws ≤ length o → ds ≡ word (get_or ws i 0) → m + length ds ≤ length o'
-  line_room h fits e =
-      omega (arith, ap length e, word_length (get_or ws i 0), g.size, g.left, line_length ws, line_length (drop i ws), length-drop i ws)
+  pub line_room : i < length ws → n + word_bytes * length ws ≤ length o → m + 8 ≤ length o'
+  line_room h fits = omega (arith, g.size, g.left, line_length ws, line_length (drop i ws), length-drop i ws)
 
   -- and behind it for what stands there
-  pub gap_room : {o₁ ds : List ℕ} {l : ℕ} → i < length ws → n + word_bytes * length ws ≤ length o → ds ≡ word (get_or ws i 0)
-      → Appended o' m ds l o₁ → l + 1 ≤ length o₁
-  gap_room h fits e x =
-      omega (arith, x.size, x.end, ap length e, word_length (get_or ws i 0), g.size, g.left, line_length ws, line_length (drop i ws), length-drop i ws)
+  pub gap_room : {o₁ : List ℕ} {l : ℕ} → i < length ws → n + word_bytes * length ws ≤ length o → Appended o' m (word (get_or ws i 0)) l o₁ → l + 1 ≤ length o₁
+  gap_room h fits x =
+      omega (arith, x.size, x.end, word_length (get_or ws i 0), g.size, g.left, line_length ws, line_length (drop i ws), length-drop i ws)
 
   -- both were put
-  pub line_on : {o₁ o₂ ds : List ℕ} {l k b : ℕ} → i < length ws → ds ≡ word (get_or ws i 0) → Appended o' m ds l o₁
-      → b ≡ gap_of (length ws - i - 1) → Appended o₁ l (b ∷ []) k o₂ → Going o n (line ws) k o₂ (line (drop (i + 1) ws))
-  line_on {ds = ds} h e x f y =
-      going_on g (line_more ws i h ∙ ap (λ (u : List ℕ). u ++ line (drop (i + 1) ws)) (ap (λ (u : List ℕ). u ++ (gap_of (length ws - i - 1) ∷ [])) (sym e) ∙ ap (λ (c : ℕ). ds ++ (c ∷ [])) (sym f)))
-      (put_two x y)
+  pub line_on : {o₁ o₂ : List ℕ} {l k b : ℕ} → i < length ws → Appended o' m (word (get_or ws i 0)) l o₁ → b ≡ gap_of (length ws - i - 1)
+      → Appended o₁ l (b ∷ []) k o₂ → Going o n (line ws) k o₂ (line (drop (i + 1) ws))
+  line_on h x f y =
+      going_on g (line_more ws i h ∙ ap (λ (c : ℕ). (word (get_or ws i 0) ++ (c ∷ [])) ++ line (drop (i + 1) ws)) (sym f)) (put_two x y)
 
   pub line_done : length ws ≤ i → Appended o n (line ws) m o'
   unfolding line

@@ -1,5 +1,6 @@
 // Lines of words. Each function puts text behind the first `at` bytes of `out`, and answers how many bytes there are then.
-ghost use Rattle.std.specs.Prelude.{[], ◌∷◌, ◌≡◌, ◌+◌, ◌*◌, ◌≤◌, ◌<◌, length, take};
+// The text stands in a lent buffer of a fixed size, and in no `String`: `put_line`, `put_records` and `list` cannot fail.
+ghost use Rattle.std.specs.Prelude.{◌≡◌, ◌+◌, ◌*◌, ◌≤◌, ◌<◌, length};
 ghost use Rattle.grammar.specs.Sizes.{record_width};
 ghost use Rattle.listing.specs.Lines.{word_bytes, record_bytes, hex_digit_ascii, word, gap_of, line, record_lines, Appended};
 
@@ -22,7 +23,11 @@ fn digit(d: u64) -> u8
     requires { d < 16 }
     ensures { result ≡ hex_digit_ascii d }
 {
-    if d < 10 { b'0' + d as u8 } else { b'a' - 10 + d as u8 }
+    if d < 10 {
+        b'0' + d as u8
+    } else {
+        b'a' - 10 + d as u8
+    }
 }
 
 // The last eight hexadecimal digits of a number.
@@ -31,6 +36,13 @@ fn digits(w: u64) -> [u8; 8]
     ensures { result ≡ word w }
 {
     array::from_fn(|i| digit((w >> (28 - 4 * i)) % 16))
+}
+
+fn put_word(out: &mut [u8], at: usize, w: u64) -> usize
+    requires { at + 8 ≤ length out.old }
+    ensures { Appended out.old at (word w) result out.new }
+{
+    put(out, at, &digits(w))
 }
 
 // What stands behind a word, if so many words follow on its line.
@@ -46,7 +58,7 @@ pub fn put_line(out: &mut [u8], at: usize, words: &[u64]) -> usize
 {
     let mut k = at;
     for (i, &w) in words.iter().enumerate() {
-        k = put(out, k, &digits(w));
+        k = put_word(out, k, w);
         k = put(out, k, &[gap(words.len() - i - 1)]);
     }
     k

@@ -38,8 +38,7 @@ fn list_acceptance(a: Answer, records: &[u32], out: &mut [u8]) -> usize
     put_records(out, k, records, a.records)
 }
 
-// Puts the listing of a script at the start of `out`, and answers its length. It is lent `out`, and makes no `String`: memory is
-// fixed, so `list` cannot fail.
+// Puts the listing of a script at the start of `out`, and answers its length.
 pub fn list(script: &[u8], out: &mut [u8]) -> usize
     requires { longest ≤ length out.old }
     ensures { Appended out.old 0 (listing script.now) result out.new }

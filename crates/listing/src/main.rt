@@ -79,7 +79,7 @@ fn write_listing<R: Read, W: Write>(input: &mut R, output: &mut W) -> Result<(),
     ensures { OnOk result (IfSome (R.remaining input.old) (λ bs. Appends (W.contents output.old) (W.contents output.new) (listing bs))) }
 {
     let mut script = [0u8; SCRIPT_ROOM];
-    // No `String`: memory for one may be wanting, and no listing may fail for that.
+    // A buffer of a fixed size, and no `String`: `list` cannot fail, as it would where memory for one is wanting.
     let mut text = [0u8; TEXT_ROOM];
     let listed = list_input(input, &mut script, &mut text).map_err(Failed::Read)?;
     output
