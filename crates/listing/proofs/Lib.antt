@@ -1,6 +1,5 @@
 -- Laws of lines and of the listing.
 pub mod InputLaws
-pub mod HexLaws
 pub mod LineLaws
 pub mod ListingLaws
 pub mod CutLaws

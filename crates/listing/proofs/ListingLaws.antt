@@ -2,13 +2,13 @@
 use Rattle.std.specs.Prelude.{if◌then◌else◌}
 use mathlib.Core.Path.{◌≡◌, refl, ap, ◌∙◌}
 use mathlib.Core.Bool.{Bool, true, false}
-use mathlib.Core.List.{List, [], ◌∷◌, ◌++◌, append_assoc}
-use Prim.Native.Nat.{ℕ, zero, suc, ◌*◌, ◌%◌, ◌^◌, ◌≤◌}
+use mathlib.Core.List.{List, ◌++◌}
+use Prim.Native.Nat.{ℕ, zero, suc, ◌*◌, ◌≤◌}
 use native.Mathlib.Omega.{arith}
 use lib.Dec.{ltb}
 use lib.ListN.{length, take, drop, length-drop}
 use lib.Seq.{take-append-le, drop-append-le}
-use borrow.Author.Tests.{ltb-false}
+use borrow.Author.Tests.{eq-eqb, ne_eqb, ltb-false}
 use Rattle.tokens.specs.Text.{script}
 use Rattle.grammar.specs.Sizes.{record_width, entry_width, record_room, statement_room, most_records, most_statements}
 use Rattle.grammar.specs.Grammar.{one}
@@ -16,7 +16,6 @@ use Rattle.grammar.specs.Script.{Outcome, accepted, refused, fitting, read_scrip
 use Rattle.grammar.specs.Words.{words_of}
 use Rattle.reading.specs.Reading.{answer_to, left_by, Leaves}
 use Rattle.reading.specs.declared.reading.Answer.{Answer}
-use Rattle.listing.proofs.LineLaws.{word_low}
 use Rattle.grammar.proofs.WordLaws.{words_length}
 use Rattle.listing.specs.Lines.{line, record_lines}
 use Rattle.listing.specs.Listing.{own_lists, accepted_lines, refused_line, answer_lines, words_read, reading_lines, listing}
@@ -64,19 +63,12 @@ module _ (bs o d o' d' : List ℕ) (a : Answer) (records-lent : length o ≡ rec
   records_few =
       rw (L.answer, room) (fitting_few bs (length (script bs)) most_records most_statements (read_script one own_lists bs))
 
-  pub listed : answer_lines a o' ≡ listing bs
+  listed : answer_lines a o' ≡ listing bs
   unfolding listing room
   listed = rw (L.answer, L.records, room) (lines_left bs o (reading_in one own_lists most_records most_statements bs))
 
--- ---- the words of a line
+  pub listed_accepted : a.number ≡ 0 → accepted_lines a o' ≡ listing bs
+  listed_accepted h = (simp (eq-eqb a.number 0 h)) ∙ listed
 
--- what is cut from the numbers of a refusal and of an acceptance is no part of their words
-pub refusal_low : (a : Answer) (byte row column : ℕ) → byte ≡ a.byte % 2 ^ 32 → row ≡ a.line % 2 ^ 32 → column ≡ a.column % 2 ^ 32
-    → line (a.number ∷ byte ∷ row ∷ column ∷ []) ≡ refused_line a
-unfolding refused_line line
-refusal_low a byte row column e f g = rw (e, f, g, word_low a.byte, word_low a.line, word_low a.column)
-
-pub acceptance_low : (a : Answer) (t ws : List ℕ) (statements records tokens : ℕ) → statements ≡ a.statements % 2 ^ 32 → records ≡ a.records % 2 ^ 32 → tokens ≡ a.tokens % 2 ^ 32
-    → (t ++ line (statements ∷ records ∷ tokens ∷ [])) ++ record_lines a.records ws ≡ t ++ accepted_lines a ws
-unfolding accepted_lines line
-acceptance_low a t ws statements records tokens e f g = append_assoc t (line (statements ∷ records ∷ tokens ∷ [])) (record_lines a.records ws) ∙ rw (e, f, g, word_low a.statements, word_low a.records, word_low a.tokens)
+  pub listed_refused : (a.number ≡ 0 → ⊥) → refused_line a ≡ listing bs
+  listed_refused h = (simp (ne_eqb a.number 0 h)) ∙ listed

@@ -1,5 +1,5 @@
 -- What reading an input leaves, and its listing.
-use Rattle.std.specs.Prelude.{◌≡◌, List, ℕ, ◌<◌, ◌≤◌, length, take, Option, Result, IfOk, string_bytes}
+use Rattle.std.specs.Prelude.{◌≡◌, List, ℕ, ◌<◌, ◌≤◌, length, take, Option, Result, IfOk}
 use Rattle.std.specs.Io.KnownBytes.{Consumes, IsAtEnd}
 use Rattle.listing.specs.Listing.{listing}
 use Rattle.listing.specs.declared.Listed.{Listed}
@@ -23,6 +23,5 @@ pub record Lists (n k : ℕ) (s t : List ℕ) : Type 0 where
   pub size : IsPrefixLen k t
   pub lines : (input : List ℕ) → take 16385 input ≡ take n s → take k t ≡ listing input
 
--- the whole text is to be written
-abbrev pub ListsInput : {E : Type 0} → Result Listed E → List ℕ → Type 0
-ListsInput r s = IfOk r (λ l. Lists l.came (length (string_bytes l.lines)) s (string_bytes l.lines))
+abbrev pub ListsInput : {E : Type 0} → Result Listed E → List ℕ → List ℕ → Type 0
+ListsInput r s t = IfOk r (λ l. Lists l.came l.lines s t)

@@ -1,5 +1,5 @@
 -- The listing of a script.
-use Rattle.std.specs.Prelude.{List, [], ◌∷◌, ◌++◌, ℕ, eqb, if◌then◌else◌}
+use Rattle.std.specs.Prelude.{List, [], ◌∷◌, ◌++◌, ℕ, ◌+◌, ◌*◌, eqb, if◌then◌else◌}
 use Rattle.tokens.specs.Names.{Lists}
 use Rattle.grammar.specs.Sizes.{most_records, most_statements}
 use Rattle.grammar.specs.Grammar.{one}
@@ -8,7 +8,7 @@ use Rattle.grammar.specs.Words.{words_of}
 use Rattle.reading.specs.Judging.{lists_in}
 use Rattle.reading.specs.Reading.{answer_to}
 use Rattle.reading.specs.declared.reading.Answer.{Answer}
-use Rattle.listing.specs.Lines.{line, record_lines}
+use Rattle.listing.specs.Lines.{word_bytes, record_bytes, line, record_lines}
 
 -- "no reserved words; USD, EUR; no day counters"
 abbrev pub own_lists : Lists
@@ -38,3 +38,7 @@ reading_lines bs R = answer_lines (answer_to (number_of one) bs R) (words_read R
 -- of a script of the first edition, with room for all that the capacities allow
 unfoldable pub listing : List ℕ → List ℕ
 listing bs = reading_lines bs (reading_in one own_lists most_records most_statements bs)
+
+-- how long a listing can be: the line of three words, and one for each record that there may be
+abbrev pub longest : ℕ
+longest = word_bytes * 3 + record_bytes * most_records

@@ -1,12 +1,12 @@
 // The listing of a script, with lists of its own.
-ghost use Rattle.std.specs.Prelude.{◌≡◌, ◌++◌, ◌%◌, ◌^◌, ◌*◌, ◌≤◌, length, string_bytes, OnOk, IfOk};
+ghost use Rattle.std.specs.Prelude.{◌+◌, ◌*◌, ◌≤◌, length};
 ghost use Rattle.grammar.specs.Sizes.{record_width};
-ghost use Rattle.listing.specs.Listing.{accepted_lines, refused_line, answer_lines, listing};
+ghost use Rattle.listing.specs.Lines.{word_bytes, record_bytes, Appended};
+ghost use Rattle.listing.specs.Listing.{accepted_lines, refused_line, listing, longest};
 
 use crate::lines::{put_line, put_records};
 use reading::reading::{Answer, read};
 use reading::rooms::{ENTRY_WIDTH, MOST_RECORDS, MOST_STATEMENTS, RECORD_WIDTH};
-use std::alloc::{AllocError, Global};
 use tokens::lists::Lists;
 
 // Room for all records and statements that the capacities allow.
@@ -14,56 +14,35 @@ const RECORD_WORDS: usize = RECORD_WIDTH * MOST_RECORDS;
 
 const DIRECTORY_WORDS: usize = ENTRY_WIDTH * MOST_STATEMENTS;
 
-// What of a number stands on its line: its last word.
-fn low_word(n: usize) -> u32
-    ensures { result ≡ n % 2 ^ 32 }
-{
-    (n % 0x1_0000_0000) as u32
-}
-
-#[tactic(auto, using(crate::proofs::ListingLaws::refusal_low))]
-fn put_refusal(text: &mut String, a: Answer) -> Result<(), AllocError>
-    ensures { OnOk result (string_bytes text.new ≡ string_bytes text.old ++ refused_line a) }
+#[tactic(auto, unfolding(crate::specs::Listing::refused_line))]
+fn list_refusal(a: Answer, out: &mut [u8]) -> usize
+    requires { word_bytes * 4 ≤ length out.old }
+    ensures { Appended out.old 0 (refused_line a) result out.new }
 {
     let words = [
-        a.number,
-        low_word(a.byte),
-        low_word(a.line),
-        low_word(a.column),
+        u64::from(a.number),
+        a.byte as u64,
+        a.line as u64,
+        a.column as u64,
     ];
-    put_line(text, &words)
+    put_line(out, 0, &words)
 }
 
-#[tactic(auto, using(crate::proofs::ListingLaws::acceptance_low))]
-fn put_acceptance(text: &mut String, a: Answer, records: &[u32]) -> Result<(), AllocError>
-    requires { record_width * a.records ≤ length records.now }
-    ensures { OnOk result (string_bytes text.new ≡ string_bytes text.old ++ accepted_lines a records.now) }
+#[tactic(auto, using(crate::proofs::LineLaws::put_two, crate::proofs::LineLaws::line_length), unfolding(crate::specs::Listing::accepted_lines))]
+fn list_acceptance(a: Answer, records: &[u32], out: &mut [u8]) -> usize
+    requires { (word_bytes * 3 + record_bytes * a.records ≤ length out.old) × (record_width * a.records ≤ length records.now) }
+    ensures { Appended out.old 0 (accepted_lines a records.now) result out.new }
 {
-    let words = [
-        low_word(a.statements),
-        low_word(a.records),
-        low_word(a.tokens),
-    ];
-    put_line(text, &words)?;
-    put_records(text, records, a.records)
+    let words = [a.statements as u64, a.records as u64, a.tokens as u64];
+    let k = put_line(out, 0, &words);
+    put_records(out, k, records, a.records)
 }
 
-fn put_answer(text: &mut String, a: Answer, records: &[u32]) -> Result<(), AllocError>
-    requires { record_width * a.records ≤ length records.now }
-    ensures { OnOk result (string_bytes text.new ≡ string_bytes text.old ++ answer_lines a records.now) }
+// Puts the listing of a script at the start of `out`, and answers its length.
+pub fn list(script: &[u8], out: &mut [u8]) -> usize
+    requires { longest ≤ length out.old }
+    ensures { Appended out.old 0 (listing script.now) result out.new }
 {
-    if a.number == 0 {
-        put_acceptance(text, a, records)
-    } else {
-        put_refusal(text, a)
-    }
-}
-
-// The listing of a script.
-pub fn list(alloc: Global, script: &[u8]) -> Result<String, AllocError>
-    ensures { IfOk result (λ text. string_bytes text ≡ listing script.now) }
-{
-    let mut text = String::new(alloc);
     let mut records = [0u32; RECORD_WORDS];
     let mut directory = [0u32; DIRECTORY_WORDS];
     let lists = Lists {
@@ -72,6 +51,9 @@ pub fn list(alloc: Global, script: &[u8]) -> Result<String, AllocError>
         counters: b"",
     };
     let a = read(script, 1, &lists, &mut records, &mut directory);
-    put_answer(&mut text, a, &records)?;
-    Ok(text)
+    if a.number == 0 {
+        list_acceptance(a, &records, out)
+    } else {
+        list_refusal(a, out)
+    }
 }

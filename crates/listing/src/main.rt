@@ -5,14 +5,15 @@
 mod lines;
 mod listing;
 
-ghost use Rattle.std.specs.Prelude.{◌≡◌, length, string_bytes, IfOk, IfSome, OnOk};
+ghost use Rattle.std.specs.Prelude.{◌≡◌, ◌≤◌, length, take, IfOk, IfSome, OnOk};
 ghost use Rattle.std.specs.Io.{StartsWith};
 ghost use Rattle.std.specs.Io.KnownBytes.{Appends};
-ghost use Rattle.listing.specs.Listing.{listing};
+ghost use Rattle.listing.specs.Listing.{listing, longest};
 ghost use Rattle.listing.specs.Inputs.{Within, Takes, ListsInput};
 
+use crate::lines::WORD_BYTES;
 use crate::listing::list;
-use std::alloc::Global;
+use reading::rooms::{MOST_RECORDS, RECORD_WIDTH};
 use std::env::{Env, FillError};
 use std::fmt::{Display, InlineText};
 use std::fs::File;
@@ -22,17 +23,20 @@ use std::{io, str};
 // One byte more than a script may have: enough to tell that it is too long.
 const SCRIPT_ROOM: usize = 16385;
 
+// The longest listing: a line of three words, and one for each record that there may be.
+const TEXT_ROOM: usize = WORD_BYTES * (3 + RECORD_WIDTH * MOST_RECORDS);
+
 // More than any path has.
 const PATH_ROOM: usize = 4096;
 
 // More than any reason has.
 const REASON_ROOM: usize = 512;
 
-// How many bytes of an input came, and its listing.
-#[derive(Drop)]
+// How many bytes of an input came, and how many its listing has.
+#[derive(Clone, Copy)]
 struct Listed {
     came: usize,
-    lines: String,
+    lines: usize,
 }
 
 // Fills `out` from its start, up to the end of the input. A read may bring less than there is. It is a loop of reads, since
@@ -52,18 +56,18 @@ fn take_input<R: Read>(input: &mut R, out: &mut [u8]) -> io::Result<usize>
     Ok(n)
 }
 
-// Takes an input into `script`, and lists it.
-fn list_input<R: Read>(alloc: Global, input: &mut R, script: &mut [u8]) -> io::Result<Listed>
-    requires { length script.old ≡ 16385 }
-    ensures lists { ListsInput result script.new }
-    ensures known { IfOk result (λ l. IfSome (R.remaining input.old) (λ bs. string_bytes l.lines ≡ listing bs)) }
+// Takes an input into `script`, and puts its listing at the start of `text`.
+fn list_input<R: Read>(input: &mut R, script: &mut [u8], text: &mut [u8]) -> io::Result<Listed>
+    requires { (length script.old ≡ 16385) × (longest ≤ length text.old) }
+    ensures lists { ListsInput result script.new text.new }
+    ensures known { IfOk result (λ l. IfSome (R.remaining input.old) (λ bs. take l.lines text.new ≡ listing bs)) }
 {
     let came = take_input(input, script)?;
-    let lines = list(alloc, &script[..came])?;
+    let lines = list(&script[..came], text);
     Ok(Listed { came, lines })
 }
 
-// Why an input was not listed: a read of it failed, or memory for its listing, or the write of it.
+// Why an input was not listed: a read of it failed, or the write of its listing.
 #[derive(Drop)]
 enum Failed {
     Read(io::Error),
@@ -71,17 +75,15 @@ enum Failed {
 }
 
 // Writes the listing of an input.
-fn write_listing<R: Read, W: Write>(
-    alloc: Global,
-    input: &mut R,
-    output: &mut W,
-) -> Result<(), Failed>
+fn write_listing<R: Read, W: Write>(input: &mut R, output: &mut W) -> Result<(), Failed>
     ensures { OnOk result (IfSome (R.remaining input.old) (λ bs. Appends (W.contents output.old) (W.contents output.new) (listing bs))) }
 {
     let mut script = [0u8; SCRIPT_ROOM];
-    let listed = list_input(alloc, input, &mut script).map_err(Failed::Read)?;
+    // A buffer of a fixed size, and no `String`: `list` cannot fail, as it would where memory for one is wanting.
+    let mut text = [0u8; TEXT_ROOM];
+    let listed = list_input(input, &mut script, &mut text).map_err(Failed::Read)?;
     output
-        .write_all(listed.lines.as_bytes())
+        .write_all(&text[..listed.lines])
         .map_err(Failed::Write)
 }
 
@@ -105,7 +107,7 @@ fn fail<D: Display + Drop>(rt: &HostRuntime, what: &[u8], why: D) {
 
 // Lists an input on standard output.
 fn list_named<R: Read>(rt: &HostRuntime, input: &mut R, name: &[u8]) {
-    match write_listing(rt.alloc(), input, &mut rt.stdout()) {
+    match write_listing(input, &mut rt.stdout()) {
         Ok(()) => {}
         Err(Failed::Read(error)) => fail(rt, name, error),
         Err(Failed::Write(error)) => fail(rt, b"standard output", error),
