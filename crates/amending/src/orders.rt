@@ -21,16 +21,15 @@ struct Rest {
 }
 
 impl Rest {
-    // Whether an entry lies behind the last, is not empty, has a record and a token, and no more of them than are left.
+    // Whether an entry lies behind the last, is not empty, has a record and a token, and no more of them than are left: 0 wraps to
+    // the greatest number, so that one test tells both.
     fn has(&self, row: &Row) -> bool
         ensures { result ≡ row_fits self.now.after self.now.records self.now.tokens (entry row.now) }
     {
         self.after <= row.start
             && row.start < row.end
-            && 1 <= row.records
-            && 1 <= row.tokens
-            && row.records <= self.records
-            && row.tokens <= self.tokens
+            && row.records.wrapping_sub(1) < self.records
+            && row.tokens.wrapping_sub(1) < self.tokens
     }
 
     // Whether the last entry ends inside the script, no records and tokens are left, and the latest date is the one that was seen.

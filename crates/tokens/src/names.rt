@@ -88,7 +88,7 @@ fn is_good_byte(money: bool, b: u8) -> bool
     if money {
         return is_capital(b);
     }
-    (32..=126).contains(&b) && b != b'"'
+    b != b'"' && matches!(b, 32..=126)
 }
 
 fn is_good_name(money: bool, name: &[u8]) -> bool
