@@ -92,10 +92,6 @@ word_made w ds size d0 d1 d2 d3 d4 d5 d6 d7 = fill_by_all (at_place w) ds 8 0 si
 
 -- ---- lines
 
-pub gap_more : (n : ℕ) → (n ≡ 0 → ⊥) → 32 ≡ gap_of n
-gap_more zero h = absurd (h refl)
-gap_more (suc n) h = refl
-
 pub line_length : (ws : List ℕ) → length (line ws) ≡ word_bytes * length ws
 unfolding line
 line_length [] = refl
