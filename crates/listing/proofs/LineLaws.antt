@@ -92,10 +92,6 @@ word_made w ds size d0 d1 d2 d3 d4 d5 d6 d7 = fill_by_all (at_place w) ds 8 0 si
 
 -- ---- lines
 
-pub gap_more : (n : ℕ) → (n ≡ 0 → ⊥) → 32 ≡ gap_of n
-gap_more zero h = absurd (h refl)
-gap_more (suc n) h = refl
-
 pub line_length : (ws : List ℕ) → length (line ws) ≡ word_bytes * length ws
 unfolding line
 line_length [] = refl
@@ -118,7 +114,7 @@ module _ {o o' : List ℕ} {n m : ℕ} (ws : List ℕ) (i : ℕ) (g : Going o n 
   line_room h fits = omega (arith, g.size, g.left, line_length ws, line_length (drop i ws), length-drop i ws)
 
   -- and behind it for what stands there
-  pub gap_room : {o₁ : List ℕ} {l : ℕ} → i < length ws → n + word_bytes * length ws ≤ length o → Appended o' m (word (get_or ws i 0)) l o₁ → l + 1 ≤ length o₁
+  pub gap_room : {o₁ : List ℕ} {l : ℕ} → i < length ws → n + word_bytes * length ws ≤ length o → Appended o' m (word (get_or ws i 0)) l o₁ → l < length o₁
   gap_room h fits x =
       omega (arith, x.size, x.end, word_length (get_or ws i 0), g.size, g.left, line_length ws, line_length (drop i ws), length-drop i ws)
 

@@ -1,6 +1,6 @@
 // Lines of words. Each function puts text behind the first `at` bytes of `out`, and answers how many bytes there are then.
 // The text stands in a lent buffer of a fixed size, and in no `String`: `put_line`, `put_records` and `list` cannot fail.
-ghost use Rattle.std.specs.Prelude.{◌≡◌, ◌+◌, ◌*◌, ◌≤◌, ◌<◌, length};
+ghost use Rattle.std.specs.Prelude.{[], ◌∷◌, ◌≡◌, ◌+◌, ◌*◌, ◌≤◌, ◌<◌, length};
 ghost use Rattle.grammar.specs.Sizes.{record_width};
 ghost use Rattle.listing.specs.Lines.{word_bytes, record_bytes, hex_digit_ascii, word, gap_of, line, record_lines, Appended};
 
@@ -10,13 +10,12 @@ use std::array;
 // The bytes of a word on its line, with what stands behind it.
 pub const WORD_BYTES: usize = 9;
 
-fn put(out: &mut [u8], at: usize, text: &[u8]) -> usize
-    requires { at + length text.now ≤ length out.old }
-    ensures { Appended out.old at text.now result out.new }
+fn put(out: &mut [u8], at: usize, b: u8) -> usize
+    requires { at < length out.old }
+    ensures { Appended out.old at (b ∷ []) result out.new }
 {
-    let end = at + text.len();
-    out[at..end].copy_from_slice(text);
-    end
+    out[at] = b;
+    at + 1
 }
 
 fn digit(d: u64) -> u8
@@ -42,7 +41,8 @@ fn put_word(out: &mut [u8], at: usize, w: u64) -> usize
     requires { at + 8 ≤ length out.old }
     ensures { Appended out.old at (word w) result out.new }
 {
-    put(out, at, &digits(w))
+    out[at..at + 8].copy_from_slice(&digits(w));
+    at + 8
 }
 
 // What stands behind a word, if so many words follow on its line.
@@ -59,7 +59,7 @@ pub fn put_line(out: &mut [u8], at: usize, words: &[u64]) -> usize
     let mut k = at;
     for (i, &w) in words.iter().enumerate() {
         k = put_word(out, k, w);
-        k = put(out, k, &[gap(words.len() - i - 1)]);
+        k = put(out, k, gap(words.len() - i - 1));
     }
     k
 }
