@@ -29,7 +29,8 @@ pub struct Answer {
     pub edition: u32,
 }
 
-// Reads a script of the edition that is named, 1 or 2: 26 for another number, before all other grounds.
+// Reads a script of the edition that is named, 1 or 2: 26 for another number, before all other grounds. Records and directory
+// are lent apart, as in C, and for the reason at `records::put`.
 pub fn read(
     script: &[u8],
     edition: u32,
