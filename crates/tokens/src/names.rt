@@ -82,6 +82,7 @@ fn is_good_length(money: bool, n: usize) -> bool
     (1..=LONGEST_NAME).contains(&n)
 }
 
+// The quote first, so that the compiler makes one test of the range.
 fn is_good_byte(money: bool, b: u8) -> bool
     ensures { result ≡ good_byte money b }
 {
