@@ -54,7 +54,7 @@ pub fn is_continuation(b: u8) -> bool
 
 // Where the bytes from a place on that pass a test end.
 #[tactic(auto, using(crate::proofs::Leading::end_on, crate::proofs::Leading::end_over))]
-pub fn run_end<F: Fn(u8) -> bool>(s: &[u8], at: usize, goes_on: F) -> usize
+pub(crate) fn run_end<F: Fn(u8) -> bool>(s: &[u8], at: usize, goes_on: F) -> usize
     requires { F.IsAlwaysCallable goes_on }
     ensures after { at ≤ result }
     ensures within { at ≤ length s.now → result ≤ length s.now }
