@@ -1,5 +1,5 @@
 -- Laws of judging: what the scan and the reader of all statements answer is the judgement.
-use Rattle.std.specs.Prelude.{if◌then◌else◌}
+use Rattle.std.specs.Prelude.{Result, Ok, Err, if◌then◌else◌}
 use mathlib.Core.Path.{◌≡◌, refl, sym, ap, ◌∙◌, subst}
 use mathlib.Core.Bool.{Bool, true, false, ◌&&◌}
 use mathlib.Core.List.{List, [], ◌∷◌, ◌++◌}
@@ -26,7 +26,10 @@ use Rattle.grammar.specs.Script.{refused, no_zero, of_tokens, read_script, state
 use Rattle.reading.specs.Meets.{listed, toks_at}
 use Rattle.reading.specs.Few.{Few}
 use Rattle.reading.specs.Scripts.{Clean, ReadsAll}
-use Rattle.reading.specs.Judging.{good, rejected, judged_of, last_end, judgement, text_judgement}
+use Rattle.tokens.specs.declared.refusals.Refusal.{Refusal}
+use Rattle.tokens.proofs.Outcomes.{one_refusal}
+use Rattle.reading.specs.declared.judging.Counts.{Counts}
+use Rattle.reading.specs.Judging.{good, rejected, judged, judged_of, last_end, judgement, text_judgement}
 use Rattle.grammar.proofs.ScriptLaws.{count_append}
 use Rattle.grammar.proofs.AmendBytes.{Text, script_all, text_tokens}
 
@@ -186,3 +189,11 @@ lists_few l = go (good_list false l.reserved) (good_list true l.currencies) refl
     go true true e h = good_few true l.currencies e
     go true false e h = absurd (let z : ◌≡◌ {A = ℕ} 0 1 = cc in omega arith)
     go false b e h = absurd (let z : ◌≡◌ {A = ℕ} 0 1 = cc in omega arith)
+
+-- ---- two judgements of one script are the same
+
+pub one_judged : (a b : Result Counts Refusal) → judged a ≡ judged b → a ≡ b
+one_judged (Ok c) (Ok d) e = let p : c ≡ d = cc in ap (λ (x : Counts). Ok x) p
+one_judged (Ok c) (Err y) e = absurd (cc)
+one_judged (Err x) (Ok d) e = absurd (cc)
+one_judged (Err x) (Err y) e = ap (λ (z : Refusal). Err z) (one_refusal x y (cc) (cc))
