@@ -64,7 +64,6 @@ pub record Fits (i records tokens : ℕ) (r : Row) : Type 0 where
   pub has_record : 1 ≤ r.records
   pub has_token : 1 ≤ r.tokens
   pub records_left : r.records ≤ records
-  pub tokens_left : r.tokens ≤ tokens
 
 module _ (i m t : ℕ) (r : Row) where
   pub fits_are : row_fits i m t r ≡ true → Fits i m t r
@@ -74,7 +73,6 @@ module _ (i m t : ℕ) (r : Row) where
     has_record = grind (arith, nat_tests);
     has_token = grind (arith, nat_tests);
     records_left = grind (arith, nat_tests);
-    tokens_left = grind (arith, nat_tests);
   }
 
 -- ---- one entry after the other

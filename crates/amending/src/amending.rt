@@ -18,8 +18,8 @@ use reading::rooms::{ENTRY_WIDTH, RECORD_WIDTH};
 use tokens::lists::Lists;
 use tokens::refusals::Refusal;
 
-// Replaces the text of a statement: 26, 20, 17, 19, then the new text read alone (1 to 15), 18, 16 over the totals; or the whole
-// is as if it had been read anew.
+// Replaces the text of a statement: 26, 20, 17, 19, then the new text read alone (1 to 15), 18, 16 over the totals; or the
+// whole is as if it had been read anew.
 #[tactic(auto, using(crate::proofs::ReplaceLaws::ready, crate::proofs::ReplaceLaws::refuses, crate::proofs::ReplaceLaws::makes))]
 pub fn amend(
     memory: &mut Memory<'_>,

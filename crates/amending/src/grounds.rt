@@ -106,7 +106,7 @@ fn alone(c: Counts) -> Held
 fn is_whole(text: &[u8], last: usize) -> bool
     ensures { result ≡ ends_whole text.now last }
 {
-    text.is_empty() || text[text.len() - 1] == b'\n' || last == text.len()
+    matches!(text, [] | [.., b'\n']) || last == text.len()
 }
 
 // And that token, if there is one, is `;` or `}`: no other token ends in such a byte.

@@ -24,7 +24,8 @@ pub fn resize<T: Copy>(s: &mut [T], used: usize, part: Range<usize>, k: usize, z
     end
 }
 
-// Replaces a part of the first `used` bytes by `text`, and zeroes the room that is freed. Returns how many bytes are then in use.
+// Replaces a part of the first `used` bytes by `text`, and zeroes the room that is freed. Returns how many bytes are then in
+// use.
 pub fn replace_bytes(script: &mut [u8], used: usize, part: Range<usize>, text: &[u8]) -> usize
     requires { (part.start ≤ part.end) × (part.end ≤ used) × (used ≤ length script.old) × (used_after used part.start part.end (length text.now) ≤ length script.old) }
     ensures { (result ≡ used_after used part.start part.end (length text.now)) × (script.new ≡ spliced script.old used part.start part.end text.now) }

@@ -21,8 +21,8 @@ struct Rest {
 }
 
 impl Rest {
-    // Whether an entry lies behind the last, is not empty, has a record and a token, and no more of them than are left: 0 wraps to
-    // the greatest number, so that one test tells both.
+    // Whether an entry lies behind the last, is not empty, has a record and a token, and no more of them than are left: 0 wraps
+    // to the greatest number, so that one test tells both.
     fn has(&self, row: &Row) -> bool
         ensures { result ≡ row_fits self.now.after self.now.records self.now.tokens (entry row.now) }
     {
@@ -32,7 +32,8 @@ impl Rest {
             && row.tokens.wrapping_sub(1) < self.tokens
     }
 
-    // Whether the last entry ends inside the script, no records and tokens are left, and the latest date is the one that was seen.
+    // Whether the last entry ends inside the script, no records and tokens are left, and the latest date is the one that was
+    // seen.
     fn is_all_of(&self, held: &Held) -> bool
         ensures { result ≡ (leb self.now.after held.now.bytes && (eqb self.now.records 0 && (eqb self.now.tokens 0 && eqb held.now.latest self.now.latest))) }
     {

@@ -16,14 +16,7 @@ impl<'a> Case<'a> {
         ensures kept { self.new.slices ≡ self.old.slices }
     {
         self.changed = Some(!self.slices.are_same(before));
-        self.held = Held {
-            bytes: given.bytes,
-            statements: given.statements,
-            records: given.records,
-            tokens: given.tokens,
-            latest: given.latest,
-            edition: given.edition,
-        };
+        self.held = Held::from(given);
     }
 
     pub fn read(&mut self) -> Answer

@@ -1,7 +1,7 @@
 // Replays stored cases: reads the files that its arguments name, runs what each line of them asks, and compares.
 // A `read` or an `amend` is run on the memory that its case lends: its answer must be the stored one, and every lent byte and
-// word must be left as stored. A `part` is looked up: it must be found in the stored source, at the stored place, with the stored
-// length, and what is handed back must have these bytes.
+// word must be left as stored. A `part` is looked up: it must be found in the stored source, at the stored place, with the
+// stored length, and what is handed back must have these bytes.
 // Files behind the word `wrong:` have cases that are wrong on purpose. So what is written tells that each comparison can fail.
 #![tactic(auto)]
 
@@ -63,7 +63,8 @@ fn replay_file(rt: &HostRuntime, path: &[u8], tally: &mut Tally) {
     replay(out, path, text.as_slice(), tally);
 }
 
-// An argument, if there is one. Each is asked for by its place, since `env::args` has none where one is not UTF-8. One that is too long for a path is none of a file that can be opened.
+// An argument, if there is one. Each is asked for by its place, since `env::args` has none where one is not UTF-8. One that is
+// too long for a path is none of a file that can be opened.
 fn argument<'a>(rt: &HostRuntime, i: usize, path: &'a mut [u8]) -> Option<&'a [u8]> {
     match rt.arg(i, path) {
         Ok(n) => Some(&path[..n]),
