@@ -160,10 +160,7 @@ fn is_ended(list: &[u8]) -> bool
 fn is_usd_first(list: &[u8]) -> bool
     ensures { result ≡ eqb (place (names list.now) (bytes "USD")) 1 }
 {
-    match place_in(list, b"USD") {
-        Some(k) => k == 0,
-        None => false,
-    }
+    place_in(list, b"USD") == Some(0)
 }
 
 // Whether a list is well formed, as one of currencies or as another.
