@@ -90,16 +90,18 @@ fn measured(w: &[u8]) -> Run
     w.iter().fold(begin, |run, &b| fed(run, b))
 }
 
-fn judged(dots: u32, digits: u64, decimals: u32) -> Result<(), Ground>
-    ensures { as_fault result ≡ fault_of dots digits decimals }
-{
-    if 1 < dots {
-        return Err(Ground::Number);
+impl Run {
+    fn judged(self) -> Result<(), Ground>
+        ensures { as_fault result ≡ fault_of self.dots self.digits self.decimals }
+    {
+        if 1 < self.dots {
+            return Err(Ground::Number);
+        }
+        if MOST_DIGITS < self.digits || MOST_DECIMALS < self.decimals {
+            return Err(Ground::LongNumber);
+        }
+        Ok(())
     }
-    if MOST_DIGITS < digits || MOST_DECIMALS < decimals {
-        return Err(Ground::LongNumber);
-    }
-    Ok(())
 }
 
 // Whether the bytes of a literal are taken, or the ground on which they are refused: 5 before 6.
@@ -107,8 +109,7 @@ fn judged(dots: u32, digits: u64, decimals: u32) -> Result<(), Ground>
 pub fn number_fault(w: &[u8]) -> Result<(), Ground>
     ensures { as_fault result ≡ number_fault w.now }
 {
-    let run = measured(w);
-    judged(run.dots, run.digits, run.decimals)
+    measured(w).judged()
 }
 
 #[tactic(auto, using(crate::proofs::TableLaws::tens_is))]
@@ -125,7 +126,7 @@ pub fn value_of(w: &[u8]) -> f64
     ensures { result ≡ value_of w.now }
 {
     let run = measured(w);
-    match judged(run.dots, run.digits, run.decimals) {
+    match run.judged() {
         Err(_) => 0.0,
         Ok(()) => run.digits as f64 / ten_to(run.decimals as usize) as f64,
     }
