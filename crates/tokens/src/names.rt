@@ -111,14 +111,11 @@ fn slot_of(name: &[u8]) -> usize
 }
 
 // Whether the name from `at` to `e` stands before too. Where its slot is free it does not, and nothing is walked.
-fn is_double(list: &[u8], at: usize, e: usize, slot: u8) -> bool
+fn is_double(list: &[u8], at: usize, e: usize, taken: bool) -> bool
     requires { (at ≤ e) × (e ≤ length list.now) }
-    ensures { result ≡ double_by slot (names (take at list.now)) (take (e - at) (drop at list.now)) }
+    ensures { result ≡ double_by taken (names (take at list.now)) (take (e - at) (drop at list.now)) }
 {
-    if slot == 0 {
-        return false;
-    }
-    place_in(&list[..at], &list[at..e]).is_some()
+    taken && place_in(&list[..at], &list[at..e]).is_some()
 }
 
 // Not too many names, each good, none twice: in one walk, with the slots of the names passed, a table and no set, since there is
@@ -127,7 +124,7 @@ fn is_double(list: &[u8], at: usize, e: usize, slot: u8) -> bool
 fn are_good(money: bool, list: &[u8]) -> bool
     ensures { result ≡ good_names money (names list.now) }
 {
-    let mut slots = [0u8; 2048];
+    let mut slots = [false; 2048];
     let mut at: usize = 0;
     let mut k: usize = 0;
     // Each name says where the next begins, so no range gives the places.
@@ -143,7 +140,7 @@ fn are_good(money: bool, list: &[u8]) -> bool
         if is_double(list, at, e, slots[h]) {
             return false;
         }
-        slots[h] = 1;
+        slots[h] = true;
         k += 1;
         at = e + 1;
     }
