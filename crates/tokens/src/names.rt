@@ -17,9 +17,9 @@ fn walked(list: &[u8], name: &[u8]) -> Option<usize>
 {
     let mut at: usize = 0;
     let mut k: usize = 0;
-    // Each name says where the next begins, so no range gives the places.
+    // `split` would give an empty part behind the last line feed, where `Names.names` has none, so the places are counted.
     while at < list.len() {
-        let e = find(list, at, 10);
+        let e = find(list, at, b'\n');
         if equal(&list[at..e], name) {
             return Some(k);
         }
@@ -57,7 +57,7 @@ fn may_hold(list: &[u8], name: &[u8]) -> bool
     if list.len() <= n {
         return true;
     }
-    if list[list.len() - 1] != 10 {
+    if list[list.len() - 1] != b'\n' {
         return true;
     }
     lowest(list, n, name[0], name[n - 1]) == 0
@@ -127,7 +127,7 @@ fn are_good(money: bool, list: &[u8]) -> bool
     let mut slots = [false; 2048];
     let mut at: usize = 0;
     let mut k: usize = 0;
-    // Each name says where the next begins, so no range gives the places.
+    // `split` would give an empty part behind the last line feed, where `Names.names` has none, so the places are counted.
     while at < list.len() {
         if k == MOST_NAMES {
             return false;
