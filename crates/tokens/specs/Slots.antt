@@ -1,5 +1,5 @@
 -- What spares the test for doubles its walks: a slot for each name, taken by those passed.
-use Rattle.std.specs.Prelude.{Bool, false, List, [], ◌∷◌, ℕ, zero, suc, ◌+◌, ◌*◌, ◌%◌}
+use Rattle.std.specs.Prelude.{Bool, ◌&&◌, List, [], ◌∷◌, ℕ, ◌+◌, ◌*◌, ◌%◌}
 use Rattle.tokens.specs.Names.{member}
 
 -- the slot of a name, h of the bytes before
@@ -11,6 +11,5 @@ abbrev pub slot_of : List ℕ → ℕ
 slot_of n = slot_from 0 n
 
 -- a name whose slot is free is not looked for
-abbrev pub double_by : ℕ → List (List ℕ) → List ℕ → Bool
-double_by zero ns n = false
-double_by (suc k) ns n = member ns n
+abbrev pub double_by : Bool → List (List ℕ) → List ℕ → Bool
+double_by taken ns n = taken && member ns n

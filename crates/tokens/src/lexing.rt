@@ -18,7 +18,8 @@ pub struct Mark {
     pub code: u8,
 }
 
-// A refusal as readers keep it: no bytes, and 100 and the ground's number for a kind's.
+// A refusal as readers keep it: no bytes, and 100 and the ground's number for a kind's. It is the number that `Cursor::start`
+// and `next` promise at a refused place (`Lexing.cursor_at`): what may not change.
 impl From<Refusal> for Mark {
     ghost from_gives = { λ e m. m ≡ refused_mark e };
 
@@ -31,7 +32,7 @@ impl From<Refusal> for Mark {
     }
 }
 
-// The byte at a place, and 0 behind the end.
+// The byte at a place, and 0 behind the end, which makes no pair and no comment.
 fn byte_at(s: &[u8], at: usize) -> u8
     ensures { result ≡ byte_at s.now at }
 {
@@ -107,17 +108,12 @@ fn number_at(s: &[u8], at: usize) -> Result<Mark, Refusal>
     ensures { Tells (mark_of at (number_at s.now at)) result }
 {
     let end = run_end(s, at + 1, is_number_byte);
-    match number_fault(&s[at..end]) {
-        Ok(()) => Ok(Mark {
-            start: at,
-            end,
-            code: NUMBER,
-        }),
-        Err(ground) => Err(Refusal {
-            cause: ground,
-            byte: at,
-        }),
-    }
+    number_fault(&s[at..end]).map_err(|cause| Refusal { cause, byte: at })?;
+    Ok(Mark {
+        start: at,
+        end,
+        code: NUMBER,
+    })
 }
 
 // The string at a place where a quote stands.

@@ -17,9 +17,9 @@ fn walked(list: &[u8], name: &[u8]) -> Option<usize>
 {
     let mut at: usize = 0;
     let mut k: usize = 0;
-    // Each name says where the next begins, so no range gives the places.
+    // `split` would give an empty part behind the last line feed, where `Names.names` has none, so the places are counted.
     while at < list.len() {
-        let e = find(list, at, 10);
+        let e = find(list, at, b'\n');
         if equal(&list[at..e], name) {
             return Some(k);
         }
@@ -57,7 +57,7 @@ fn may_hold(list: &[u8], name: &[u8]) -> bool
     if list.len() <= n {
         return true;
     }
-    if list[list.len() - 1] != 10 {
+    if list[list.len() - 1] != b'\n' {
         return true;
     }
     lowest(list, n, name[0], name[n - 1]) == 0
@@ -111,14 +111,11 @@ fn slot_of(name: &[u8]) -> usize
 }
 
 // Whether the name from `at` to `e` stands before too. Where its slot is free it does not, and nothing is walked.
-fn is_double(list: &[u8], at: usize, e: usize, slot: u8) -> bool
+fn is_double(list: &[u8], at: usize, e: usize, taken: bool) -> bool
     requires { (at ≤ e) × (e ≤ length list.now) }
-    ensures { result ≡ double_by slot (names (take at list.now)) (take (e - at) (drop at list.now)) }
+    ensures { result ≡ double_by taken (names (take at list.now)) (take (e - at) (drop at list.now)) }
 {
-    if slot == 0 {
-        return false;
-    }
-    place_in(&list[..at], &list[at..e]).is_some()
+    taken && place_in(&list[..at], &list[at..e]).is_some()
 }
 
 // Not too many names, each good, none twice: in one walk, with the slots of the names passed, a table and no set, since there is
@@ -127,10 +124,10 @@ fn is_double(list: &[u8], at: usize, e: usize, slot: u8) -> bool
 fn are_good(money: bool, list: &[u8]) -> bool
     ensures { result ≡ good_names money (names list.now) }
 {
-    let mut slots = [0u8; 2048];
+    let mut slots = [false; 2048];
     let mut at: usize = 0;
     let mut k: usize = 0;
-    // Each name says where the next begins, so no range gives the places.
+    // `split` would give an empty part behind the last line feed, where `Names.names` has none, so the places are counted.
     while at < list.len() {
         if k == MOST_NAMES {
             return false;
@@ -143,7 +140,7 @@ fn are_good(money: bool, list: &[u8]) -> bool
         if is_double(list, at, e, slots[h]) {
             return false;
         }
-        slots[h] = 1;
+        slots[h] = true;
         k += 1;
         at = e + 1;
     }
@@ -160,10 +157,7 @@ fn is_ended(list: &[u8]) -> bool
 fn is_usd_first(list: &[u8]) -> bool
     ensures { result ≡ eqb (place (names list.now) (bytes "USD")) 1 }
 {
-    match place_in(list, b"USD") {
-        Some(k) => k == 0,
-        None => false,
-    }
+    place_in(list, b"USD") == Some(0)
 }
 
 // Whether a list is well formed, as one of currencies or as another.

@@ -6,25 +6,6 @@ ghost use Rattle.tokens.specs.Runs.{up, grow, feed, feed_all, begin};
 
 use crate::refusals::Ground;
 
-const TENS: [u64; 16] = [
-    1,
-    10,
-    100,
-    1000,
-    10000,
-    100000,
-    1000000,
-    10000000,
-    100000000,
-    1000000000,
-    10000000000,
-    100000000000,
-    1000000000000,
-    10000000000000,
-    100000000000000,
-    1000000000000000,
-];
-
 const MOST_DIGITS: u64 = 9007199254740992;
 
 const MOST_DECIMALS: u32 = 15;
@@ -90,16 +71,18 @@ fn measured(w: &[u8]) -> Run
     w.iter().fold(begin, |run, &b| fed(run, b))
 }
 
-fn judged(dots: u32, digits: u64, decimals: u32) -> Result<(), Ground>
-    ensures { as_fault result ≡ fault_of dots digits decimals }
-{
-    if 1 < dots {
-        return Err(Ground::Number);
+impl Run {
+    fn judged(self) -> Result<(), Ground>
+        ensures { as_fault result ≡ fault_of self.dots self.digits self.decimals }
+    {
+        if 1 < self.dots {
+            return Err(Ground::Number);
+        }
+        if MOST_DIGITS < self.digits || MOST_DECIMALS < self.decimals {
+            return Err(Ground::LongNumber);
+        }
+        Ok(())
     }
-    if MOST_DIGITS < digits || MOST_DECIMALS < decimals {
-        return Err(Ground::LongNumber);
-    }
-    Ok(())
 }
 
 // Whether the bytes of a literal are taken, or the ground on which they are refused: 5 before 6.
@@ -107,16 +90,15 @@ fn judged(dots: u32, digits: u64, decimals: u32) -> Result<(), Ground>
 pub fn number_fault(w: &[u8]) -> Result<(), Ground>
     ensures { as_fault result ≡ number_fault w.now }
 {
-    let run = measured(w);
-    judged(run.dots, run.digits, run.decimals)
+    measured(w).judged()
 }
 
-#[tactic(auto, using(crate::proofs::TableLaws::tens_is))]
-fn ten_to(n: usize) -> u64
+#[tactic(auto, using(crate::proofs::TableLaws::tens_fit))]
+fn ten_to(n: u32) -> u64
     requires { n < 16 }
     ensures { result ≡ 10 ^ n }
 {
-    TENS[n]
+    10u64.pow(n)
 }
 
 // The value of a literal, by one division; 0 where its bytes are refused (5, 6), since it cannot fail, which may not change.
@@ -125,9 +107,9 @@ pub fn value_of(w: &[u8]) -> f64
     ensures { result ≡ value_of w.now }
 {
     let run = measured(w);
-    match judged(run.dots, run.digits, run.decimals) {
+    match run.judged() {
         Err(_) => 0.0,
-        Ok(()) => run.digits as f64 / ten_to(run.decimals as usize) as f64,
+        Ok(()) => run.digits as f64 / ten_to(run.decimals) as f64,
     }
 }
 

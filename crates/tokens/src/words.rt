@@ -28,6 +28,7 @@ pub fn key_of(w: &[u8]) -> u64
     k
 }
 
+// The key of two bytes. By it, and not by the bytes, the signs are promised (`Keys.pair_by`): what may not change.
 pub fn pair_key(b: u8, next: u8) -> u32
     ensures { result ≡ b + 256 * (next + 256) }
 {
@@ -58,7 +59,7 @@ pub fn keyword(w: &[u8]) -> u8
     }
 }
 
-// The code of the sign of two bytes that a key packs.
+// The code of the sign of two bytes that a key packs: promised by the key's number (`Keys.pair_by`), which may not change.
 #[tactic(auto, unfolding(crate::specs::Computing::computing))]
 pub fn pair_sign(key: u32) -> Option<u8>
     ensures { result ≡ known (pair_by key) }

@@ -1,44 +1,47 @@
 -- `date_of` reads the date that a text writes.
 use mathlib.Core.Path.{◌≡◌, refl, sym, ap, ◌∙◌}
-use mathlib.Core.Bool.{Bool, true, false, not, true≢false}
+use mathlib.Core.Bool.{true}
 use mathlib.Core.List.{List}
-use Prim.Native.Nat.{ℕ, zero, suc, ◌+◌, ◌*◌, ◌<◌}
+use Prim.Native.Nat.{ℕ, zero, suc, ◌+◌, ◌*◌}
 use Rattle.std.specs.Prelude.{Option, Some}
 use native.Mathlib.Omega.{arith}
-use lib.Dec.{eqb}
-use lib.ListN.{length}
-use borrow.Author.Tests.{eqb-true, not-true, not-false}
+use lib.ListN.{length, get_or}
+use borrow.Author.Tests.{eq-eqb, lt-ltb}
 use Rattle.calendar.specs.Calendar.{dated, count_of}
 use Rattle.tokens.specs.Dates.{pair, is_shape, date, unless_0}
-use Rattle.tokens.proofs.DateLaws.{date_shaped}
+use Rattle.tokens.proofs.DateLaws.{digits_read, digits_some, digits_none, unwritten, date_shaped}
 use Rattle.tokens.proofs.dates.date_of.Goals as goal
+use Rattle.tokens.proofs.dates.date_of.Goals.{then-s-ne10-via-then-s-ne10, then-s-ne10-via-else-s-ne10+then-s-ne45, then-s-ne10-via-else-s-ne10+else-s-ne45+then-s-ne45-2}
 
-inside : (s : List ℕ) (r : Bool) → r ≡ is_shape s → not r ≡ false → (i : ℕ) → i < 10 → i < length s
-inside s r e h i l = go (eqb (length s) 10) refl (sym e ∙ not-false r h)
-  where
-    go : (t : Bool) → eqb (length s) 10 ≡ t → is_shape s ≡ true → i < length s
-    go true w k = omega (arith, eqb-true (length s) 10 w)
-    go false w k = absurd (true≢false (sym (simp w at k)))
+pub returns-then-s-ne10 : goal.returns-then-s-ne10
+returns-then-s-ne10 c = unwritten c.args.s.now (λ w. elim c.then-s-ne10.branch [
+  | then-s-ne10-via-then-s-ne10 v ↦ v.if-s-ne10.true w.long
+  | then-s-ne10-via-else-s-ne10+then-s-ne45 v ↦ v.if-s-ne45.true w.first_hyphen
+  | then-s-ne10-via-else-s-ne10+else-s-ne45+then-s-ne45-2 v ↦ v.if-s-ne45-2.true w.second_hyphen
+])
 
-pub returns-then-not-is_shape : goal.returns-then-not-is_shape
-unfolding date
-returns-then-not-is_shape c = simp (sym c.is_shape.ensures ∙ not-true _ c.if-not-is_shape.true-raw)
+pub returns-in_err-pair_at : goal.returns-in_err-pair_at
+returns-in_err-pair_at c = c.from_residual.ensures ∙ unwritten c.args.s.now (λ w. omega (arith, digits_none _ c.in_err-pair_at.ensures, w.century))
 
-pub pair_at-requires : goal.pair_at-requires
-pair_at-requires c = inside c.args.s.now _ c.is_shape.ensures c.if-not-is_shape.false-raw 1 (omega arith)
+pub returns-in_err-year : goal.returns-in_err-year
+returns-in_err-year c = c.from_residual-in_err-year.ensures ∙ unwritten c.args.s.now (λ w. omega (arith, digits_none _ c.in_err-year.ensures, w.year))
 
-pub pair_at-requires-2 : goal.pair_at-requires-2
-pair_at-requires-2 c = inside c.args.s.now _ c.is_shape.ensures c.if-not-is_shape.false-raw 3 (omega arith)
+pub returns-in_err-pair_at-2 : goal.returns-in_err-pair_at-2
+returns-in_err-pair_at-2 c = c.from_residual-in_err-pair_at-2.ensures ∙ unwritten c.args.s.now (λ w. omega (arith, digits_none _ c.in_err-pair_at-2.ensures, w.month))
 
-pub pair_at-requires-3 : goal.pair_at-requires-3
-pair_at-requires-3 c = inside c.args.s.now _ c.is_shape.ensures c.if-not-is_shape.false-raw 6 (omega arith)
-
-pub pair_at-requires-4 : goal.pair_at-requires-4
-pair_at-requires-4 c = inside c.args.s.now _ c.is_shape.ensures c.if-not-is_shape.false-raw 9 (omega arith)
+pub returns-in_err-pair_at-3 : goal.returns-in_err-pair_at-3
+returns-in_err-pair_at-3 c = c.from_residual-in_err-pair_at-3.ensures ∙ unwritten c.args.s.now (λ w. omega (arith, digits_none _ c.in_err-pair_at-3.ensures, w.day))
 
 -- what four pairs of digits count to is the text's date
-counted : (s : List ℕ) {n a b d e : ℕ} → n ≡ count_of (dated (a * 100 + b) d e) → a ≡ pair s 0 → b ≡ pair s 2 → d ≡ pair s 5 → e ≡ pair s 8 → is_shape s ≡ true → n ≡ date s
-counted s h p q r t w = h ∙ (λ i. count_of (dated (p i * 100 + q i) (r i) (t i))) ∙ sym (date_shaped s w)
+counted : (s : List ℕ) {n a b d e : ℕ} → n ≡ count_of (dated (a * 100 + b) d e) → length s ≡ 10 → get_or s 4 0 ≡ 45 → get_or s 7 0 ≡ 45
+    → Some a ≡ digits_read (pair s 0) → Some b ≡ digits_read (pair s 2) → Some d ≡ digits_read (pair s 5) → Some e ≡ digits_read (pair s 8) → n ≡ date s
+counted s h l f g p q r t =
+    let a = digits_some (pair s 0) p in
+    let b = digits_some (pair s 2) q in
+    let shape : is_shape s ≡ true = simp (eq-eqb _ _ l, eq-eqb _ _ f, eq-eqb _ _ g, lt-ltb _ _ a.1, lt-ltb _ _ b.1) in
+    h
+    ∙ (λ i. count_of (dated (a.0 i * 100 + b.0 i) ((digits_some (pair s 5) r).0 i) ((digits_some (pair s 8) t).0 i)))
+    ∙ sym (date_shaped s shape)
 
 some_day : (n : ℕ) → (n ≡ 0 → ⊥) → ◌≡◌ {A = Option ℕ} (Some n) (unless_0 n)
 some_day zero h = absurd (h refl)
@@ -46,10 +49,10 @@ some_day (suc n) h = refl
 
 pub returns-then-day-eq0 : goal.returns-then-day-eq0
 returns-then-day-eq0 c =
-    let day = counted c.args.s.now c.count_of-day.ensures c.pair_at.ensures.0 c.pair_at-2.ensures.0 c.pair_at-3.ensures.0 c.pair_at-4.ensures.0 (sym c.is_shape.ensures ∙ not-false _ c.if-not-is_shape.false-raw) in
+    let day = counted c.args.s.now c.count_of-day.ensures c.if-s-ne10.false c.if-s-ne45.false c.if-s-ne45-2.false c.in_ok-pair_at.ensures c.in_ok-year.ensures c.in_ok-pair_at-2.ensures c.in_ok-pair_at-3.ensures in
     sym (ap unless_0 (sym day ∙ c.if-day-eq0.true))
 
 pub returns-else-day-eq0 : goal.returns-else-day-eq0
 returns-else-day-eq0 c =
-    let day = counted c.args.s.now c.count_of-day.ensures c.pair_at.ensures.0 c.pair_at-2.ensures.0 c.pair_at-3.ensures.0 c.pair_at-4.ensures.0 (sym c.is_shape.ensures ∙ not-false _ c.if-not-is_shape.false-raw) in
+    let day = counted c.args.s.now c.count_of-day.ensures c.if-s-ne10.false c.if-s-ne45.false c.if-s-ne45-2.false c.in_ok-pair_at.ensures c.in_ok-year.ensures c.in_ok-pair_at-2.ensures c.in_ok-pair_at-3.ensures in
     some_day c.count_of-day.result c.if-day-eq0.false ∙ ap unless_0 day

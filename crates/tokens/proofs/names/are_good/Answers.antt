@@ -1,5 +1,6 @@
 -- `are_good` meets its contract. What the walk keeps stands in `Passed`, and the measure is how many bytes are left.
 use mathlib.Core.Path.{refl, sym, ◌∙◌}
+use mathlib.Core.Bool.{false}
 use native.Mathlib.Omega.{arith}
 use lib.ListN.{get_or}
 use Rattle.tokens.proofs.NameLaws.{line_fits}
@@ -19,7 +20,7 @@ pub returns-then-not-is_good_name : goal.returns-then-not-is_good_name
 returns-then-not-is_good_name c = sym (passed_bad c.args.money c.args.list.now c.loop-at.slots c.loop-at.at c.find-e.result c.loop-at.k (omega arith) c.find-e.ensures c.loop-at.invariant (sym c.is_good_name.ensures ∙ c.if-not-is_good_name.true))
 
 pub returns-then-is_double : goal.returns-then-is_double
-returns-then-is_double c = sym (passed_double c.args.money c.args.list.now c.loop-at.slots c.loop-at.at c.find-e.result c.loop-at.k (omega arith) c.find-e.ensures c.loop-at.invariant (get_or c.loop-at.slots c.slot_of-h.result 0) (sym c.is_double.ensures ∙ c.if-is_double.true))
+returns-then-is_double c = sym (passed_double c.args.money c.args.list.now c.loop-at.slots c.loop-at.at c.find-e.result c.loop-at.k (omega arith) c.find-e.ensures c.loop-at.invariant (get_or c.loop-at.slots c.slot_of-h.result false) (sym c.is_double.ensures ∙ c.if-is_double.true))
 
 pub loop-at-preserved : goal.loop-at-preserved
 loop-at-preserved c = passed_turn c.args.money c.args.list.now c.loop-at.slots c.loop-at.at c.find-e.result c.loop-at.k (omega arith) c.find-e.ensures c.loop-at.invariant c.slot_of-h.result c.slot_of-h.ensures.0 c.slot_of-h.ensures.1 c.if-k-eq-MOST_NAMES.false (sym c.is_good_name.ensures ∙ c.if-not-is_good_name.false) (sym c.is_double.ensures ∙ c.if-is_double.false)
