@@ -33,7 +33,8 @@ fn has_counts(stored: &Numbers, a: Answer) -> bool
         && a.latest == stored[8] as usize
 }
 
-// Whether an answer is the stored one, in all its ten numbers.
+// Whether an answer is the stored one, in all its ten numbers. Each by itself, as `answer_stored` says it: `Answer` is of the
+// crate reading, which derives no equality, and two arrays of ten would only name all the numbers again.
 pub fn agrees(stored: &Numbers, a: Answer) -> bool
     ensures { result ≡ answer_stored stored.now a }
 {

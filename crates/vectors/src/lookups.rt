@@ -22,7 +22,8 @@ struct Asked<'a> {
     second: bool,
 }
 
-// Whether a part begins at the stored place of the stored source, and is so long.
+// Whether a part begins at the stored place of the stored source, and is so long. Each word by itself, as `place_stored` says
+// it: `Place` is of the crate reading, which derives no equality.
 #[tactic(auto, unfolding(crate::specs::Comparing::place_stored))]
 fn is_placed(found: Place, stored: Place) -> bool
     ensures { result ≡ place_stored found stored.in_list stored.from stored.size }
