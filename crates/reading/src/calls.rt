@@ -183,10 +183,7 @@ fn closed(s: &[u8], leaf: Leaf) -> Result<Leaf, Fault>
     ensures { (R : Out Tree) → MeetsLeaf s.now R (Ok leaf) → MeetsLeaf s.now (bind ending R) result }
 {
     let at = take(s, leaf.at, CLOSE_PAREN)?;
-    Ok(Leaf {
-        at,
-        node: leaf.node,
-    })
+    Ok(Leaf { at, ..leaf })
 }
 
 // Spot, behind its name.

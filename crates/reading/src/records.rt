@@ -176,8 +176,8 @@ pub fn join(out: &mut [u32], sign: Option<u8>, n: u32, m: u32, p: Option<u16>, p
     }
 }
 
-// The words of a directory entry: start byte, end byte, records, tokens, the latest date. They are as they are written; `Row` in
-// the crate amending has the same as it counts with them.
+// The words of a directory entry: start byte, end byte, records, tokens, the latest date. They are as they are written; `Row`
+// in the crate amending has the same as it counts with them.
 #[derive(Clone, Copy)]
 pub struct Entry {
     pub start: u32,
