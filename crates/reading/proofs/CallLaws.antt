@@ -1,27 +1,22 @@
 -- Calls at a cursor: their names, the strings that they take, dates and currencies in these, and what is read behind a name.
 use Rattle.std.specs.Prelude.{Result, Ok, Err, Option, Some, None, if◌then◌else◌}
 use mathlib.Core.Path.{◌≡◌, refl, sym, ap, ◌∙◌, subst}
-use mathlib.Core.Bool.{Bool, true, false, ◌&&◌}
+use mathlib.Core.Bool.{Bool}
 use mathlib.Core.List.{List, []}
-use Prim.Native.Nat.{ℕ, zero, suc, ◌+◌, ◌-◌, ◌≤◌}
-use Prim.Native.String.{String}
+use Prim.Native.Nat.{ℕ, suc, ◌+◌, ◌-◌, ◌≤◌}
 use native.Mathlib.Omega.{arith}
-use lib.Dec.{T, eqb, leb}
+use lib.Dec.{eqb}
 use borrow.Author.Tests.{eq-eqb, ne_eqb}
 use lib.ListN.{length, take, drop}
-use Rattle.tokens.specs.Text.{bytes, same, every}
 use Rattle.tokens.specs.Names.{names, place, index_of}
 use Rattle.tokens.specs.Dates.{date, unless_0}
 use Rattle.tokens.specs.Tokens.{Token, code}
-use Rattle.tokens.specs.Keys.{pack, lookup, keyed, key_of}
 use Rattle.tokens.specs.declared.cursor.Cursor.{Cursor}
-use Rattle.tokens.proofs.KeyLaws.{Bytes, small, smalls, key_same}
-use Rattle.tokens.proofs.Shapes.{same_eq}
 use Rattle.tokens.proofs.NameLaws.{place_le, index_some, index_none}
 use Rattle.grammar.specs.Trees.{Tree, node, nil, fields}
 use Rattle.grammar.specs.Readers.{Out, ok, refused, Reader, bind, ◌>>=◌, ◌>>◌, give, fail_at, the}
-use Rattle.grammar.specs.Grammar.{Language, content, optional, date_of, a_date, currency_of, a_currency, curve, df, rate_of, rate_index, equity, pair, spot_of, spot, call_of}
-use Rattle.reading.specs.Calls.{call_kind, call_by, method_kind, optional_by, ending}
+use Rattle.grammar.specs.Grammar.{Language, content, optional, date_of, a_date, currency_of, a_currency, curve, df, rate_of, rate_index, equity, pair, spot_of, spot}
+use Rattle.reading.specs.Calls.{optional_by, ending}
 use Rattle.reading.specs.Meets.{toks_at, token_at, Holds, Follows, the_by, Takes, MeetsNumber, MeetsLeaf, Leads}
 use Rattle.reading.specs.Few.{Few}
 use Rattle.reading.specs.declared.records.Node.{Node}
@@ -381,69 +376,3 @@ module _ (t : List ℕ) (y : ℕ) (c : Cursor) where
         pub index_is : {d : Cursor} → Takes t 41 o' (Ok d)
             → rate_index y (toks_at t c.start) ≡ rate_of y (token_at t n) (token_at t m) (token_at t o) (toks_at t d.start)
         index_is g = index_three ∙ next_ok (the_by 41) (toks_at t o'.start) (rate_of y (token_at t n) (token_at t m) (token_at t o)) g.2
-
--- ---- names by their keys
-
--- the definition's table and the code's, with their tests as arguments
-abbrev table_by : (a b c d e f g h : Bool) → ℕ × ℕ × ℕ
-table_by a b c d e f g h =
-    elim a [ true ↦ (21, 1, 1) | false ↦ elim b [ true ↦ (22, 1, 1) | false ↦ elim c [ true ↦ (12, 2, 2) | false ↦ elim d [ true ↦ (23, 2, 100) | false ↦ elim e [ true ↦ (24, 2, 100) | false ↦ elim f [ true ↦ (25, 3, 3) | false ↦ elim g [ true ↦ (26, 4, 4) | false ↦ elim h [ true ↦ (27, 2, 2) | false ↦ (0, 0, 0) ] ] ] ] ] ] ] ]
-
-abbrev kind_by : (a b c d e f g h i j k : Bool) → ℕ
-kind_by a b c d e f g h i j k =
-    let x = table_by a b c d e f g h in
-    if leb 1 x.0 then x.0 else if i then 32 else if j then 34 else if k then 35 else 0
-
-abbrev short_by : (a b c d e f g h i j : Bool) → ℕ
-short_by a b c d e f g h i j =
-    elim a [ true ↦ 21 | false ↦ elim b [ true ↦ 22 | false ↦ elim c [ true ↦ 12 | false ↦ elim d [ true ↦ 23 | false ↦ elim e [ true ↦ 24 | false ↦ elim f [ true ↦ 25 | false ↦ elim g [ true ↦ 26 | false ↦ elim h [ true ↦ 27 | false ↦ elim i [ true ↦ 32 | false ↦ elim j [ true ↦ 34 | false ↦ 0 ] ] ] ] ] ] ] ] ] ]
-
-kinds_meet : (a b c d e f g h i j k : Bool) → kind_by a b c d e f g h i j k ≡ (if eqb (short_by a b c d e f g h i j) 0 then (if k then 35 else 0) else short_by a b c d e f g h i j)
-kinds_meet true b c d e f g h i j k = refl
-kinds_meet false true c d e f g h i j k = refl
-kinds_meet false false true d e f g h i j k = refl
-kinds_meet false false false true e f g h i j k = refl
-kinds_meet false false false false true f g h i j k = refl
-kinds_meet false false false false false true g h i j k = refl
-kinds_meet false false false false false false true h i j k = refl
-kinds_meet false false false false false false false true i j k = refl
-kinds_meet false false false false false false false false true j k = refl
-kinds_meet false false false false false false false false false true k = refl
-kinds_meet false false false false false false false false false false k = refl
-
-pub call_long : (w : List ℕ) → same (bytes "RateIndex") w ≡ true → 35 ≡ call_kind w
-unfolding call_kind call_of same bytes
-call_long w e = subst (λ (v : List ℕ). ◌≡◌ {A = ℕ} 35 (call_kind v)) (same_eq (bytes "RateIndex") w e) refl
-
-module _ (w : List ℕ) (h : Bytes w) where
-  abbrev key_is : String → Bool
-  key_is s = eqb (key_of w) (pack (bytes s))
-
-  told : (s : String) → T (every small (bytes s)) → length (bytes s) ≤ 6 → same (bytes s) w ≡ key_is s
-  told s g l = key_same (bytes s) w g l (smalls w h)
-
-  call_is : call_kind w ≡ (if eqb (call_by (key_of w)) 0 then (if same (bytes "RateIndex") w then 35 else 0) else call_by (key_of w))
-  unfolding call_kind call_of call_by lookup keyed bytes every
-  call_is =
-      (λ x. kind_by (told "ln" tt (omega arith) x) (told "exp" tt (omega arith) x) (told "pow" tt (omega arith) x) (told "min" tt (omega arith) x)
-      (told "max" tt (omega arith) x) (told "cvg" tt (omega arith) x) (told "fif" tt (omega arith) x) (told "range" tt (omega arith) x)
-      (told "Spot" tt (omega arith) x) (told "Df" tt (omega arith) x) (same (bytes "RateIndex") w))
-      ∙ kinds_meet (key_is "ln") (key_is "exp") (key_is "pow") (key_is "min") (key_is "max") (key_is "cvg") (key_is "fif") (key_is "range") (key_is "Spot") (key_is "Df") (same (bytes "RateIndex") w)
-
-  -- no other name than RateIndex is longer than a key
-  pub call_other : same (bytes "RateIndex") w ≡ false → call_by (key_of w) ≡ call_kind w
-  call_other z = sym (call_is ∙ go (call_by (key_of w)) (ap (λ (b : Bool). if◌then◌else◌ {A = ℕ} b 35 0) z))
-    where
-      go : (k : ℕ) → ◌≡◌ {A = ℕ} (if same (bytes "RateIndex") w then 35 else 0) 0 → (if eqb k 0 then (if same (bytes "RateIndex") w then 35 else 0) else k) ≡ k
-      go zero e = e
-      go (suc k) e = rw (ne_eqb (suc k) 0 (λ z. omega (arith, z)))
-
-  -- methods by their keys
-  pub method_is : (n k : ℕ) → k ≡ key_of w → method_kind w n ≡ (if eqb k (pack (bytes "append")) && eqb n 1 then 29
-      else if eqb k (pack (bytes "mean")) && eqb n 0 then 30 else if eqb k (pack (bytes "std")) && eqb n 0 then 31 else 0)
-  unfolding method_kind bytes every
-  method_is n k e =
-      (λ x. if told "append" tt (omega arith) x && eqb n 1 then 29
-      else if told "mean" tt (omega arith) x && eqb n 0 then 30 else if told "std" tt (omega arith) x && eqb n 0 then 31 else 0)
-      ∙ ap (λ (y : ℕ). if eqb y (pack (bytes "append")) && eqb n 1 then 29
-      else if eqb y (pack (bytes "mean")) && eqb n 0 then 30 else if eqb y (pack (bytes "std")) && eqb n 0 then 31 else 0) (sym e)

@@ -8,6 +8,7 @@ pub mod RaiseLaws
 pub mod PowerLaws
 pub mod StepLaws
 pub mod CallLaws
+pub mod NamedLaws
 pub mod AtomLaws
 pub mod CallingLaws
 pub mod ItemLaws

@@ -45,7 +45,7 @@ pub struct Read {
     pub string: Option<u16>,
 }
 
-// A date or a currency was read, as its number.
+// A date or a currency was read, as its number. 0 is none, not a `None`: so records keep it for who reads them in C.
 #[derive(Clone, Copy)]
 pub struct Number {
     pub at: Cursor,

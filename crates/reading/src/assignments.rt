@@ -29,11 +29,7 @@ pub fn ended(
 {
     let r = expression(s, language, false, c, depth, out, n)?;
     let at = take(s, r.at, SEMICOLON)?;
-    Ok(Read {
-        at,
-        records: r.records,
-        string: r.string,
-    })
+    Ok(Read { at, ..r })
 }
 
 // A pays, whose word stands at c, and its `;`, which is optional.
@@ -56,8 +52,7 @@ pub fn paid(
     }
     Ok(Read {
         at: next(s, r.at),
-        records: r.records,
-        string: r.string,
+        ..r
     })
 }
 

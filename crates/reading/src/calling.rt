@@ -149,6 +149,7 @@ pub fn special(
     let leaf = match kind {
         Kind::Spot => spot_at(s, language, place, c)?,
         Kind::Df => df_at(s, place, c)?,
+        // RateIndex: `expressions::name` sends no other kind here.
         _ => rate_index_at(s, place, c)?,
     };
     Ok(written(leaf, out, n))

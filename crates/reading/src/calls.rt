@@ -4,7 +4,7 @@ ghost use Rattle.tokens.specs.Dates.{unless_0};
 ghost use Rattle.grammar.specs.Grammar.{a_date, a_currency, df, curve, rate_index, rate_of, spot, spot_of, equity, pair};
 ghost use Rattle.grammar.specs.Trees.{Tree};
 ghost use Rattle.grammar.specs.Readers.{Out, bind};
-ghost use Rattle.reading.specs.Calls.{call_kind, call_by, right_count, method_kind, optional_by, ending, date_in, kind_or_none};
+ghost use Rattle.reading.specs.Calls.{call_kind, right_count, method_kind, optional_by, ending, date_in, kind_or_none};
 ghost use Rattle.reading.specs.Meets.{words_in, toks_at, token_at, Holds, Follows, MeetsNumber, MeetsLeaf, Leads};
 ghost use Rattle.reading.specs.Rows.{kind_number};
 
@@ -17,36 +17,26 @@ use tokens::cursor::Cursor;
 use tokens::dates::date_of;
 use tokens::names::place_in;
 use tokens::refusals::Ground;
-use tokens::text::equal;
-use tokens::words::key_of;
-
-#[tactic(auto, unfolding(crate::specs::Computing::computing))]
-fn call_by(key: u64) -> Option<Kind>
-    ensures { kind_or_none result ≡ call_by key }
-{
-    match key {
-        0x1_6e_6c => Some(Kind::Ln),
-        0x1_70_78_65 => Some(Kind::Exp),
-        0x1_77_6f_70 => Some(Kind::Pow),
-        0x1_6e_69_6d => Some(Kind::Min),
-        0x1_78_61_6d => Some(Kind::Max),
-        0x1_67_76_63 => Some(Kind::Cvg),
-        0x1_66_69_66 => Some(Kind::Fif),
-        0x1_65_67_6e_61_72 => Some(Kind::Range),
-        0x1_74_6f_70_53 => Some(Kind::Spot),
-        0x1_66_44 => Some(Kind::Df),
-        _ => None,
-    }
-}
 
 // The kind of record that a call of this name makes.
+#[tactic(auto, using(crate::proofs::NamedLaws::called_names))]
 pub fn call_of(w: &[u8]) -> Option<Kind>
     ensures { kind_or_none result ≡ call_kind w.now }
 {
-    if equal(b"RateIndex", w) {
-        return Some(Kind::RateIndex);
+    match w {
+        b"ln" => Some(Kind::Ln),
+        b"exp" => Some(Kind::Exp),
+        b"pow" => Some(Kind::Pow),
+        b"min" => Some(Kind::Min),
+        b"max" => Some(Kind::Max),
+        b"cvg" => Some(Kind::Cvg),
+        b"fif" => Some(Kind::Fif),
+        b"range" => Some(Kind::Range),
+        b"Spot" => Some(Kind::Spot),
+        b"Df" => Some(Kind::Df),
+        b"RateIndex" => Some(Kind::RateIndex),
+        _ => None,
     }
-    call_by(key_of(w))
 }
 
 // Whether a call takes so many arguments.
@@ -64,13 +54,14 @@ pub fn is_right_count(kind: Kind, count: u32) -> bool
 }
 
 // The kind of record that a method of this name makes with so many arguments.
+#[tactic(auto, using(crate::proofs::NamedLaws::called_methods))]
 pub fn method_of(w: &[u8], count: u32) -> Option<Kind>
     ensures { kind_or_none result ≡ method_kind w.now count }
 {
-    match (key_of(w), count) {
-        (0x1_64_6e_65_70_70_61, 1) => Some(Kind::Append),
-        (0x1_6e_61_65_6d, 0) => Some(Kind::Mean),
-        (0x1_64_74_73, 0) => Some(Kind::Std),
+    match (w, count) {
+        (b"append", 1) => Some(Kind::Append),
+        (b"mean", 0) => Some(Kind::Mean),
+        (b"std", 0) => Some(Kind::Std),
         _ => None,
     }
 }
@@ -183,10 +174,7 @@ fn closed(s: &[u8], leaf: Leaf) -> Result<Leaf, Fault>
     ensures { (R : Out Tree) → MeetsLeaf s.now R (Ok leaf) → MeetsLeaf s.now (bind ending R) result }
 {
     let at = take(s, leaf.at, CLOSE_PAREN)?;
-    Ok(Leaf {
-        at,
-        node: leaf.node,
-    })
+    Ok(Leaf { at, ..leaf })
 }
 
 // Spot, behind its name.

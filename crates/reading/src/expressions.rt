@@ -1,5 +1,8 @@
 // Expressions: one reader for each rule. They call each other through parentheses, lists, arguments and index, with the
 // depth that is left as the falling number.
+// In each loop an answer says where the next reader begins, so no range gives the places.
+// Why cursor, words and count go apart stands above `atoms::next` and at `records::put`. The text is not in `Language`, which
+// is one for a script: each statement is read from a part of its own, and many readers want the text alone.
 ghost use Rattle.std.specs.Prelude.{◌≡◌, true, List, ℕ, ◌<◌};
 ghost use Rattle.grammar.specs.Trees.{Tree};
 ghost use Rattle.grammar.specs.Grammar.{calls, call_of, primary};
@@ -149,7 +152,8 @@ fn sum(
     }
 }
 
-// Powers joined by `*` and `/`.
+// Powers joined by `*` and `/`. It is not one function with `sum`: a closure for the level below, since it is in the cycle,
+// would have that level's clauses written out, and with a number for the level it would call itself, a frame for each.
 #[cycle(expressions)]
 fn product(
     s: &[u8],
@@ -329,11 +333,7 @@ fn parenthesis(
     }
     let r = expression(s, language, false, d, depth - 1, out, n)?;
     let at = take(s, r.at, CLOSE_PAREN)?;
-    Ok(Read {
-        at,
-        records: r.records,
-        string: r.string,
-    })
+    Ok(Read { at, ..r })
 }
 
 // A list with postfixes; d stands behind its `[`, at c.
@@ -473,9 +473,7 @@ fn arguments(
     let r = items(s, language, d, CLOSE_PAREN, depth - 1, out, n)?;
     Ok(Items {
         at: next(s, r.at),
-        records: r.records,
-        count: r.count,
-        texts: r.texts,
+        ..r
     })
 }
 

@@ -1,4 +1,5 @@
-// The latest date of records in lent memory: a day count, or 0 where they have none.
+// The latest date of records in lent memory: a day count, or 0 where they have none, which is what records and entries keep for
+// who reads them in C.
 ghost use Rattle.std.specs.Prelude.{◌≡◌};
 ghost use Rattle.grammar.specs.Latest.{date_of};
 ghost use Rattle.reading.specs.Rows.{latest_between};

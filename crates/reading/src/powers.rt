@@ -105,7 +105,8 @@ fn sign_of(count: u32) -> Option<u8>
 
 // One operand, whose records end at m and whose text begins at the place, behind `count` others of a chain that begins at
 // `first`; `more` says whether a `**` follows. In the first edition it is joined to those before it. In the second it waits for
-// the next, or is the last, and then all are joined.
+// the next, or is the last, and then all are joined. A chain's numbers change one by one from turn to turn, and `mark` and
+// `raise` want some of them alone: a struct for all would be made anew at each turn, and is no plainer.
 pub fn step(
     out: &mut [u32],
     two: bool,

@@ -55,7 +55,8 @@ impl Kind {
     }
 }
 
-// The numbers of the kinds that hold names or dates, as memory has them.
+// The numbers of the kinds that hold names or dates, as memory has them: a `TryFrom` for `Kind` would be 39 arms for three
+// matches of two to five.
 pub const VARIABLE: u32 = Kind::Variable as u32;
 
 pub const STRING: u32 = Kind::String as u32;
@@ -91,7 +92,7 @@ impl Node {
     pub const MOST: usize = 2048;
 }
 
-// A node without fields.
+// A node without fields. Its kind is a number, since `join` and `assignments::compound` have a token's.
 pub fn plain(kind: u32, nodes: u32, parts: u32, place: u16) -> Node
     ensures { result ≡ record { kind = kind; nodes = nodes; parts = parts; f1 = 0; f2 = 0; f3 = 0; f4 = 0; place = place } }
 {
@@ -175,7 +176,8 @@ pub fn join(out: &mut [u32], sign: Option<u8>, n: u32, m: u32, p: Option<u16>, p
     }
 }
 
-// The words of a directory entry: start byte, end byte, records, tokens, the latest date.
+// The words of a directory entry: start byte, end byte, records, tokens, the latest date. They are as they are written; `Row`
+// in the crate amending has the same as it counts with them.
 #[derive(Clone, Copy)]
 pub struct Entry {
     pub start: u32,

@@ -24,6 +24,7 @@ pub fn byte_room(bytes: usize) -> usize
     bytes.min(Cursor::BYTES)
 }
 
+// One line each: a trait of `Node` and `Entry` for the two would be longer than they are.
 pub fn record_room(words: usize) -> usize
     ensures { result ≡ record_room words }
 {

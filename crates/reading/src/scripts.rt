@@ -44,6 +44,7 @@ pub fn all(
     let mut n: u32 = 0;
     let mut k: u32 = 0;
     let mut latest: u32 = 0;
+    // Each answer says where the next reader begins, so no range gives the places.
     while at.code != EOF {
         base += at.start as usize;
         let c = rebased(at);

@@ -125,6 +125,7 @@ fn block(
     let mut at = take(s, c, OPEN_CURLY)?;
     let mut m = n;
     let mut count: u32 = 0;
+    // Each answer says where the next reader begins, so no range gives the places.
     while at.code != CLOSE_CURLY {
         let r = statement(s, language, at, depth, out, m)?;
         at = r.at;
