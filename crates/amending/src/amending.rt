@@ -94,6 +94,7 @@ fn replace(
     latest_then(directory, statements, held.latest, row.latest, own.latest)
 }
 
+// No `From`, here and below: what is held does not tell whether it was accepted, and the latest date comes beside it.
 fn acceptance(whole: Held, latest: usize) -> Answer
     ensures { result ≡ accepted_with (dated latest whole) }
 {
