@@ -81,8 +81,7 @@ fn days_of_months(y: u32, n: u32) -> u32
 }
 
 // The count of the day d of the month m of the year y, 0 where there is no such day, as C has it and since it cannot fail,
-// which may not change. The three are handed over as they are, as C hands them over
-// (`calendar_count`).
+// which may not change. The three are handed over as they are, as C hands them over (`calendar_count`).
 #[tactic(auto, unfolding(crate::specs::Calendar::count_of))]
 pub fn count_of(y: u32, m: u32, d: u32) -> u32
     ensures { result ≡ count_of (dated y m d) }
