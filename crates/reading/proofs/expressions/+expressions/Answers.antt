@@ -1,26 +1,20 @@
 -- The readers of expressions, which call one another: each meets the reader of its level.
 use Prim.Native.Nat.{◌-◌}
 use native.Mathlib.Omega.{arith}
-use mathlib.Core.Path.{refl, sym, ap, ◌∙◌}
+use mathlib.Core.Path.{refl, sym, ap, ◌∙◌, ◌≡◌}
 use Rattle.std.specs.Prelude.{Ok}
 use Rattle.std.proofs.lemmas.Result.{err_from_is_err_and}
 use Rattle.grammar.specs.Trees.{Tree}
-use Rattle.grammar.specs.Readers.{Reader}
+use Rattle.grammar.specs.Readers.{Reader, refused}
 use Rattle.grammar.specs.Grammar as G
-use Rattle.grammar.specs.Grammar.{primary}
+use Rattle.grammar.specs.Grammar.{primary, call_of, calls}
 use Rattle.grammar.proofs.GrammarLaws.{primary_law}
 use Rattle.grammar.proofs.KindLaws.{primary_low}
 use Rattle.grammar.proofs.SizeLaws.{primary_size, signed_size}
-use Rattle.reading.specs.Meets.{language_of, toks_at}
-use Rattle.reading.specs.Turns.{inner, postfix_turn_at, method_at, index_at}
+use Rattle.reading.specs.Meets.{language_of, toks_at, token_at}
+use Rattle.reading.specs.Turns.{inner, postfix_turn_at, method_at, index_at, call_at}
 use Rattle.std.proofs.Common.{rules}
-use Rattle.reading.specs.Turns.{call_at}
-use Rattle.grammar.specs.Grammar.{call_of}
-use Rattle.grammar.specs.Grammar.{calls}
-use Rattle.grammar.specs.Readers.{refused}
-use Rattle.reading.specs.Meets.{token_at}
 use Rattle.tokens.specs.Refusals.{number_of}
-use mathlib.Core.Path.{◌≡◌}
 use Rattle.reading.proofs.MapLaws.{ok_was, err_was}
 use Rattle.reading.proofs.HoldLaws.{start_in, end_in}
 use Rattle.reading.proofs.KindLaws.{kind_some}
