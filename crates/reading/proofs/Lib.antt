@@ -1,5 +1,6 @@
 -- Laws of the definitions, for the layer above and for the proofs of this one.
 pub mod HoldLaws
+pub mod MapLaws
 pub mod SignLaws
 pub mod KindLaws
 pub mod RowLaws

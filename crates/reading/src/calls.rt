@@ -106,7 +106,8 @@ pub fn optional_date(s: &[u8], c: Cursor, sign: u8) -> Result<Number, Fault>
     date(s, next(s, c))
 }
 
-// Where this sign stands, a currency behind it; else 0.
+// Where this sign stands, a currency behind it; else 0. It is not one function with `optional_date`: each caller would hand in
+// a closure that calls the reader, which is no shorter than these lines.
 pub fn optional_currency(
     s: &[u8],
     language: &Language,

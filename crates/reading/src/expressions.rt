@@ -441,9 +441,8 @@ fn call(
 {
     let r = arguments(s, language, d, depth, out, n)?;
     let m = r.records;
-    if let Err(ground) = call_fault(s, language.lists.counters, kind, r.count, r.texts) {
-        return Err(Fault::at(c, ground));
-    }
+    let counters = language.lists.counters;
+    call_fault(s, counters, kind, r.count, r.texts).map_err(|cause| Fault::at(c, cause))?;
     put(out, m, plain(kind.number(), m - n + 1, r.count, c.start));
     Ok(Read {
         at: r.at,

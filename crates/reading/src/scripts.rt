@@ -48,10 +48,8 @@ pub fn all(
     while at.code != EOF {
         base += at.start as usize;
         let c = rebased(at);
-        let r = match statement(&s[base..], language, c, Cursor::DEPTH, records, n) {
-            Ok(r) => r,
-            Err(fault) => return Err(fault.in_script(base)),
-        };
+        let read = statement(&s[base..], language, c, Cursor::DEPTH, records, n);
+        let r = read.map_err(|fault| fault.in_script(base))?;
         let own = latest_of(records, n, r.records);
         put_entry(
             directory,

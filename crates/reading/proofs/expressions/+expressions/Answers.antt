@@ -1,18 +1,21 @@
 -- The readers of expressions, which call one another: each meets the reader of its level.
 use Prim.Native.Nat.{◌-◌}
 use native.Mathlib.Omega.{arith}
-use mathlib.Core.Path.{refl, sym, ap, ◌∙◌}
+use mathlib.Core.Path.{refl, sym, ap, ◌∙◌, ◌≡◌}
 use Rattle.std.specs.Prelude.{Ok}
 use Rattle.std.proofs.lemmas.Result.{err_from_is_err_and}
 use Rattle.grammar.specs.Trees.{Tree}
-use Rattle.grammar.specs.Readers.{Reader}
+use Rattle.grammar.specs.Readers.{Reader, refused}
 use Rattle.grammar.specs.Grammar as G
-use Rattle.grammar.specs.Grammar.{primary}
+use Rattle.grammar.specs.Grammar.{primary, call_of, calls}
 use Rattle.grammar.proofs.GrammarLaws.{primary_law}
 use Rattle.grammar.proofs.KindLaws.{primary_low}
 use Rattle.grammar.proofs.SizeLaws.{primary_size, signed_size}
-use Rattle.reading.specs.Meets.{language_of, toks_at}
-use Rattle.reading.specs.Turns.{inner, postfix_turn_at, method_at, index_at}
+use Rattle.reading.specs.Meets.{language_of, toks_at, token_at}
+use Rattle.reading.specs.Turns.{inner, postfix_turn_at, method_at, index_at, call_at}
+use Rattle.std.proofs.Common.{rules}
+use Rattle.tokens.specs.Refusals.{number_of}
+use Rattle.reading.proofs.MapLaws.{ok_was, err_was}
 use Rattle.reading.proofs.HoldLaws.{start_in, end_in}
 use Rattle.reading.proofs.KindLaws.{kind_some}
 use Rattle.reading.proofs.ChainLaws.{sign_not_0, power_level, product_level, sum_level, product_gates, sum_gates, sum_short, tighter_level, looser_level, tighter_some, looser_some, nests_as, nest_refused, nest_numbers, nest_less, nest_tighter, nest_whole_numbers, nest_exit, nest_looser, chain_exit, pend_as, pend_next, pend_refused, pend_numbers, pend_chain, pend_less}
@@ -28,8 +31,13 @@ arguments-returns t c = arguments_done _ _ _ _ c.requires.0 c.in_ok-d.ensures.1 
 pub call-call_fault-requires : goal.call-call_fault-requires
 call-call_fault-requires t c = shown_inside _ _ _ c.in_ok-r.ensures.shown
 
-pub call-returns-in-Err : goal.call-returns-in-Err
-call-returns-in-Err t c = rw c.at.ensures (call_faulty _ _ _ _ c.requires.3 c.requires.4 _ c.args.d c.in_ok-r.ensures _ c.in-Err.ensures)
+pub call-returns-in_err-map_err : goal.call-returns-in_err-map_err
+call-returns-in_err-map_err t c =
+    let e = err_was _ c.call_fault.result c.map_err.result c.in_err-map_err.field-0.0 c.map_err.ensures.cases (c.in_err-map_err.was {u = tt}) in
+    let y = token_at c.args.s.now c.args.c in
+    let h : call_at (language_of c.args.language.now) c.args.depth y (call_of y.text calls) (toks_at c.args.s.now c.args.d.start) ≡ refused (number_of e.0) y.from
+    = call_faulty _ _ _ _ c.requires.3 c.requires.4 _ c.args.d c.in_ok-r.ensures e.0 (rw e.1 at c.call_fault.ensures) in
+    search (rules, meets_err)
 
 pub call-overflow_add-m : goal.call-overflow_add-m
 call-overflow_add-m t c = omega (arith, arguments_within _ _ _ c.args.d c.in_ok-r.ensures c.requires.0.1)
@@ -38,7 +46,7 @@ pub call-overflow_add-result : goal.call-overflow_add-result
 call-overflow_add-result t c = omega (arith, arguments_within _ _ _ c.args.d c.in_ok-r.ensures c.requires.0.1)
 
 pub call-returns : goal.call-returns
-call-returns t c = call_done _ _ _ _ c.requires.3 c.requires.4 _ c.args.d c.in_ok-r.ensures c.in_default.ensures (put_fields _ _ _ _ _ _ _ _ _ _ (rw c.number.ensures at c.plain.ensures) c.put.ensures)
+call-returns t c = call_done _ _ _ _ c.requires.3 c.requires.4 _ c.args.d c.in_ok-r.ensures (rw (ok_was _ c.call_fault.result c.map_err.result _ c.map_err.ensures.cases (c.in_ok-map_err.was {u = tt})) at c.call_fault.ensures) (put_fields _ _ _ _ _ _ _ _ _ _ (rw c.number.ensures at c.plain.ensures) c.put.ensures)
 
 pub comparison-sum-requires : goal.comparison-sum-requires
 comparison-sum-requires t c = (omega (arith, c.decreases), (compare_ready _ _ (sum_short _ _ _) _ _ _ _ c.requires _ _ _ _ c.loop-r.invariant.1))
