@@ -43,7 +43,7 @@ use Rattle.amending.proofs.SwapLaws.{swapped_records, swapped_tokens, swapped_co
 use Rattle.amending.proofs.LentLaws.{sum_nodes, sum_tokens_lem}
 use Rattle.amending.proofs.Directory.{InOrder, text_order}
 use Rattle.amending.proofs.EndsBy.{ends_by_lem, last_end_lem}
-use Rattle.amending.proofs.Editions.{numbered_is, numbered_none, tested}
+use Rattle.amending.proofs.Editions.{numbered_is, numbered_none, tested, none_tested}
 
 -- ---- within
 
@@ -349,40 +349,39 @@ module _ (l : Lists) (M : Memory) (h : Held) (k : ℕ) (n : List ℕ) (E : Editi
 -- ---- the call as the code asks it
 
 module _ (M : Memory) (h : Held) (k : ℕ) (n : List ℕ) where
-  -- the edition that the new text is read in
-  abbrev E : Edition
-  E = edition_by (eqb h.edition 2)
+  pub refused_edition : (h.edition ≡ 1 → ⊥) → (h.edition ≡ 2 → ⊥) → (l : Lists) → amend_in l M h k n ≡ unchanged 26 0
+  refused_edition a b l = not_edition l M h k n (none_tested h.edition a b)
 
   module _ (e : is_edition h.edition ≡ true) where
     pub refused_room : within (rooms_in M) h ≡ false → (l : Lists) → amend_in l M h k n ≡ unchanged 20 0
-    refused_room f l = not_within l M h k n E (tested h.edition e) f
+    refused_room f l = not_within l M h k n (edition_by (eqb h.edition 2)) (tested h.edition e) f
 
     module _ (w : within (rooms_in M) h ≡ true) where
       W : Within (rooms_in M) h
       W = within_are (rooms_in M) h w
 
       pub refused_order : has_order M.directory h ≡ false → (l : Lists) → amend_in l M h k n ≡ unchanged 20 0
-      refused_order f l = not_ordered l M h k n E (tested h.edition e) W f
+      refused_order f l = not_ordered l M h k n (edition_by (eqb h.edition 2)) (tested h.edition e) W f
 
       module _ (o : has_order M.directory h ≡ true) where
         pub refused_number : h.statements ≤ k → (l : Lists) → amend_in l M h k n ≡ unchanged 17 0
-        refused_number f l = not_there l M h k n E (tested h.edition e) W o f
+        refused_number f l = not_there l M h k n (edition_by (eqb h.edition 2)) (tested h.edition e) W o f
 
         pub refused_zero : k < h.statements → no_zero n ≡ false → (l : Lists) → amend_in l M h k n ≡ unchanged 19 0
-        refused_zero t f l = not_clear l M h k n E (tested h.edition e) W o t f
+        refused_zero t f l = not_clear l M h k n (edition_by (eqb h.edition 2)) (tested h.edition e) W o t f
 
-  module _ (l : Lists) (A : Admits M h k n) where
+  module _ (E : Edition) (v : h.edition ≡ number_of E) (l : Lists) (A : Admits M h k n) where
     pub admitted_stands : Stands h (words_at M.directory (entry_width * k))
-    admitted_stands = one_stands l M h k n E (tested h.edition A.edition) (within_are (rooms_in M) h A.holds) A.ordered A.there
+    admitted_stands = one_stands l M h k n E v (within_are (rooms_in M) h A.holds) A.ordered A.there
 
     pub admitted_refused : {f b : ℕ} → judgement E l n ≡ judged.rejected f b → amend_in l M h k n ≡ unchanged f b
-    admitted_refused j = not_read l M h k n E (tested h.edition A.edition) (within_are (rooms_in M) h A.holds) A.ordered A.there A.clear (judged_not E l n j)
+    admitted_refused j = not_read l M h k n E v (within_are (rooms_in M) h A.holds) A.ordered A.there A.clear (judged_not E l n j)
 
     pub admitted_ends : {c : Counts} → judgement E l n ≡ judged.good c → Ends n c
-    admitted_ends j = ends_ready l M h k n E (tested h.edition A.edition) (within_are (rooms_in M) h A.holds) A.ordered A.there A.clear (judged_good E l n j)
+    admitted_ends j = ends_ready l M h k n E v (within_are (rooms_in M) h A.holds) A.ordered A.there A.clear (judged_good E l n j)
 
     pub admitted_fits : {c : Counts} → judgement E l n ≡ judged.good c → MeetsVerdict l M h k n (fitting_by (rooms_in M) h (words_at M.directory (entry_width * k)) n c)
-    admitted_fits j = fitted l M h k n E (tested h.edition A.edition) (within_are (rooms_in M) h A.holds) A.ordered A.there A.clear (judged_good E l n j)
+    admitted_fits j = fitted l M h k n E v (within_are (rooms_in M) h A.holds) A.ordered A.there A.clear (judged_good E l n j)
 
 -- ---- a result whose refusal was given its byte
 

@@ -8,6 +8,7 @@ use Rattle.grammar.specs.Script.{Entry, accepted, read_script, no_zero, nodes, n
 use Rattle.grammar.specs.Words.{latest_of}
 use Rattle.tokens.specs.Refusals.{number_of as number}
 use Rattle.tokens.specs.declared.refusals.Ground.{Ground}
+use Rattle.reading.specs.Editions.{edition_of}
 use Rattle.reading.specs.declared.judging.Counts.{Counts}
 use Rattle.reading.specs.declared.reading.Answer.{Answer}
 use Rattle.amending.specs.Amending.{Rooms}
@@ -16,6 +17,7 @@ use Rattle.amending.specs.Memory.{Memory, rooms_in, used_in, within, amend_in, i
 use Rattle.amending.specs.Entries.{rows_from, pick_at}
 use Rattle.amending.specs.declared.held.Held.{Held}
 use Rattle.amending.specs.declared.rows.Row.{Row}
+use Rattle.amending.specs.declared.grounds.Chosen.{Chosen}
 use Rattle.amending.specs.Verdict.{Verdict}
 use Rattle.amending.specs.Verdict as verdict
 
@@ -142,9 +144,9 @@ pub record Admits (M : Memory) (h : Held) (k : ℕ) (n : List ℕ) : Type 0 wher
   pub there : k < h.statements
   pub clear : no_zero n ≡ true
 
--- the entry that is replaced; or a refusal at byte 0, whatever lists are lent
-abbrev pub MeetsGround : Memory → Held → ℕ → List ℕ → Result Row Ground → Type 0
-MeetsGround M h k n (Ok r) = Admits M h k n × (r ≡ words_at M.directory (entry_width * k))
+-- the edition that is held and the entry that is replaced; or a refusal at byte 0, whatever lists are lent
+abbrev pub MeetsGround : Memory → Held → ℕ → List ℕ → Result Chosen Ground → Type 0
+MeetsGround M h k n (Ok a) = Admits M h k n × (a.row ≡ words_at M.directory (entry_width * k)) × (h.edition ≡ number_of (edition_of a.edition))
 MeetsGround M h k n (Err g) = (l : Lists) → amend_in l M h k n ≡ unchanged (number g) 0
 
 -- what each case says of the call

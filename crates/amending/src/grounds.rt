@@ -1,7 +1,7 @@
 // On what grounds an amendment is refused: 26, 20, 17, 19, then the new text read alone (1 to 15), 18, 16 over the totals.
 ghost use Rattle.std.specs.Prelude.{◌≡◌, ◌≤◌, length};
 ghost use Rattle.tokens.specs.LentLists.{lists_of};
-ghost use Rattle.amending.specs.Memory.{is_edition, as_memory, as_rooms};
+ghost use Rattle.amending.specs.Memory.{as_memory, as_rooms};
 ghost use Rattle.amending.specs.Grounds.{ends_whole, ends_shut, Ends, Stands, Few, alone, totals, fitting_by, MeetsGround, MeetsVerdict};
 ghost use Rattle.amending.specs.Verdict.{as_verdict, as_fitting};
 
@@ -10,6 +10,7 @@ use crate::memory::Memory;
 use crate::orders::in_order;
 use crate::rooms::Rooms;
 use crate::rows::Row;
+use reading::editions::Edition;
 use reading::judging::{Counts, is_clear, judge};
 use tokens::lists::Lists;
 use tokens::refusals::{Ground, Refusal};
@@ -22,6 +23,13 @@ pub struct Fit {
     pub whole: Held,
 }
 
+// The edition that is held, and the entry that is replaced.
+#[derive(Clone, Copy)]
+struct Chosen {
+    edition: Edition,
+    row: Row,
+}
+
 pub fn verdict_on(
     memory: &Memory<'_>,
     held: Held,
@@ -31,23 +39,29 @@ pub fn verdict_on(
 ) -> Result<Fit, Refusal>
     ensures { MeetsVerdict (lists_of lists.now) (as_memory memory.now) held statement text.now (as_verdict result) }
 {
-    let row = admitted(memory, held, statement, text).map_err(|cause| Refusal { cause, byte: 0 })?;
-    let counts = judge(text, held.edition == 2, lists)?;
-    let whole = fitting(memory.rooms(), held, row, text, counts).map_err(|cause| Refusal {
+    let chosen = admitted(memory, held, statement, text).map_err(|cause| Refusal {
+        cause,
+        byte: 0,
+    })?;
+    let counts = judge(text, chosen.edition, lists)?;
+    let whole = fitting(memory.rooms(), held, chosen.row, text, counts).map_err(|cause| Refusal {
         cause,
         byte: counts.bytes,
     })?;
     Ok(Fit { counts, whole })
 }
 
-// The entry that is replaced; or 26, 20, 17 or 19, all of which lie at byte 0.
-#[tactic(auto, using(crate::proofs::GroundLaws::not_edition, crate::proofs::GroundLaws::refused_room, crate::proofs::GroundLaws::refused_order, crate::proofs::GroundLaws::refused_number, crate::proofs::GroundLaws::refused_zero))]
-fn admitted(memory: &Memory<'_>, held: Held, statement: usize, text: &[u8]) -> Result<Row, Ground>
+// What the new text is read in, and what it replaces; or 26, 20, 17 or 19, all of which lie at byte 0.
+#[tactic(auto, using(crate::proofs::Editions::is_edition_lem, crate::proofs::GroundLaws::refused_edition, crate::proofs::GroundLaws::refused_room, crate::proofs::GroundLaws::refused_order, crate::proofs::GroundLaws::refused_number, crate::proofs::GroundLaws::refused_zero))]
+fn admitted(
+    memory: &Memory<'_>,
+    held: Held,
+    statement: usize,
+    text: &[u8],
+) -> Result<Chosen, Ground>
     ensures { MeetsGround (as_memory memory.now) held statement text.now result }
 {
-    if !is_edition(held.edition) {
-        return Err(Ground::Edition);
-    }
+    let edition = Edition::try_from(held.edition)?;
     if !memory.rooms().hold(&held) || !in_order(memory.directory, &held) {
         return Err(Ground::Directory);
     }
@@ -57,14 +71,10 @@ fn admitted(memory: &Memory<'_>, held: Held, statement: usize, text: &[u8]) -> R
     if !is_clear(text) {
         return Err(Ground::ZeroByte);
     }
-    Ok(Row::at(memory.directory, statement))
-}
-
-// Whether there is an edition of this number.
-fn is_edition(edition: u32) -> bool
-    ensures { result ≡ is_edition edition }
-{
-    edition == 1 || edition == 2
+    Ok(Chosen {
+        edition,
+        row: Row::at(memory.directory, statement),
+    })
 }
 
 // What is used where a text that can be read takes the place of an entry; or 18 or 16. The text alone is tested first, so that

@@ -6,6 +6,7 @@ pub mod Powers
 pub mod Few
 pub mod Faults
 pub mod Meets
+pub mod Editions
 pub mod Calls
 pub mod Signs
 pub mod Turns

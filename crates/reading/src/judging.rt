@@ -3,8 +3,10 @@ ghost use Rattle.std.specs.Prelude.{◌≡◌, ◌≤◌, length};
 ghost use Rattle.tokens.specs.LentLists.{lists_of};
 ghost use Rattle.grammar.specs.Script.{no_zero};
 ghost use Rattle.reading.specs.Meets.{edition_by};
+ghost use Rattle.reading.specs.Editions.{edition_of};
 ghost use Rattle.reading.specs.Judging.{judged, judgement, text_judgement};
 
+use crate::editions::Edition;
 use crate::language::Language;
 use crate::scripts::all;
 use tokens::lists::Lists;
@@ -22,9 +24,9 @@ pub struct Counts {
     pub last: usize,
 }
 
-// Judges a script of the first or the second edition: 1 to 15 in their order.
-pub fn judge(script: &[u8], two: bool, lists: &Lists) -> Result<Counts, Refusal>
-    ensures { judged result ≡ judgement (edition_by two) (lists_of lists.now) script.now }
+// Judges a script of an edition: 1 to 15 in their order.
+pub fn judge(script: &[u8], edition: Edition, lists: &Lists) -> Result<Counts, Refusal>
+    ensures { judged result ≡ judgement (edition_of edition) (lists_of lists.now) script.now }
 {
     let n = script_end(script)?;
     if !lists.are_well_formed() {
@@ -33,7 +35,11 @@ pub fn judge(script: &[u8], two: bool, lists: &Lists) -> Result<Counts, Refusal>
             byte: 0,
         });
     }
-    judge_text(&script[..n], &Language { two, lists: *lists })
+    let language = Language {
+        two: edition.is_second(),
+        lists: *lists,
+    };
+    judge_text(&script[..n], &language)
 }
 
 // Whether a text has no zero byte, however long it is.

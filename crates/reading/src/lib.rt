@@ -7,6 +7,7 @@ mod atoms;
 mod bodies;
 mod calling;
 mod calls;
+pub mod editions;
 mod expressions;
 pub mod judging;
 mod language;

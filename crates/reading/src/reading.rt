@@ -2,9 +2,10 @@
 ghost use Rattle.std.specs.Prelude.{◌≡◌};
 ghost use Rattle.tokens.specs.LentLists.{lists_of};
 ghost use Rattle.grammar.specs.Script.{number_of};
-ghost use Rattle.reading.specs.Meets.{edition_by};
+ghost use Rattle.reading.specs.Editions.{edition_of};
 ghost use Rattle.reading.specs.Reading.{accepted_with, refused_at, answered, LeavesIn, Leaves};
 
+use crate::editions::Edition;
 use crate::judging::{Counts, judge};
 use crate::language::Language;
 use crate::rooms::{record_room, statement_room};
@@ -30,7 +31,8 @@ pub struct Answer {
 }
 
 // Reads a script of the edition that is named, 1 or 2: 26 for another number, before all other grounds. Records and directory
-// are lent apart, as in C, and for the reason at `records::put`.
+// are lent apart, as in C, and for the reason at `records::put`. The edition is a number, as in C (`script_read`), where it can be
+// another.
 pub fn read(
     script: &[u8],
     edition: u32,
@@ -40,12 +42,11 @@ pub fn read(
 ) -> Answer
     ensures { Leaves edition (lists_of lists.now) script.now records.old directory.old result records.new directory.new }
 {
-    let two = match edition {
-        1 => false,
-        2 => true,
-        _ => return refusal(script, Ground::Edition.number(), 0),
+    let edition = match Edition::try_from(edition) {
+        Ok(edition) => edition,
+        Err(ground) => return refusal(script, ground.number(), 0),
     };
-    match read_in(script, two, lists, records, directory) {
+    match read_in(script, edition, lists, records, directory) {
         Ok(accepted) => accepted,
         Err(e) => refusal(script, e.cause.number(), e.byte),
     }
@@ -54,33 +55,30 @@ pub fn read(
 // Reads a script: its records and its directory are written once nothing can refuse it any more.
 fn read_in(
     script: &[u8],
-    two: bool,
+    edition: Edition,
     lists: &Lists,
     records: &mut [u32],
     directory: &mut [u32],
 ) -> Result<Answer, Refusal>
-    ensures { LeavesIn (edition_by two) (lists_of lists.now) script.now records.old directory.old (answered script.now result) records.new directory.new }
+    ensures { LeavesIn (edition_of edition) (lists_of lists.now) script.now records.old directory.old (answered script.now result) records.new directory.new }
 {
-    let c = judge(script, two, lists)?;
+    let c = judge(script, edition, lists)?;
     if c.records > record_room(records.len()) || c.statements > statement_room(directory.len()) {
         return Err(Refusal {
             cause: Ground::Room,
             byte: c.bytes,
         });
     }
-    let language = Language { two, lists: *lists };
+    let language = Language {
+        two: edition.is_second(),
+        lists: *lists,
+    };
     let r = all(&script[..c.bytes], &language, records, directory)?;
-    Ok(acceptance(two, c, r.latest as usize))
+    Ok(acceptance(edition, c, r.latest as usize))
 }
 
-fn number_of(two: bool) -> u32
-    ensures { result ≡ number_of (edition_by two) }
-{
-    if two { 2 } else { 1 }
-}
-
-fn acceptance(two: bool, c: Counts, latest: usize) -> Answer
-    ensures { result ≡ accepted_with (number_of (edition_by two)) c latest }
+fn acceptance(edition: Edition, c: Counts, latest: usize) -> Answer
+    ensures { result ≡ accepted_with (number_of (edition_of edition)) c latest }
 {
     Answer {
         number: 0,
@@ -92,7 +90,7 @@ fn acceptance(two: bool, c: Counts, latest: usize) -> Answer
         records: c.records,
         tokens: c.tokens,
         latest,
-        edition: number_of(two),
+        edition: edition.number(),
     }
 }
 
