@@ -6,6 +6,25 @@ ghost use Rattle.tokens.specs.Runs.{up, grow, feed, feed_all, begin};
 
 use crate::refusals::Ground;
 
+const TENS: [u64; 16] = [
+    1,
+    10,
+    100,
+    1000,
+    10000,
+    100000,
+    1000000,
+    10000000,
+    100000000,
+    1000000000,
+    10000000000,
+    100000000000,
+    1000000000000,
+    10000000000000,
+    100000000000000,
+    1000000000000000,
+];
+
 const MOST_DIGITS: u64 = 9007199254740992;
 
 const MOST_DECIMALS: u32 = 15;
@@ -93,12 +112,12 @@ pub fn number_fault(w: &[u8]) -> Result<(), Ground>
     measured(w).judged()
 }
 
-#[tactic(auto, using(crate::proofs::TableLaws::tens_fit))]
-fn ten_to(n: u32) -> u64
+#[tactic(auto, using(crate::proofs::TableLaws::tens_is))]
+fn ten_to(n: usize) -> u64
     requires { n < 16 }
     ensures { result ≡ 10 ^ n }
 {
-    10u64.pow(n)
+    TENS[n]
 }
 
 // The value of a literal, by one division; 0 where its bytes are refused (5, 6), since it cannot fail, which may not change.
@@ -109,7 +128,7 @@ pub fn value_of(w: &[u8]) -> f64
     let run = measured(w);
     match run.judged() {
         Err(_) => 0.0,
-        Ok(()) => run.digits as f64 / ten_to(run.decimals) as f64,
+        Ok(()) => run.digits as f64 / ten_to(run.decimals as usize) as f64,
     }
 }
 
