@@ -6,6 +6,7 @@ ghost use Rattle.tokens.specs.Runs.{up, grow, feed, feed_all, begin};
 
 use crate::refusals::Ground;
 
+// A table, since `pow` was tried, and took longer for each literal, up to five times.
 const TENS: [u64; 16] = [
     1,
     10,
