@@ -1,4 +1,4 @@
-// Keywords, told by their bytes; signs and names of calls, told by the number that their bytes make.
+// Keywords, told by their bytes; signs, told by the number that their bytes make.
 ghost use Rattle.std.specs.Prelude.{◌≡◌, ◌+◌, ◌*◌, length};
 ghost use Rattle.tokens.specs.Keys.{key_of, keyword_by, known, pair_by, lone_by};
 
