@@ -2,9 +2,10 @@
 use mathlib.Core.Path.{◌≡◌, refl, sym, ap, ◌∙◌}
 use mathlib.Core.List.{List, ◌++◌, append_assoc}
 use Prim.Native.Nat.{ℕ, ◌+◌, ◌-◌, ◌≤◌, ◌<◌, max}
+use native.Mathlib.Numerals.{add-one}
 use native.Mathlib.Omega.{arith}
-use lib.ListN.{length, take, drop, replicate, length-drop, length-append, length-replicate, take-append-drop}
-use lib.Seq.{paste, length-take-le, take_all, take-length, take-take, take-append-le, drop_at, take-paste, drop-paste, drop-drop}
+use lib.ListN.{length, get_or, set, take, drop, replicate, length-drop, length-append, length-replicate, take-append-drop}
+use lib.Seq.{paste, paste-suc, length-take-le, take_all, take-length, take-take, take-append-le, drop_at, take-paste, drop-paste, drop-drop}
 use Rattle.std.proofs.lemmas.Slice.{between_is}
 use Rattle.amending.specs.Moves.{part, used_after, resized, spliced, leave}
 
@@ -44,6 +45,11 @@ module _ {A : Type 0} (clear : A) (l : List A) (used from to k : ℕ) (ordered :
       let d : drop (u + f) moved ≡ drop (u + f) l =
       sym (drop-drop f u moved) ∙ ap (drop f) (drop-paste l (from + k) (drop to l) n (omega arith) (omega arith)) ∙ drop-drop f u l in
       rw (t, d, m, between_is l to used, take_all f (replicate f clear) (omega arith)) (simp append_assoc)
+
+-- ---- copy
+
+pub copy_turn : (l s m : List ℕ) (at i : ℕ) → at + i < length l → i < length m → s ≡ paste l at m i → set s (at + i) (get_or m i 0) ≡ paste l at m (i + 1)
+copy_turn l s m at i room more e = rw (e, add-one) (paste-suc l at m i 0 room more)
 
 -- ---- a part that is replaced
 

@@ -1,5 +1,6 @@
 // Parts of lent memory are moved, cleared and replaced in place. Each contract says what every element is afterwards.
-ghost use Rattle.std.specs.Prelude.{◌≡◌, ◌≤◌, length};
+ghost use Rattle.std.specs.Prelude.{◌≡◌, ◌+◌, ◌≤◌, length};
+ghost use Rattle.std.proofs.Math.Seq.{paste};
 ghost use Rattle.amending.specs.Moves.{used_after, resized, spliced};
 
 use std::ops::Range;
@@ -24,6 +25,17 @@ pub fn resize<T: Copy>(s: &mut [T], used: usize, part: Range<usize>, k: usize, z
     end
 }
 
+// Copies a text over the bytes from a place on. A loop, and no `copy_from_slice`, which becomes a call of `memmove`: whoever
+// links the archive would have to bring that.
+fn copy_into(script: &mut [u8], at: usize, text: &[u8])
+    requires { at + length text.now ≤ length script.old }
+    ensures { script.new ≡ paste script.old at text.now (length text.now) }
+{
+    for (i, &b) in text.iter().enumerate() {
+        script[at + i] = b;
+    }
+}
+
 // Replaces a part of the first `used` bytes by `text`, and zeroes the room that is freed. Returns how many bytes are then in
 // use.
 pub fn replace_bytes(script: &mut [u8], used: usize, part: Range<usize>, text: &[u8]) -> usize
@@ -32,6 +44,6 @@ pub fn replace_bytes(script: &mut [u8], used: usize, part: Range<usize>, text: &
 {
     let from = part.start;
     let end = resize(script, used, part, text.len(), 0);
-    script[from..from + text.len()].copy_from_slice(text);
+    copy_into(script, from, text);
     end
 }

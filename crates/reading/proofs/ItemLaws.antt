@@ -24,18 +24,19 @@ use Rattle.reading.specs.declared.records.Kind.{Kind}
 use Rattle.reading.proofs.KindLaws.{kind_some}
 use Rattle.tokens.specs.Refusals.{number_of}
 use Rattle.tokens.specs.declared.refusals.Ground.{Ground}
+use Rattle.tokens.specs.declared.refusals.Ground.TheVariants as ground
 use Rattle.tokens.proofs.RefusalLaws.{number_in}
 use Rattle.reading.specs.Meets.{words_in, language_in, toks_at, token_at, Holds, Room, Ready, Follows, Takes, string_at, Quoted, Reads, Meets, Before}
 use Rattle.reading.specs.Turns.{StandsIn, Inside, inner, list_postfixed, pays_stop, Closing, item_end, item_turn_by, items_by, FollowsItem, string_of, AllQuoted, Shown, shown_by, ReadsItems, call_fault, Tops}
 use Rattle.std.specs.Prelude.{Option, None, Result, Ok, Err}
-use Rattle.reading.specs.Faults.{refused_by}
+use Rattle.reading.specs.Faults.{fault_at, refused_by}
 use Rattle.reading.specs.declared.answers.Fault.{Fault}
 use Rattle.reading.specs.declared.answers.Read.{Read}
 use Rattle.reading.specs.declared.answers.Texts.{Texts}
 use Rattle.grammar.proofs.Laws.{loop_eq, left_shorter}
 use Rattle.grammar.proofs.GrammarLaws.{Moves, Stays, Steps, laws, expression_law, pay_turn_law}
 use Rattle.grammar.proofs.SizeLaws.{Sized, SizedAll, expression_size, items_size, arguments_size, moves_less, primary_size}
-use Rattle.reading.proofs.HoldLaws.{toks_are, ask_yes, ask_no, peek_is, read_next, the_next, reads_some}
+use Rattle.reading.proofs.HoldLaws.{takes_not, toks_are, ask_yes, ask_no, peek_is, read_next, the_next, reads_some}
 use Rattle.grammar.proofs.TreeLaws.{parts_snoc}
 use Rattle.reading.proofs.RowLaws.{size_node, size_some, parts_few, before_none, before_more, before_node}
 use Rattle.reading.proofs.ChainLaws.{reads_within}
@@ -255,6 +256,9 @@ module _ (W : Language) (depth : ℕ) (t : List ℕ) (c : Cursor) (h : Holds t c
           → (if b then deeper (token_at t c) (inner W depth) (λ p. read >> closed W ")" p) else fail 8) (toks_at t c.start) ≡ refused_by e
       go true q = absurd (reads_some h.left (final (length t)) _ (ap read (sym (toks_are h)) ∙ q))
       go false q = ap (bind (λ (u : Token). give nil)) q
+
+  pub arguments_other : (c.code ≡ 40 → ⊥) → arguments W (inner W depth) (toks_at t c.start) ≡ refused 8 c.start
+  arguments_other z = arguments_no (fault_at c ground.Token) (takes_not h 40 z)
 
   arguments_yes : c.code ≡ 40 → arguments W (inner W depth) (toks_at t c.start) ≡ deeper (token_at t c) (inner W depth) (λ p. read >> closed W ")" p) (toks_at t c.start)
   unfolding arguments

@@ -2,19 +2,20 @@
 use mathlib.Core.Path.{◌≡◌, refl, sym, ap, ◌∙◌}
 use mathlib.Core.Bool.{Bool, true, false, ◌&&◌}
 use mathlib.Core.List.{List, [], ◌∷◌}
-use Prim.Native.Nat.{ℕ, suc, ◌+◌}
+use Prim.Native.Nat.{ℕ, suc, ◌+◌, ◌≤◌}
 use Prim.Native.String.{String}
 use native.Mathlib.Omega.{arith}
-use lib.Dec.{leb, eqb}
+use lib.Dec.{T, leb, eqb}
 use borrow.Author.Tests.{eqb-true}
 use lib.ListN.{length, get_or, drop, drop_of_length-le}
 use lib.Seq.{drop-cons}
 use Rattle.std.specs.Prelude.{if◌then◌else◌}
-use Rattle.tokens.specs.Text.{bytes, same}
-use Rattle.tokens.proofs.KeyLaws.{Spelled}
+use Rattle.tokens.specs.Text.{bytes, same, every}
+use Rattle.tokens.specs.Keys.{pack, lookup, keyed, key_of}
+use Rattle.tokens.proofs.KeyLaws.{Spelled, Bytes, small, smalls, key_same}
 use Rattle.tokens.proofs.Shapes.{same_eq, same_not}
 use Rattle.grammar.specs.Grammar.{call_of}
-use Rattle.reading.specs.Calls.{call_kind, method_kind}
+use Rattle.reading.specs.Calls.{call_kind, call_by, method_kind}
 
 spelled_from : (i : ℕ) (v w : List ℕ) → length w ≡ i + length v → Spelled i v w → drop i w ≡ v
 spelled_from i [] w l h = drop_of_length-le w {i = i} (omega arith)
@@ -115,6 +116,42 @@ calls_none w no_ln no_exp no_pow no_min no_max no_cvg no_fif no_range no_Spot no
 
 -- what each arm of a match on a call's name leaves to show
 pub ruleset called_names = (calls_ln, calls_exp, calls_pow, calls_min, calls_max, calls_cvg, calls_fif, calls_range, calls_Spot, calls_Df, calls_RateIndex, calls_none)
+
+-- ---- calls by their keys
+
+-- the table of keys, with its tests as arguments
+abbrev short_by : (a b c d e f g h i j : Bool) → ℕ
+short_by a b c d e f g h i j =
+    elim a [ true ↦ 21 | false ↦ elim b [ true ↦ 22 | false ↦ elim c [ true ↦ 12 | false ↦ elim d [ true ↦ 23 | false ↦ elim e [ true ↦ 24 | false ↦ elim f [ true ↦ 25 | false ↦ elim g [ true ↦ 26 | false ↦ elim h [ true ↦ 27 | false ↦ elim i [ true ↦ 32 | false ↦ elim j [ true ↦ 34 | false ↦ 0 ] ] ] ] ] ] ] ] ] ]
+
+kinds_meet : (a b c d e f g h i j k : Bool) → kind_by a b c d e f g h i j k ≡ (if eqb (short_by a b c d e f g h i j) 0 then (if k then 35 else 0) else short_by a b c d e f g h i j)
+kinds_meet true b c d e f g h i j k = refl
+kinds_meet false true c d e f g h i j k = refl
+kinds_meet false false true d e f g h i j k = refl
+kinds_meet false false false true e f g h i j k = refl
+kinds_meet false false false false true f g h i j k = refl
+kinds_meet false false false false false true g h i j k = refl
+kinds_meet false false false false false false true h i j k = refl
+kinds_meet false false false false false false false true i j k = refl
+kinds_meet false false false false false false false false true j k = refl
+kinds_meet false false false false false false false false false true k = refl
+kinds_meet false false false false false false false false false false k = refl
+
+module _ (w : List ℕ) (h : Bytes w) where
+  abbrev key_is : String → Bool
+  key_is s = eqb (key_of w) (pack (bytes s))
+
+  told : (s : String) → T (every small (bytes s)) → length (bytes s) ≤ 6 → same (bytes s) w ≡ key_is s
+  told s g l = key_same (bytes s) w g l (smalls w h)
+
+  -- a name of at most six bytes is a call's by the number that its bytes make, and `RateIndex` alone is longer
+  pub call_is : call_kind w ≡ (if eqb (call_by (key_of w)) 0 then (if same (bytes "RateIndex") w then 35 else 0) else call_by (key_of w))
+  unfolding call_kind call_of call_by lookup keyed bytes every
+  call_is =
+      (λ x. kind_by (told "ln" tt (omega arith) x) (told "exp" tt (omega arith) x) (told "pow" tt (omega arith) x) (told "min" tt (omega arith) x)
+      (told "max" tt (omega arith) x) (told "cvg" tt (omega arith) x) (told "fif" tt (omega arith) x) (told "range" tt (omega arith) x)
+      (told "Spot" tt (omega arith) x) (told "Df" tt (omega arith) x) (same (bytes "RateIndex") w))
+      ∙ kinds_meet (key_is "ln") (key_is "exp") (key_is "pow") (key_is "min") (key_is "max") (key_is "cvg") (key_is "fif") (key_is "range") (key_is "Spot") (key_is "Df") (same (bytes "RateIndex") w)
 
 -- ---- methods
 

@@ -453,7 +453,7 @@ fn call(
 
 // An argument list and both its parentheses.
 #[cycle(expressions)]
-#[tactic(auto, using(crate::proofs::StepLaws::items_err, crate::proofs::ItemLaws::arguments_no, crate::proofs::ItemLaws::arguments_0, crate::proofs::ItemLaws::arguments_refused))]
+#[tactic(auto, using(crate::proofs::StepLaws::items_err, crate::proofs::ItemLaws::arguments_other, crate::proofs::ItemLaws::arguments_0, crate::proofs::ItemLaws::arguments_refused))]
 fn arguments(
     s: &[u8],
     language: &Language,
@@ -465,10 +465,14 @@ fn arguments(
     requires { Ready s.now c n }
     ensures { MeetsItems s.now (arguments_at (language_of language.now) depth (toks_at s.now c.start)) n out.old result out.new }
 {
-    let d = take(s, c, OPEN_PAREN)?;
+    if c.code != OPEN_PAREN {
+        return Err(Fault::at(c, Ground::Token));
+    }
+    // The depth before the token behind, which a gap of any length may part from this one.
     if depth == 0 {
         return Err(Fault::at(c, Ground::Depth));
     }
+    let d = next(s, c);
     let r = items(s, language, d, CLOSE_PAREN, depth - 1, out, n)?;
     Ok(Items {
         at: next(s, r.at),

@@ -23,6 +23,12 @@ or_false_both : (a b : Bool) → (a || b) ≡ false → (a ≡ false) × (b ≡ 
 or_false_both true b h = absurd (true≢false h)
 or_false_both false b h = (refl, h)
 
+-- ---- no names
+pub none_good : (money : Bool) (l : List ℕ) → length l ≡ 0 → good_names money (names l) ≡ true
+unfolding names good_names every distinct
+none_good money [] h = refl
+none_good money (b ∷ l) h = absurd (omega arith)
+
 -- ---- equal bytes
 same_self : (a : List ℕ) → same a a ≡ true
 unfolding same

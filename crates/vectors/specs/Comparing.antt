@@ -1,9 +1,12 @@
 -- When a call gave and left what is stored.
 use Rattle.std.specs.Prelude.{Bool, true, false, ◌&&◌, List, [], ◌∷◌, ℕ, suc, eqb, leb, length, get_or, take, drop, min, Result, Ok, Err}
 use Rattle.std.specs.Bool.{beq}
+use Rattle.std.specs.Cmp.Lexicographic.{pointwise}
+use Rattle.std.specs.Result.{result_eq}
 use Rattle.tokens.specs.Text.{same}
 use Rattle.reading.specs.declared.reading.Answer.{Answer}
 use Rattle.vectors.specs.declared.trouble.Trouble.{Trouble}
+use Rattle.vectors.specs.declared.trouble.Trouble.TheVariants.{Differs, NoRoom, Malformed}
 use Rattle.vectors.specs.declared.memory.Memory.{Memory}
 use Rattle.vectors.specs.declared.«case».Slices.{Slices}
 use Rattle.reading.specs.declared.parts.Place.{Place}
@@ -43,6 +46,21 @@ abbrev pub slices_same : Slices → Slices → Bool
 slices_same a b =
     same (lent_of a.script) (lent_of b.script)
     && (same (lent_of a.records) (lent_of b.records) && same (lent_of a.directory) (lent_of b.directory))
+
+-- why two lines were not taken is the same
+abbrev pub trouble_same : Trouble → Trouble → Bool
+trouble_same Differs Differs = true
+trouble_same NoRoom NoRoom = true
+trouble_same Malformed Malformed = true
+trouble_same t u = false
+
+-- two lines were taken with the same size, or not taken for the same reason
+abbrev pub size_same : Result ℕ Trouble → Result ℕ Trouble → Bool
+size_same = result_eq eqb trouble_same
+
+-- what a comparison of memory answers: that all is well exactly where the sizes agree and each lent item is the same, and else that it differs
+abbrev pub compared : {T : Type 0} → (T → T → Bool) → Memory T → Memory T → Result Unit Trouble
+compared E a b = elim (size_same a.size b.size && pointwise E (lent_of a) (lent_of b)) [ true ↦ Ok tt | false ↦ Err Differs ]
 
 -- how many elements at the start of two lists are equal: the place of the first that differ
 unfoldable pub common : List ℕ → List ℕ → ℕ

@@ -1,5 +1,6 @@
 // Reads and amends, run on the memory of a case.
 ghost use Rattle.std.specs.Prelude.{◌≡◌, not, Some};
+ghost use Rattle.amending.specs.States.{held_of};
 ghost use Rattle.vectors.specs.Comparing.{slices_same};
 
 use crate::case::{Case, Slices};
@@ -13,6 +14,7 @@ impl<'a> Case<'a> {
     // behind it is lent.
     fn note(&mut self, before: &Slices, given: Answer)
         ensures noted { self.new.changed ≡ Some (not (slices_same self.old.slices before.now)) }
+        ensures held { self.new.held ≡ held_of given }
         ensures kept { self.new.slices ≡ self.old.slices }
     {
         self.changed = Some(!self.slices.are_same(before));
@@ -20,7 +22,8 @@ impl<'a> Case<'a> {
     }
 
     pub fn read(&mut self) -> Answer
-        ensures { self.new.changed ≡ Some (not (slices_same self.new.slices self.old.slices)) }
+        ensures noted { self.new.changed ≡ Some (not (slices_same self.new.slices self.old.slices)) }
+        ensures held { self.new.held ≡ held_of result }
     {
         let before = self.slices;
         let given = read(
@@ -35,7 +38,8 @@ impl<'a> Case<'a> {
     }
 
     pub fn amend(&mut self, statement: usize, text: &[u8]) -> Answer
-        ensures { self.new.changed ≡ Some (not (slices_same self.new.slices self.old.slices)) }
+        ensures noted { self.new.changed ≡ Some (not (slices_same self.new.slices self.old.slices)) }
+        ensures held { self.new.held ≡ held_of result }
     {
         let before = self.slices;
         let mut memory = Memory {

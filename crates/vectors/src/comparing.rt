@@ -1,6 +1,6 @@
 // Whether a call answered and left what is stored.
 ghost use Rattle.std.specs.Prelude.{◌≡◌};
-ghost use Rattle.vectors.specs.Comparing.{ground_stored, counts_stored, answer_stored, common};
+ghost use Rattle.vectors.specs.Comparing.{ground_stored, counts_stored, answer_stored, common, compared};
 
 use crate::case::Slices;
 use crate::memory::Memory;
@@ -63,6 +63,7 @@ fn compare<T: Copy + PartialEq, F: FnOnce(&[T], &[T])>(
     tell: F,
 ) -> Result<(), Trouble>
     requires { F.IsAlwaysCallable tell }
+    ensures { result ≡ compared T.eq stored.now left.now }
 {
     if stored.size() != left.size() {
         return Err(Trouble::Differs);

@@ -17,12 +17,14 @@ mod report;
 mod tally;
 mod trouble;
 
+ghost use Rattle.std.specs.Prelude.{◌≡◌, ◌≤◌, length};
+
 use crate::replay::replay;
 use crate::report::{say, say_tally, say_wrong};
 use crate::tally::Tally;
 use std::env::{Env, FillError};
 use std::fs::File;
-use std::io::{ErrorKind, Read};
+use std::io::Read;
 use std::str;
 
 // More than the longest file has, so that a file that fills it was cut.
@@ -37,30 +39,46 @@ fn opened(rt: &HostRuntime, path: &[u8]) -> Option<File> {
     File::open(rt, name).ok()
 }
 
-// What a file has, up to its end or to where a read of it fails, if there is room for it.
-fn contents(rt: &HostRuntime, file: File) -> Option<Vec<u8>> {
-    let mut text = Vec::new(rt.alloc());
-    if let Err(error) = file.take(TEXT as u64).read_to_end(&mut text)
-        && error.kind() == ErrorKind::OutOfMemory
-    {
-        return None;
+// Fills `out` from its start, until it is full, the input ends or a read fails. Answers how many bytes came. It is a loop of
+// reads into a buffer of a fixed size, since a `Vec`, as `read_to_end` fills it, needs memory that there may not be.
+fn read_full<R: Read>(input: &mut R, out: &mut [u8]) -> usize
+    ensures { result ≤ length out.new }
+{
+    let mut n: usize = 0;
+    while n < out.len() {
+        let Ok(more) = input.read(&mut out[n..]) else {
+            return n;
+        };
+        if more == 0 {
+            return n;
+        }
+        n += more;
     }
-    (text.len() < TEXT).then_some(text)
+    n
+}
+
+// Zeros, for the text of a file. Only their number is known, so that no proof goes over them.
+fn room() -> [u8; TEXT]
+    ensures { 524288 ≡ length result }
+{
+    [0; TEXT]
 }
 
 fn replay_file(rt: &HostRuntime, path: &[u8], tally: &mut Tally) {
     let out = rt.stdout();
-    let Some(file) = opened(rt, path) else {
+    let Some(mut file) = opened(rt, path) else {
         say(out, path);
         say(out, b": cannot be opened\n");
         return;
     };
-    let Some(text) = contents(rt, file) else {
+    let mut text = room();
+    let n = read_full(&mut file, &mut text);
+    if n == TEXT {
         say(out, path);
         say(out, b": no room\n");
         return;
-    };
-    replay(out, path, text.as_slice(), tally);
+    }
+    replay(out, path, &text[..n], tally);
 }
 
 // An argument, if there is one. Each is asked for by its place, since `env::args` has none where one is not UTF-8. One that is

@@ -2,7 +2,7 @@
 ghost use Rattle.std.specs.Prelude.{◌≡◌, take};
 ghost use Rattle.vectors.specs.Comparing.{size_of, lent_of};
 
-use crate::fields::{number, split_once};
+use crate::fields::{digit, number, split_once};
 use crate::trouble::Trouble;
 
 // The room for the bytes of a script or a list, and for the words of the records or the directory: more than any case uses.
@@ -28,7 +28,9 @@ impl<T: Copy> Memory<T> {
         self.size = Ok(0);
     }
 
-    pub fn size(&self) -> Result<usize, Trouble> {
+    pub fn size(&self) -> Result<usize, Trouble>
+        ensures { result ≡ self.now.size }
+    {
         self.size
     }
 
@@ -76,13 +78,12 @@ fn repeated(run: &[u8]) -> Result<(&[u8], u32), Trouble> {
     }
 }
 
-// The byte that two hex digits spell.
+// The byte that two hex digits spell. They are told one by one, since most of a file is such pairs.
 fn byte(pair: &[u8]) -> Option<u8> {
-    if pair.len() == 2 {
-        u8::try_from(number(pair, 16).ok()?).ok()
-    } else {
-        None
-    }
+    let [high, low] = pair else {
+        return None;
+    };
+    Some(digit(*high)? * 16 + digit(*low)?)
 }
 
 // The bytes that a line names, if it defines this name.
@@ -140,13 +141,18 @@ impl Memory<u8> {
 }
 
 impl Memory<u32> {
+    // Puts a word as often as its run says. Where there is no room for that, it fills what is left.
     fn append_run(&mut self, run: &[u8]) -> Result<(), Trouble> {
         let (digits, times) = repeated(run)?;
         let word = number(digits, 16)?;
-        for _ in 0..times {
-            self.push(word);
-            self.taken()?;
+        let n = self.lent_size();
+        let rest = &mut self.room[n..];
+        let count = rest.len().min(times as usize);
+        rest[..count].fill(word);
+        if count < times as usize {
+            return Err(Trouble::NoRoom);
         }
+        self.size = Ok(n + count);
         Ok(())
     }
 

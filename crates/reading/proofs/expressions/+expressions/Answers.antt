@@ -26,7 +26,7 @@ use Rattle.reading.proofs.PostfixLaws.{turns_as, ready_behind, each_inner, index
 use Rattle.reading.proofs.expressions.+expressions.Goals as goal
 
 pub arguments-returns : goal.arguments-returns
-arguments-returns t c = arguments_done _ _ _ _ c.requires.0 c.in_ok-d.ensures.1 c.if-depth-eq0.false _ c.in_ok-d.ensures.0 c.in_ok-r.ensures.0 c.in_ok-r.ensures.1 c.next.ensures
+arguments-returns t c = arguments_done _ _ _ _ c.requires.0 c.if-c-ne-OPEN_PAREN.false c.if-depth-eq0.false _ c.next-d.ensures c.in_ok-r.ensures.0 c.in_ok-r.ensures.1 c.next.ensures
 
 pub call-call_fault-requires : goal.call-call_fault-requires
 call-call_fault-requires t c = shown_inside _ _ _ c.in_ok-r.ensures.shown
